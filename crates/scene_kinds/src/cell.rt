@@ -1,0 +1,45 @@
+//! A component or a resource as it stands in the world: a value with its ticks.
+ghost use Rattle.std.specs.Prelude.{◌≡◌, IfOk};
+ghost use Rattle.scene_kinds.specs.Cells.{shown};
+
+use crate::value::Value;
+use std::alloc::AllocError;
+
+/// A value with the ticks at which it was added and last changed (docs/MODEL.md, "The rule of
+/// ticks").
+#[derive(Drop, Clone)]
+pub struct Cell {
+    pub value: Value,
+    pub added: u64,
+    pub changed: u64,
+}
+
+impl Cell {
+    /// An equal cell, or an error where no memory was found.
+    pub fn try_clone(&self) -> Result<Cell, AllocError>
+        ensures { IfOk result (λ copy. copy ≡ self.now) }
+    {
+        self.clone()
+    }
+}
+
+/// A cell that is lent: its value by reference, its ticks by copy.
+#[derive(Clone, Copy)]
+pub struct CellRef<'a> {
+    pub value: &'a Value,
+    pub added: u64,
+    pub changed: u64,
+}
+
+impl<'a> CellRef<'a> {
+    /// The cell that this reference shows, made anew, or an error where no memory was found.
+    pub fn try_to_cell(&self) -> Result<Cell, AllocError>
+        ensures { IfOk result (λ copy. copy ≡ shown self.now) }
+    {
+        Ok(Cell {
+            value: self.value.try_clone()?,
+            added: self.added,
+            changed: self.changed,
+        })
+    }
+}

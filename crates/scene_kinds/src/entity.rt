@@ -1,0 +1,57 @@
+//! Entities and their text.
+ghost use Rattle.std.specs.Prelude.{◌≡◌, ◌^◌, ◌<◌, ℕ, Some, IfSome};
+ghost use Rattle.scene_kinds.specs.Entity.{entity_text};
+
+use crate::number::plain_number;
+use std::fmt;
+
+/// The identity of an entity: an index, and a generation that tells the entities apart that had the
+/// index one after another (docs/MODEL.md, "The rule of entity texts").
+///
+/// The first generation of an index is 1; generation 0 has a text too, and names no live entity.
+#[derive(Clone, Copy, Debug, PartialEq, Eq)]
+pub struct Entity {
+    pub index: u32,
+    pub generation: u32,
+}
+
+impl Entity {
+    ghost use Rattle.scene_kinds.specs.Entity.{entity_text};
+
+    /// The entity whose text these bytes are: `INDEXvGENERATION`, both in decimal without leading zeros.
+    ///
+    /// `None` only where the bytes are no entity text. Reading back what `Display` wrote gives the entity.
+    pub fn parse(bytes: &[u8]) -> Option<Entity>
+        ensures found { IfSome result (λ e. bytes.now ≡ entity_text e.index e.generation) }
+        ensures only { (index generation : ℕ) → index < 2 ^ 32 → generation < 2 ^ 32
+            → bytes.now ≡ entity_text index generation
+            → result ≡ Some (record { index = index; generation = generation }) }
+    {
+        let text = str::from_utf8(bytes).ok()?;
+        parse_text(text)
+    }
+}
+
+/// `Entity::parse` of bytes that are a text.
+fn parse_text(text: &str) -> Option<Entity>
+    ensures found { IfSome result (λ e. text.now ≡ entity_text e.index e.generation) }
+    ensures only { (index generation : ℕ) → index < 2 ^ 32 → generation < 2 ^ 32
+        → text.now ≡ entity_text index generation
+        → result ≡ Some (record { index = index; generation = generation }) }
+{
+    let (index, generation) = text.split_once('v')?;
+    Some(Entity {
+        index: plain_number(index)?,
+        generation: plain_number(generation)?,
+    })
+}
+
+impl fmt::Display for Entity {
+    ghost use Rattle.scene_kinds.specs.Entity.{entity_text};
+
+    ghost output = { λ e. Some (entity_text e.index e.generation) };
+
+    fn fmt<W: fmt::Write>(&self, f: &mut fmt::Formatter<W>) -> fmt::Result {
+        write!(f, "{}v{}", self.index, self.generation)
+    }
+}

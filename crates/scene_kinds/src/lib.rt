@@ -1,0 +1,33 @@
+//! The plain values of a scene: entities, shapes, values, cells, rows, the schema of kinds, and
+//! the faults by which a call is refused.
+//!
+//! Every other crate speaks of these. Contracts see a text as its bytes, the cells of a row as a
+//! list of kinds with cells, and a schema as its list of names with shapes; equality in a clause
+//! is equality of those values, so no allocator and no spare room is seen.
+//!
+//! `specs/Answers.antt` has the one word by which every later crate says "the model's answer; or
+//! no memory; and after a refusal everything as before", and `specs/Map.antt` the ordered map in
+//! which the world is described.
+#![tactic(auto)]
+
+mod cell;
+mod cells;
+mod entity;
+mod fault;
+mod number;
+mod refusal;
+mod schema;
+mod shape;
+mod text;
+mod value;
+
+pub use cell::{Cell, CellRef};
+pub use cells::{Cells, Row};
+pub use entity::Entity;
+pub use fault::Fault;
+pub use number::plain_number;
+pub use refusal::{Place, Refusal};
+pub use schema::{Schema, good_name};
+pub use shape::Shape;
+pub use text::Text;
+pub use value::Value;
