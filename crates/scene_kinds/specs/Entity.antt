@@ -1,7 +1,12 @@
 -- Entities: their text, their order, and when two are one.
-use Rattle.std.specs.Prelude.{ℕ, List, ◌∷◌, ◌++◌, Bool, decimal}
+use Rattle.std.specs.Prelude.{◌≡◌, ℕ, List, ◌∷◌, ◌++◌, Bool, decimal}
+use Rattle.std.proofs.Common.{ap}
 use Rattle.std.specs.declared.cmp.Ordering.{Ordering}
 use Rattle.std.specs.Ordering.{nat_cmp, eq_by_cmp, ordering_then}
+use Rattle.std.specs.Cmp.{IsTotalOrder, nat_cmp_total}
+use Rattle.std.specs.FinMap.{IsAntisymmetric}
+use Rattle.std.proofs.lemmas.Cmp.{on_total, then_total}
+use Rattle.std.proofs.lemmas.Map.Lookups.{exact_pairs, exact_unsigned}
 use Rattle.scene_kinds.specs.declared.entity.Entity.{Entity}
 
 -- INDEXvGENERATION (118 is the letter v)
@@ -14,3 +19,10 @@ entity_cmp a b = ordering_then (nat_cmp a.index b.index) (nat_cmp a.generation b
 
 abbrev pub is_same : Entity → Entity → Bool
 is_same a b = eq_by_cmp entity_cmp a b
+
+-- the order is total, and only equal entities tie
+pub entity_cmp_total : IsTotalOrder entity_cmp
+entity_cmp_total = then_total (on_total (λ e. e.index) nat_cmp_total) (on_total (λ e. e.generation) nat_cmp_total)
+
+pub entity_cmp_exact : IsAntisymmetric entity_cmp
+entity_cmp_exact a b h = ap (λ (p : ℕ × ℕ). record { index = p.0; generation = p.1 }) (exact_pairs nat_cmp nat_cmp exact_unsigned exact_unsigned (a.index, a.generation) (b.index, b.generation) h)

@@ -2,6 +2,7 @@ pub mod Answers
 pub mod Cells
 pub mod Entity
 pub mod Fault
+pub mod Lists
 pub mod Map
 pub mod Number
 pub mod Schema
