@@ -1,5 +1,9 @@
+pub mod CellLaws
 pub mod Lists
 pub mod Maps
+pub mod Masks
 pub mod Named
+pub mod Next
 pub mod Numbers
 pub mod Places
+pub mod Taken

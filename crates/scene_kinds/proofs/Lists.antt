@@ -7,7 +7,7 @@ use Rattle.std.specs.Cmp.{IsTotalOrder}
 use Rattle.std.specs.FinMap.{IsAntisymmetric}
 use Rattle.scene_kinds.specs.Map as map
 use Rattle.scene_kinds.specs.Map.{Map}
-use Rattle.scene_kinds.specs.Lists.{whole, listed, list_at, with_list}
+use Rattle.scene_kinds.specs.Lists.{listed, list_at, with_list}
 use Rattle.scene_kinds.proofs.Maps.{get-insert, get-remove, get_tied, same_map, ties_itself, equal_keys}
 
 -- a list as a map has it

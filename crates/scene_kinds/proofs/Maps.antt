@@ -1,5 +1,5 @@
 -- Laws of the ordered map: what a key has after a change, and that maps which answer alike are equal.
-use Rattle.std.proofs.Common.{◌≡◌, Bool, true, false, cond, not, ap, refl, sym, ◌∙◌, Option, Some, None}
+use Rattle.std.proofs.Common.{◌≡◌, Bool, true, false, cond, not, ap, refl, sym, ◌∙◌, Some, None}
 use Rattle.std.specs.declared.cmp.Ordering.{Ordering}
 use Rattle.std.specs.declared.cmp.Ordering.TheVariants.{Less, Equal, Greater}
 use Rattle.std.specs.Ordering.{eq_by_cmp, is_eq}

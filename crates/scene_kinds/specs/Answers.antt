@@ -21,3 +21,7 @@ refuse fault = Err (refusal_of fault)
 abbrev pub Answers : {A W : Type 0} → Result A Refusal → (old new : W) → Outcome A W → Type 0
 Answers result old new outcome =
     MatchResult result (λ a. outcome ≡ Ok (a, new)) (λ r. (new ≡ old) × (r ≢ refusal_of NoMemory → outcome ≡ Err r))
+
+-- the same of a call that takes no memory: it always answers what the model gives
+abbrev pub Gives : {A W : Type 0} → Result A Refusal → (old new : W) → Outcome A W → Type 0
+Gives result old new outcome = MatchResult result (λ a. outcome ≡ Ok (a, new)) (λ r. (new ≡ old) × (outcome ≡ Err r))

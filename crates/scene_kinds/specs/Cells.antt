@@ -1,5 +1,6 @@
 -- The cells of a row, a list of kinds with cells, and the kind set that they make.
-use Rattle.std.specs.Prelude.{◌≡◌, ◌<◌, ℕ, ◌^◌, T, List, Option, Some, not, length, slice_index_or, sum_by}
+use Rattle.std.specs.Prelude.{◌≡◌, ◌<◌, ℕ, ◌^◌, T, true, List, [], ◌∷◌, ◌++◌, Option, Some, not, nat_lt, length, slice_index_or, slice_set, insert, remove, sum_by}
+use Rattle.std.specs.List.{list_all}
 use Rattle.std.specs.Ordering.{nat_cmp, eq_by_cmp}
 use Rattle.std.specs.FinMap.Entries.{put, find, where_key, is_sorted}
 use Rattle.scene_kinds.specs.declared.cell.Cell.{Cell}
@@ -24,6 +25,10 @@ without_cell cells kind = where_key nat_cmp (λ k. not (eq_by_cmp nat_cmp kind k
 abbrev pub mask_of : List (ℕ × Cell) → ℕ
 mask_of cells = sum_by (λ c. 2 ^ c.0) cells
 
+-- each kind is below a bound, as the number of kinds of a schema
+abbrev pub AreKindsBelow : ℕ → List (ℕ × Cell) → Type 0
+AreKindsBelow bound cells = list_all (λ c. nat_lt c.0 bound) cells ≡ true
+
 -- a row has just the kinds of a set, ascending
 pub record HasKinds (mask : ℕ) (row : Row) : Type 0 where
   pub ascending : IsAscending row.cells
@@ -33,6 +38,21 @@ pub record HasKinds (mask : ℕ) (row : Row) : Type 0 where
 pub record IsPlaceOf (cells : List (ℕ × Cell)) (kind at : ℕ) : Type 0 where
   pub within : at < length cells
   pub found : (d : ℕ × Cell) → cell_of cells kind ≡ Some (slice_index_or cells at d).1
+  pub key : (d : ℕ × Cell) → (slice_index_or cells at d).0 ≡ kind
+
+-- to take out what stands at a place is to take out a kind
+abbrev pub IsTakenAt : ℕ → List (ℕ × Cell) → ℕ → Type 0
+IsTakenAt kind cells at = IsAscending cells → remove cells at ≡ without_cell cells kind
+
+-- where a cell of a kind goes: in place of what stands there, if that is of the kind, and else before it
+pub record IsNext (kind : ℕ) (cells : List (ℕ × Cell)) (at : ℕ) : Type 0 where
+  pub within : at < length cells
+  pub same : (d : ℕ × Cell) (cell : Cell) → (slice_index_or cells at d).0 ≡ kind → slice_set cells at (kind, cell) ≡ with_cell cells kind cell
+  pub other : (d : ℕ × Cell) (cell : Cell) → ((slice_index_or cells at d).0 ≡ kind → ⊥) → insert cells at (kind, cell) ≡ with_cell cells kind cell
+
+-- a cell of a kind goes after all others
+abbrev pub GoesLast : ℕ → List (ℕ × Cell) → Type 0
+GoesLast kind cells = (cell : Cell) → cells ++ (kind, cell) ∷ [] ≡ with_cell cells kind cell
 
 -- the cell that a reference shows
 abbrev pub shown : CellRef → Cell

@@ -1,5 +1,5 @@
 -- The numbers, names and texts of faults, places and refusals.
-use Rattle.std.specs.Prelude.{ℕ, List, ◌∷◌, ◌++◌, Option, Some, None, codes, decimal}
+use Rattle.std.specs.Prelude.{ℕ, List, ◌++◌, Option, Some, None, codes, decimal}
 use Rattle.scene_kinds.specs.declared.fault.Fault.{Fault}
 use Rattle.scene_kinds.specs.declared.fault.Fault.TheVariants.{NoSuchEntity, HasChildren, NotPresent, WrongShape, NoSuchKind, DuplicateKind, SelfParent, Cycle, NoParent, NoSuchResource, EntitiesFull, BadLocal, TickFull, Overflow, NothingToUndo, NothingToRedo, HistoryFull, Rewound, Busy, NoMemory, Conflict, BadRule, OtherSchema, QueueFull, BadName, KindTaken, KindsFull, BadWorld, BadRecord}
 use Rattle.scene_kinds.specs.declared.refusal.Place.{Place}

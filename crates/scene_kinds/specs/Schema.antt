@@ -1,5 +1,5 @@
 -- Names, and a schema as its list of names with shapes.
-use Rattle.std.specs.Prelude.{ℕ, ◌+◌, List, [], ◌∷◌, ◌++◌, Bool, true, false, not, ◌&&◌, ◌||◌, if◌then◌else◌, Option, Some, None, Ok, is_some, nat_eq, nat_lt, map, length, slice_get, string_bytes, String, option_map}
+use Rattle.std.specs.Prelude.{ℕ, List, [], ◌∷◌, ◌++◌, Bool, false, not, ◌&&◌, ◌||◌, if◌then◌else◌, Option, Some, None, Ok, is_some, nat_eq, nat_lt, map, length, slice_get, string_bytes, String, option_map}
 use Rattle.std.specs.List.{list_all, position_from}
 use Rattle.std.specs.Str.{bytes_eq}
 use Rattle.std.specs.Char.{is_ascii_alphabetic, is_ascii_alphanumeric}

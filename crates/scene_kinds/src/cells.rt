@@ -1,8 +1,8 @@
 //! Rows, and the cells of a row by their kinds.
-ghost use Rattle.std.specs.Prelude.{◌≡◌, [], IfOk, IfSome, IfNone, None, nat_eq};
+ghost use Rattle.std.specs.Prelude.{◌≡◌, ◌<◌, ◌^◌, ◌↔◌, IsTrue, [], length, vec_len, vec_capacity, IfOk, IsOk, OnOk, OnErr, IfSome, IfNone, IsSome, None, Some, not, nat_eq, nat_lt};
 ghost use Rattle.std.specs.List.{position_from};
 ghost use Rattle.std.specs.Option.{option_map};
-ghost use Rattle.scene_kinds.specs.Cells.{cell_of, shown, IsPlaceOf};
+ghost use Rattle.scene_kinds.specs.Cells.{cell_of, with_cell, without_cell, mask_of, shown, IsAscending, AreKindsBelow, IsPlaceOf, IsTakenAt, IsNext, GoesLast};
 
 use crate::cell::{Cell, CellRef};
 use crate::entity::Entity;
@@ -56,6 +56,21 @@ impl Cells {
         self.items.as_slice()
     }
 
+    /// How many cells there are.
+    pub fn len(&self) -> usize
+        ensures count { result ≡ length self.now }
+        ensures small { result < 2 ^ 63 }
+    {
+        self.items.len()
+    }
+
+    /// Whether there are no cells.
+    pub fn is_empty(&self) -> bool
+        ensures { IsTrue result ↔ (self.now ≡ []) }
+    {
+        self.items.is_empty()
+    }
+
     /// The cell of a kind, or `None` where it has none. It costs a walk over the cells.
     pub fn get(&self, kind: u8) -> Option<CellRef<'_>>
         ensures { option_map shown result ≡ cell_of self.now kind }
@@ -70,11 +85,73 @@ impl Cells {
         })
     }
 
+    /// Puts a cell at the ascending place of its kind, or in place of the cell of that kind that was there.
+    ///
+    /// An error where no memory was found: then the cells are as they were, and the cell is dropped. It costs a
+    /// walk over the cells.
+    pub fn put(&mut self, kind: u8, cell: Cell) -> Result<(), AllocError>
+        ensures done { OnOk result (self.new ≡ with_cell self.old kind cell) }
+        ensures full { OnErr result (self.new ≡ self.old) }
+    {
+        put_cell(&mut self.items, kind, cell)
+    }
+
+    /// These cells with a cell put in as `put` does it, in memory that was found before: an empty list with room
+    /// for one more cell than there are. So it can't fail, and takes no memory.
+    pub fn put_into(self, room: Vec<(u8, Cell)>, kind: u8, cell: Cell) -> Cells
+        requires empty { room.items ≡ [] }
+        requires fits { length self < vec_capacity room }
+        ensures { result ≡ with_cell self kind cell }
+    {
+        let Cells { mut items } = self;
+        let mut roomy = room;
+        roomy.append(&mut items).unwrap();
+        put_cell(&mut roomy, kind, cell).unwrap();
+        Cells { items: roomy }
+    }
+
+    /// Takes out the cell of a kind, or gives `None` where it has none. It takes no memory, and costs a walk over
+    /// the cells.
+    pub fn remove(&mut self, kind: u8) -> Option<Cell>
+        requires { IsAscending self.old }
+        ensures value { result ≡ cell_of self.old kind }
+        ensures rest { self.new ≡ without_cell self.old kind }
+    {
+        let at = place_of(self.items.as_slice(), kind)?;
+        let (_, cell) = self.items.remove(at);
+        Some(cell)
+    }
+
+    /// The set of the kinds, in which kind k is bit k. It costs a walk over the cells.
+    pub fn mask(&self) -> u64
+        requires ascending { IsAscending self.now }
+        requires below { AreKindsBelow 64 self.now }
+        ensures { result ≡ mask_of self.now }
+    {
+        mask_of_kinds(self.items.as_slice())
+    }
+
+    /// Puts a cell in place of that of a kind which is there, and answers the old one. It takes no memory,
+    /// and costs a walk over the cells. The kinds must ascend, and stay as they are.
+    pub fn set(&mut self, kind: u8, cell: Cell) -> Cell
+        requires ascending { IsAscending self.old }
+        requires there { IsSome (cell_of self.old kind) }
+        ensures old { cell_of self.old kind ≡ Some result }
+        ensures new { self.new ≡ with_cell self.old kind cell }
+    {
+        match place_of(self.items.as_slice(), kind) {
+            Some(at) => std::mem::replace(&mut self.items[at].1, cell),
+            None => unreachable!(),
+        }
+    }
+
     /// An equal list of cells, or an error where no memory was found.
     pub fn try_clone(&self) -> Result<Cells, AllocError>
         ensures { IfOk result (λ copy. copy ≡ self.now) }
     {
-        self.clone()
+        Ok(Cells {
+            items: self.items.clone()?,
+        })
     }
 }
 
@@ -89,8 +166,57 @@ fn find_place(items: &[(u8, Cell)], kind: u8) -> Option<usize>
 fn place_of(items: &[(u8, Cell)], kind: u8) -> Option<usize>
     ensures none { IfNone result (cell_of items.now kind ≡ None) }
     ensures some { IfSome result (IsPlaceOf items.now kind) }
+    ensures taken { IfSome result (IsTakenAt kind items.now) }
 {
     find_place(items, kind)
+}
+
+/// The first place whose kind isn't below a kind.
+fn find_next(items: &[(u8, Cell)], kind: u8) -> Option<usize>
+    ensures { result ≡ position_from (λ e. not (nat_lt e.0 kind)) 0 items.now }
+{
+    items.iter().position(|e| e.0 >= kind)
+}
+
+/// The place of a cell of a kind: `None` where it goes last.
+#[tactic(auto, using(crate::proofs::Next::places))]
+fn place_for(items: &[(u8, Cell)], kind: u8) -> Option<usize>
+    ensures none { IfNone result (GoesLast kind items.now) }
+    ensures some { IfSome result (IsNext kind items.now) }
+{
+    find_next(items, kind)
+}
+
+/// Puts a cell at its place among cells; it fails only where there is no room.
+fn put_cell(items: &mut Vec<(u8, Cell)>, kind: u8, cell: Cell) -> Result<(), AllocError>
+    ensures done { OnOk result (items.new.items ≡ with_cell items.old.items kind cell) }
+    ensures full { OnErr result (items.new.items ≡ items.old.items) }
+    ensures succeeds { vec_len items.old < vec_capacity items.old → IsOk result }
+{
+    match place_for(items.as_slice(), kind) {
+        None => items.push((kind, cell))?,
+        Some(at) => {
+            if items[at].0 == kind {
+                items[at] = (kind, cell);
+            } else {
+                items.insert(at, (kind, cell))?;
+            }
+        }
+    }
+    Ok(())
+}
+
+/// The sum of the bits of the kinds.
+fn mask_of_kinds(items: &[(u8, Cell)]) -> u64
+    requires ascending { IsAscending items.now }
+    requires below { AreKindsBelow 64 items.now }
+    ensures { result ≡ mask_of items.now }
+{
+    let mut mask: u64 = 0;
+    for item in items {
+        mask += 1u64 << item.0;
+    }
+    mask
 }
 
 /// An entity with its cells. In a table they are just the table's kinds, ascending.

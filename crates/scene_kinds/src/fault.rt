@@ -32,16 +32,9 @@ pub enum Fault {
     Busy,
     NoMemory,
     /// Two systems of one phase, by their places, of which one writes what the other reads or writes.
-    Conflict {
-        phase: u32,
-        first: u32,
-        second: u32,
-    },
+    Conflict { phase: u32, first: u32, second: u32 },
     /// The place of the system that breaks a rule of schedules.
-    BadRule {
-        phase: u32,
-        system: u32,
-    },
+    BadRule { phase: u32, system: u32 },
     OtherSchema,
     QueueFull,
     BadName,
@@ -50,10 +43,7 @@ pub enum Fault {
     /// The number of the first rule of a valid world that is broken.
     BadWorld(u8),
     /// The first frame record that doesn't fit, and the delta in it.
-    BadRecord {
-        frame: u64,
-        delta: u64,
-    },
+    BadRecord { frame: u64, delta: u64 },
 }
 
 impl Fault {

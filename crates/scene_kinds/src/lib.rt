@@ -18,6 +18,8 @@ mod number;
 mod refusal;
 mod schema;
 mod shape;
+#[cfg(test)]
+mod tests;
 mod text;
 mod value;
 

@@ -47,7 +47,7 @@ impl<T: Drop> From<AllocFailed<T>> for Refusal {
     ghost from_gives = { λ _ r. r ≡ refusal_of NoMemory };
 
     fn from(_error: AllocFailed<T>) -> Refusal {
-        Refusal::from(Fault::NoMemory)
+        Refusal::from(AllocError)
     }
 }
 

@@ -1,4 +1,4 @@
-use Rattle.std.proofs.Common.{Some, None, Option}
+use Rattle.std.proofs.Common.{Some, None}
 use Rattle.scene_kinds.proofs.Numbers.{splits_at_v}
 use Rattle.scene_kinds.proofs.entity.parse_text.Goals as goal
 

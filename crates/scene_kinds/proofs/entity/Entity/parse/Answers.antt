@@ -1,4 +1,3 @@
-use Rattle.std.proofs.Common.{◌≡◌, ◌<◌, ◌^◌, ℕ, List, Result, Ok, Err, None, Some}
 use Rattle.scene_kinds.proofs.Numbers.{not_text_is_no_entity, entity_is_text}
 use Rattle.scene_kinds.proofs.entity.Entity.parse.Goals as goal
 

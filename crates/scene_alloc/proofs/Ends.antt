@@ -1,0 +1,54 @@
+-- The last of a list and its front, against a push.
+use Rattle.std.proofs.Common.{◌≡◌, ℕ, ◌+◌, ◌<◌, false, nat_eq, List, [], ◌∷◌, ◌++◌, length, get_or, Some, None, refl, sym, ap, arith}
+use Rattle.std.specs.List.{list_any, IsDistinct}
+use Rattle.std.proofs.lemmas.Bool.Decides.{nat_tests}
+use Rattle.std.proofs.lemmas.Grind.{common_steps}
+use Rattle.std.proofs.lemmas.List.{get_or_append_left}
+use Rattle.std.proofs.lemmas.List.Folds.{list_any_none}
+use Rattle.std.proofs.Math.Seq.{get_or-append_seam}
+use Rattle.std.proofs.lemmas.Map.Keys.{apart_from_distinct, IsDistinct-from_apart}
+use Rattle.scene_alloc.specs.Ends.{last, front}
+
+pub last-push : {X : Type 0} (xs : List X) (x : X) → last (xs ++ x ∷ []) ≡ Some x
+last-push [] x = refl
+last-push (y ∷ []) x = refl
+last-push (y ∷ z ∷ zs) x = last-push (z ∷ zs) x
+
+pub front-push : {X : Type 0} (xs : List X) (x : X) → front (xs ++ x ∷ []) ≡ xs
+front-push [] x = refl
+front-push (y ∷ []) x = refl
+front-push (y ∷ z ∷ zs) x = ap (λ t. y ∷ t) (front-push (z ∷ zs) x)
+
+-- the front, and then the last, is the list
+pub push-last : {X : Type 0} (xs : List X) (x : X) → last xs ≡ Some x → front xs ++ x ∷ [] ≡ xs
+push-last [] x h = cc
+push-last (y ∷ []) x h = cc
+push-last (y ∷ z ∷ zs) x h = ap (λ t. y ∷ t) (push-last (z ∷ zs) x h)
+
+-- a list without a last is empty
+pub last-None : {X : Type 0} (xs : List X) → last xs ≡ None → xs ≡ []
+last-None [] h = refl
+last-None (x ∷ []) h = cc
+last-None (x ∷ y ∷ ys) h = let e : y ∷ ys ≡ [] = last-None (y ∷ ys) h in cc
+
+same_test : (a b : ℕ) → nat_eq a b ≡ false → nat_eq b a ≡ false
+same_test a b h = grind (arith, nat_tests)
+
+-- a number that stands last in a list of distinct numbers stands nowhere else there
+pub distinct_before : (xs : List ℕ) (x : ℕ) → IsDistinct nat_eq (xs ++ x ∷ []) → IsDistinct nat_eq xs × (list_any (nat_eq x) xs ≡ false)
+distinct_before xs x h = (
+  IsDistinct-from_apart nat_eq xs (λ i j d a b. apart i j d a b),
+  list_any_none (nat_eq x) xs (λ k d l. same_test _ _ (other k d l)),
+)
+  where
+    longer : length (xs ++ x ∷ []) ≡ length xs + 1
+    longer = grind (arith, common_steps)
+
+    apart : (i j d : ℕ) → i < j → j < length xs → nat_eq (get_or xs i d) (get_or xs j d) ≡ false
+    apart i j d a b =
+        rw (sym (get_or_append_left xs (x ∷ []) d i (omega arith)), sym (get_or_append_left xs (x ∷ []) d j b)) (apart_from_distinct nat_eq (xs ++ x ∷ []) i j d h a (omega (arith, longer)))
+
+    other : (k d : ℕ) → k < length xs → nat_eq (get_or xs k d) x ≡ false
+    other k d l =
+        let g = apart_from_distinct nat_eq (xs ++ x ∷ []) k (length xs) d h l (omega (arith, longer)) in
+        rw (get_or_append_left xs (x ∷ []) d k l, get_or-append_seam xs x [] d) at g

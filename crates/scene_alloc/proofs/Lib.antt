@@ -1,0 +1,3 @@
+pub mod Elsewhere
+pub mod Ends
+pub mod Moves

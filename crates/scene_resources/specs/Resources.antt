@@ -1,0 +1,58 @@
+-- Named cells, as one ordered map, and what the calls on resources do to it.
+use Rattle.std.specs.Prelude.{ℕ, map, List, Option, Some, None, Ok}
+use Rattle.std.specs.declared.cmp.Ordering.{Ordering}
+use Rattle.std.specs.Ordering.{nat_cmp}
+use Rattle.std.specs.Cmp.{IsTotalOrder}
+use Rattle.std.specs.Cmp.Lexicographic.{slice_cmp, nat_list_cmp_total}
+use Rattle.std.specs.FinMap.{IsAntisymmetric}
+use Rattle.std.proofs.lemmas.Map.Lookups.{exact_bytes}
+use Rattle.scene_kinds.specs.declared.cell.Cell.{Cell}
+use Rattle.scene_kinds.specs.declared.fault.Fault.TheVariants.{NoSuchResource}
+use Rattle.scene_kinds.specs.declared.value.Value.{Value}
+use Rattle.scene_kinds.specs.Answers.{Outcome, refuse}
+use Rattle.scene_kinds.specs.Map as cells
+use Rattle.scene_kinds.specs.Map.{Map}
+
+-- names by their bytes
+abbrev pub name_cmp : List ℕ → List ℕ → Ordering
+name_cmp a b = slice_cmp nat_cmp a b
+
+-- the order is total, and only equal names tie
+abbrev pub name_cmp_total : IsTotalOrder name_cmp
+name_cmp_total = nat_list_cmp_total
+
+pub name_cmp_exact : IsAntisymmetric name_cmp
+name_cmp_exact a b h = exact_bytes a b h
+
+-- the cell of each name that has one
+abbrev pub NamedCells : Type 0
+NamedCells = Map name_cmp Cell
+
+abbrev pub cell_of : NamedCells → List ℕ → Option Cell
+cell_of r name = cells.get r name
+
+-- the names, by their bytes
+abbrev pub names_of : NamedCells → List (List ℕ)
+names_of r = map (λ e. e.0) r.entries
+
+-- a value put where a cell may stand: the cell keeps the tick at which it was added
+abbrev pub put_over : Option Cell → Value → ℕ → Cell
+put_over None value tick = record { value = value; added = tick; changed = tick }
+put_over (Some old) value tick = record { value = value; added = old.added; changed = tick }
+
+-- the value put at a name
+abbrev pub put_of : NamedCells → List ℕ → Value → ℕ → NamedCells
+put_of r name value tick = cells.insert name_cmp_total r name (put_over (cell_of r name) value tick)
+
+-- the name with this cell, or without one
+abbrev pub restore_of : NamedCells → List ℕ → Option Cell → NamedCells
+restore_of r name None = cells.remove r name
+restore_of r name (Some cell) = cells.insert name_cmp_total r name cell
+
+abbrev pub taken : NamedCells → List ℕ → Option Cell → Outcome Cell NamedCells
+taken r name None = refuse NoSuchResource
+taken r name (Some cell) = Ok (cell, cells.remove r name)
+
+-- the name leaves the map, and its cell is the answer
+abbrev pub take_of : NamedCells → List ℕ → Outcome Cell NamedCells
+take_of r name = taken r name (cell_of r name)

@@ -1,0 +1,2 @@
+pub mod CellWrites
+pub mod Swaps

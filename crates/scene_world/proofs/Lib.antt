@@ -1,0 +1,17 @@
+pub mod Bounds
+pub mod Copies
+pub mod DespawnKeeps
+pub mod Homes
+pub mod KindBits
+pub mod KindSets
+pub mod Lives
+pub mod MoveKeeps
+pub mod NewCells
+pub mod Onto
+pub mod Outcomes
+pub mod RowLists
+pub mod Rows
+pub mod Scans
+pub mod SpawnKeeps
+pub mod Stored
+pub mod TakenSlots

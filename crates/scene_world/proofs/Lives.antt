@@ -1,0 +1,62 @@
+-- Who is alive after a row was added, taken out or written.
+use Rattle.std.proofs.Common.{◌≡◌, ℕ, ◌<◌, Bool, true, false, ◌||◌, refl, ap, sym, ◌∙◌, Some, List, length, arith, slice_index, slice_get}
+use Rattle.std.specs.Prelude.{is_some}
+use Rattle.std.proofs.lemmas.Option.{get_or_from_slice_get, slice_get-get_or}
+use Rattle.scene_kinds.specs.declared.entity.Entity.{Entity}
+use Rattle.scene_kinds.specs.declared.cells.Row.{Row}
+use Rattle.scene_world.specs.declared.home.Home.{Home}
+use Rattle.scene_world.specs.World.{Tables, row_at, home_in, with_row, without_row, with_row_at}
+use Rattle.scene_world.proofs.Homes.{IsHome, here_live, live_here}
+use Rattle.scene_world.proofs.Rows.{added_stays, removed_stays, rewritten_stays}
+
+-- an entity has a row
+abbrev pub lives : Tables → Entity → Bool
+lives t e = is_some (home_in e t.entries)
+
+pub lives_added : (t : Tables) (row : Row) (e : Entity) → lives t e ≡ true → lives (with_row t row) e ≡ true
+lives_added t row e l = let h = here_live t e l in live_here (with_row t row) e h.0 h.1.row (added_stays t row h.0 h.1.row h.1.there) h.1.same
+
+-- everybody but the entity whose row was taken out lives on
+pub lives_removed : (t : Tables) (h : Home) (gone : Row) (e : Entity) → row_at t h ≡ Some gone → (gone.entity ≡ e → ⊥) → lives t e ≡ true → lives (without_row t h) e ≡ true
+lives_removed t h gone e at ne l =
+    let g = here_live t e l in
+    let k = removed_stays t h gone g.0 g.1.row at (λ s. ne (ap (λ (r : Row). r.entity) (same_some gone g.1.row (sym at ∙ ap (row_at t) (sym s) ∙ g.1.there)) ∙ g.1.same)) g.1.there in
+    live_here (without_row t h) e k.0 g.1.row k.1 g.1.same
+  where
+    same_some : (x y : Row) → Some x ≡ Some y → x ≡ y
+    same_some x y e = cc
+
+pub lives_rewritten : (t : Tables) (h : Home) (was row : Row) (e : Entity) → row_at t h ≡ Some was → row.entity ≡ was.entity → lives t e ≡ true → lives (with_row_at t h row) e ≡ true
+lives_rewritten t h was row e at same l =
+    let g = here_live t e l in
+    let k = rewritten_stays t h was row g.0 g.1.row at same g.1.there in
+    live_here (with_row_at t h row) e g.0 k.0 k.1.0 (k.1.1 ∙ g.1.same)
+
+-- a generation that is there is the one that is read
+pub read : (xs : List ℕ) (i g : ℕ) → slice_get xs i ≡ Some g → slice_index xs i ≡ g
+read xs i g h = get_or_from_slice_get xs i g 0 h
+
+pub there : (xs : List ℕ) (i : ℕ) → i < length xs → slice_get xs i ≡ Some (slice_index xs i)
+there xs i l = slice_get-get_or xs i 0 l
+
+-- one of three tests
+pub one_of : (P : Type 0) (a b c : Bool) → (a || b || c) ≡ true → (a ≡ true → P) → (b ≡ true → P) → (c ≡ true → P) → P
+one_of P true b c h f g k = f refl
+one_of P false true c h f g k = g refl
+one_of P false false c h f g k = k h
+
+pub first_of_three : (a b c : Bool) → a ≡ true → (a || b || c) ≡ true
+first_of_three a b c h = ap (λ x. x || b || c) h
+
+pub second_of_three : (a b c : Bool) → b ≡ true → (a || b || c) ≡ true
+second_of_three true b c h = refl
+second_of_three false b c h = ap (λ x. x || c) h
+
+pub third_of_three : (a b c : Bool) → c ≡ true → (a || b || c) ≡ true
+third_of_three true b c h = refl
+third_of_three false true c h = refl
+third_of_three false false c h = h
+
+pub last_of_three : (a b c : Bool) → (b || c) ≡ true → (a || b || c) ≡ true
+last_of_three true b c h = refl
+last_of_three false b c h = h

@@ -1,0 +1,228 @@
+-- Raising the tick, an accepted insert and an accepted remove keep a valid world valid.
+use Rattle.std.proofs.Common.{◌≡◌, ℕ, ◌+◌, ◌<◌, ◌≤◌, Bool, true, false, ◌||◌, ◌&&◌, nat_eq, nat_lt, List, [], ◌∷◌, length, refl, ap, subst, sym, ◌∙◌, arith, Option, Some, None, Ok, slice_get, slice_index, if◌then◌else◌}
+use Rattle.std.specs.Prelude.{Result, Err, nat_le, is_some}
+use Rattle.std.specs.List.{list_all}
+use Rattle.std.specs.Ordering.{nat_cmp, eq_by_cmp}
+use Rattle.std.proofs.lemmas.Bool.Decides.{nat_tests}
+use Rattle.scene_kinds.specs.declared.entity.Entity.{Entity}
+use Rattle.scene_kinds.specs.declared.cell.Cell.{Cell}
+use Rattle.scene_kinds.specs.declared.cells.Row.{Row}
+use Rattle.scene_kinds.specs.declared.value.Value.{Value}
+use Rattle.scene_kinds.specs.declared.fault.Fault.TheVariants.{TickFull, NoSuchKind, NotPresent}
+use Rattle.scene_kinds.specs.Answers.{Outcome, refuse}
+use Rattle.scene_kinds.specs.Cells.{cell_of, with_cell, without_cell, mask_of}
+use Rattle.scene_kinds.specs.Entity.{entity_cmp_exact, entity_cmp_total, is_same}
+use Rattle.scene_kinds.specs.Schema.{fits_kind}
+use Rattle.scene_kinds.proofs.Maps.{equal_keys, ties_itself}
+use Rattle.scene_kinds.proofs.CellLaws.{ascending-with_cell, ascending-without_cell, all-with_cell, all-without_cell}
+use Rattle.scene_kinds.proofs.Masks.{mask-with_cell_there}
+use Rattle.scene_alloc.specs.Slots.{is_free}
+use Rattle.scene_table.specs.Table.{row_with_cell}
+use Rattle.scene_world.specs.declared.home.Home.{Home}
+use Rattle.scene_world.specs.World.{World, Tables, row_at, home_in, with_row, without_row, with_row_at, row_of, is_unknown}
+use Rattle.scene_world.specs.Commands.{raise_tick, highest_tick, moved, inserted, new_cell, insert, insert_fault, remove, remove_fault}
+use Rattle.scene_world.specs.Valid.{IsValid, IsRowOf, IsCurrent, is_live_index, is_retired, is_timely, EachRow}
+use Rattle.scene_world.specs.Laws.{RaiseKeeps, InsertKeeps, RemoveKeeps}
+use Rattle.scene_world.proofs.Outcomes.{no_fault, not_ok, same_world, with_row_of}
+use Rattle.scene_world.proofs.Homes.{here_live, live_here}
+use Rattle.scene_world.proofs.Rows.{added_there, each_added, once_added, each_removed, once_removed, removed_nowhere, each_rewritten, once_rewritten}
+use Rattle.scene_world.proofs.Lives.{lives, lives_added, lives_removed, lives_rewritten, one_of, first_of_three, second_of_three, third_of_three}
+use Rattle.scene_world.proofs.NewCells.{timely_now, insert_tests}
+
+-- ---- other tables under the same slots, links and resources
+
+abbrev pub with_tables : World → Tables → World
+with_tables w t = record w { tables = t }
+
+-- what tables have to keep so that a valid world stays valid
+pub record KeepsWorld (w : World) (t : Tables) : Type 0 where
+  pub current : EachRow (λ m r. IsCurrent w.slots r.entity) t
+  pub once : (a b : Home) (r s : Row) → row_at t a ≡ Some r → row_at t b ≡ Some s → r.entity ≡ s.entity → a ≡ b
+  pub busy : EachRow (λ m r. is_free w.slots r.entity.index ≡ false) t
+  pub rows : EachRow (IsRowOf w.schema) t
+  pub timely : EachRow (λ m r. list_all (λ (c : ℕ × Cell). is_timely w.tick c.1) r.cells ≡ true) t
+  pub alive : (e : Entity) → lives w.tables e ≡ true → lives t e ≡ true
+
+pub tables_valid : (w : World) (t : Tables) → IsValid w → KeepsWorld w t → IsValid (with_tables w t)
+tables_valid w t v k = record {
+    limit = v.limit;
+    generations = v.generations;
+    current = k.current;
+    once = k.once;
+    free = (v.free.0, (v.free.1.0, k.busy));
+    accounted = λ i l. one_of _ (is_live_index w i) (is_free w.slots i) (is_retired w.slots i) (v.accounted i l)
+      (λ a. first_of_three (is_live_index (with_tables w t) i) (is_free w.slots i) (is_retired w.slots i) (k.alive (record { index = i; generation = slice_index w.slots.generations i }) a))
+      (λ b. second_of_three (is_live_index (with_tables w t) i) (is_free w.slots i) (is_retired w.slots i) b)
+      (λ c. third_of_three (is_live_index (with_tables w t) i) (is_free w.slots i) (is_retired w.slots i) c);
+    rows = k.rows;
+    links = (λ p c g. (k.alive p (v.links.0 p c g).0, k.alive c (v.links.0 p c g).1), v.links.1);
+    names = v.names;
+    ticks = (k.timely, v.ticks.1);
+    schema = v.schema;
+    generations_low = v.generations_low;
+    tick_low = v.tick_low;
+  }
+
+-- a row that moves: everybody lives on
+lives_moved : (t : Tables) (h : Home) (row : Row) (cells : List (ℕ × Cell)) (e : Entity) → row_at t h ≡ Some row → lives t e ≡ true → lives (moved t h row cells) e ≡ true
+lives_moved t h row cells e at l =
+    elim (is_same row.entity e) as (λ b. is_same row.entity e ≡ b → lives (moved t h row cells) e ≡ true) [
+      | true ↦ λ s. live_here (moved t h row cells) e _ (record { entity = row.entity; cells = cells }) (added_there (without_row t h) (record { entity = row.entity; cells = cells })) (equal_keys entity_cmp_exact row.entity e s)
+      | false ↦ λ s. lives_added (without_row t h) (record { entity = row.entity; cells = cells }) e
+          (lives_removed t h row e at (λ u. let k : true ≡ false = sym (ap (λ x. is_same x e) u ∙ itself e) ∙ s in absurd (cc)) l)
+    ] refl
+  where
+    itself : (e : Entity) → is_same e e ≡ true
+    itself e = ties_itself entity_cmp_total e
+
+pub moved_keeps : (w : World) (h : Home) (row : Row) (cells : List (ℕ × Cell)) → IsValid w → row_at w.tables h ≡ Some row
+    → IsRowOf w.schema (mask_of cells) (record { entity = row.entity; cells = cells }) → list_all (λ (c : ℕ × Cell). is_timely w.tick c.1) cells ≡ true
+    → IsValid (with_tables w (moved w.tables h row cells))
+moved_keeps w h row cells v at fits timely =
+    let new : Row = record { entity = row.entity; cells = cells } in
+    tables_valid w (moved w.tables h row cells) v (record {
+      current = each_added (λ m r. IsCurrent w.slots r.entity) (without_row w.tables h) new (each_removed (λ m r. IsCurrent w.slots r.entity) w.tables h row at v.current) (v.current h row at);
+      once = once_added (without_row w.tables h) new (once_removed w.tables h row at v.once) (removed_nowhere w.tables h row at v.once);
+      busy = each_added (λ m r. is_free w.slots r.entity.index ≡ false) (without_row w.tables h) new (each_removed (λ m r. is_free w.slots r.entity.index ≡ false) w.tables h row at v.free.1.1) (v.free.1.1 h row at);
+      rows = each_added (IsRowOf w.schema) (without_row w.tables h) new (each_removed (IsRowOf w.schema) w.tables h row at v.rows) fits;
+      timely = each_added (λ m r. list_all (λ (c : ℕ × Cell). is_timely w.tick c.1) r.cells ≡ true) (without_row w.tables h) new
+        (each_removed (λ m r. list_all (λ (c : ℕ × Cell). is_timely w.tick c.1) r.cells ≡ true) w.tables h row at v.ticks.0) timely;
+      alive = λ e l. lives_moved w.tables h row cells e at l;
+    })
+
+-- a row that is written in its place
+pub rewritten_keeps : (w : World) (h : Home) (row new : Row) → IsValid w → row_at w.tables h ≡ Some row → new.entity ≡ row.entity
+    → IsRowOf w.schema h.mask new → list_all (λ (c : ℕ × Cell). is_timely w.tick c.1) new.cells ≡ true
+    → IsValid (with_tables w (with_row_at w.tables h new))
+rewritten_keeps w h row new v at same fits timely = tables_valid w (with_row_at w.tables h new) v (record {
+    current = each_rewritten (λ m r. IsCurrent w.slots r.entity) w.tables h new v.current (subst (IsCurrent w.slots) (sym same) (v.current h row at));
+    once = once_rewritten w.tables h row new at same v.once;
+    busy = each_rewritten (λ m r. is_free w.slots r.entity.index ≡ false) w.tables h new v.free.1.1 (subst (λ (e : Entity). is_free w.slots e.index ≡ false) (sym same) (v.free.1.1 h row at));
+    rows = each_rewritten (IsRowOf w.schema) w.tables h new v.rows fits;
+    timely = each_rewritten (λ m r. list_all (λ (c : ℕ × Cell). is_timely w.tick c.1) r.cells ≡ true) w.tables h new v.ticks.0 timely;
+    alive = λ e l. lives_rewritten w.tables h row new e at same l;
+  })
+
+-- ---- insert
+
+timely_there : (tick : ℕ) (c : Cell) (value : Value) → is_timely tick c ≡ true → is_timely tick (record { value = value; added = c.added; changed = tick }) ≡ true
+timely_there tick c value h = timely_now tick value c.added (within _ _ _ (parts _ _ h).0 (parts _ _ h).1)
+  where
+    parts : (a b : Bool) → (a && b) ≡ true → (a ≡ true) × (b ≡ true)
+    parts true b h = (refl, h)
+    parts false b h = absurd (let k : false ≡ true = h in cc)
+
+    within : (a b c : ℕ) → nat_le a b ≡ true → nat_le b c ≡ true → nat_le a c ≡ true
+    within a b c h k = grind (arith, nat_tests)
+
+-- a cell that is found passes what all cells pass
+found_passes : (p : Cell → Bool) (cells : List (ℕ × Cell)) (kind : ℕ) (c : Cell) → list_all (λ (x : ℕ × Cell). p x.1) cells ≡ true → cell_of cells kind ≡ Some c → p c ≡ true
+found_passes p [] kind c all there = absurd (let k : None ≡ Some c = there in cc)
+found_passes p (e ∷ es) kind c all there =
+    elim (eq_by_cmp nat_cmp kind e.0) as (λ b. (if b then Some e.1 else cell_of es kind) ≡ Some c → p c ≡ true) [
+      | true ↦ λ g. ap p (sym (let k : e.1 ≡ c = cc in k)) ∙ (split (p e.1) _ all).0
+      | false ↦ λ g. found_passes p es kind c (split (p e.1) _ all).1 g
+    ] there
+  where
+    split : (a b : Bool) → (a && b) ≡ true → (a ≡ true) × (b ≡ true)
+    split true b h = (refl, h)
+    split false b h = absurd (let k : false ≡ true = h in cc)
+
+-- the world that an insert leaves
+pub insert_made : (w : World) (h : Home) (row : Row) (kind : ℕ) (value : Value) (o : Option Cell) → cell_of row.cells kind ≡ o → IsValid w → row_at w.tables h ≡ Some row
+    → fits_kind w.schema value kind ≡ true → IsValid (with_tables w (inserted w.tick w.tables h row kind value o))
+insert_made w h row kind value None e v at fits =
+    let old = v.rows h row at in
+    moved_keeps w h row (with_cell row.cells kind (new_cell w.tick value)) v at
+      (record {
+        kinds = record { ascending = ascending-with_cell row.cells kind (new_cell w.tick value) old.kinds.ascending; kinds = refl };
+        shapes = all-with_cell (λ (c : ℕ × Cell). fits_kind w.schema c.1.value c.0) row.cells kind (new_cell w.tick value) old.shapes fits;
+      })
+      (all-with_cell (λ (c : ℕ × Cell). is_timely w.tick c.1) row.cells kind (new_cell w.tick value) (v.ticks.0 h row at) (timely_now w.tick value w.tick (itself w.tick)))
+  where
+    itself : (n : ℕ) → nat_le n n ≡ true
+    itself n = grind (arith, nat_tests)
+insert_made w h row kind value (Some c) e v at fits =
+    let old = v.rows h row at in
+    let new : Cell = record { value = value; added = c.added; changed = w.tick } in
+    let was = found_passes (is_timely w.tick) row.cells kind c (v.ticks.0 h row at) e in
+    rewritten_keeps w h row (row_with_cell row kind new) v at refl
+      (record {
+        kinds = record { ascending = ascending-with_cell row.cells kind new old.kinds.ascending; kinds = mask-with_cell_there row.cells kind c new old.kinds.ascending e ∙ old.kinds.kinds };
+        shapes = all-with_cell (λ (c : ℕ × Cell). fits_kind w.schema c.1.value c.0) row.cells kind new old.shapes fits;
+      })
+      (all-with_cell (λ (c : ℕ × Cell). is_timely w.tick c.1) row.cells kind new (v.ticks.0 h row at) (timely_there w.tick c value was))
+
+pub insert_keeps : InsertKeeps
+insert_keeps w v e kind value valid is =
+    with_row_of (IsValid v) w e _ (tt, v) is (λ h r at same made.
+      let parts = no_fault (insert_fault w.schema kind value) _ (tt, v) made in
+      let tests = insert_tests w.schema kind value parts.0 in
+      let world = same_world tt tt _ v parts.1 in
+      subst IsValid world.1 (insert_made w h r kind value (cell_of r.cells kind) refl valid at tests.1))
+
+-- ---- remove
+
+-- the world that a remove leaves
+pub remove_made : (w : World) (h : Home) (row : Row) (kind : ℕ) → IsValid w → row_at w.tables h ≡ Some row → IsValid (with_tables w (moved w.tables h row (without_cell row.cells kind)))
+remove_made w h row kind v at =
+    let old = v.rows h row at in
+    moved_keeps w h row (without_cell row.cells kind) v at
+      (record {
+        kinds = record { ascending = ascending-without_cell row.cells kind old.kinds.ascending; kinds = refl };
+        shapes = all-without_cell (λ (c : ℕ × Cell). fits_kind w.schema c.1.value c.0) row.cells kind old.shapes;
+      })
+      (all-without_cell (λ (c : ℕ × Cell). is_timely w.tick c.1) row.cells kind (v.ticks.0 h row at))
+
+pub remove_keeps : RemoveKeeps
+remove_keeps w v e kind valid is =
+    with_row_of (IsValid v) w e _ (tt, v) is (λ h r at same made.
+      let parts = no_fault (remove_fault w.schema r.cells kind) _ (tt, v) made in
+      let world = same_world tt tt _ v parts.1 in
+      subst IsValid world.1 (remove_made w h r kind valid at))
+
+-- ---- raising the tick
+
+later : (tick : ℕ) (c : Cell) → is_timely tick c ≡ true → is_timely (tick + 1) c ≡ true
+later tick c h = timely_later c.added c.changed tick h
+  where
+    timely_later : (a b t : ℕ) → (nat_le a b && nat_le b t) ≡ true → (nat_le a b && nat_le b (t + 1)) ≡ true
+    timely_later a b t h = grind (arith, nat_tests)
+
+all_later : (tick : ℕ) (cells : List (ℕ × Cell)) → list_all (λ (c : ℕ × Cell). is_timely tick c.1) cells ≡ true → list_all (λ (c : ℕ × Cell). is_timely (tick + 1) c.1) cells ≡ true
+all_later tick [] h = refl
+all_later tick (c ∷ cs) h =
+    let k = split (is_timely tick c.1) _ h in
+    ap (λ b. b && list_all (λ (c : ℕ × Cell). is_timely (tick + 1) c.1) cs) (later tick c.1 k.0) ∙ all_later tick cs k.1
+  where
+    split : (a b : Bool) → (a && b) ≡ true → (a ≡ true) × (b ≡ true)
+    split true b h = (refl, h)
+    split false b h = absurd (let k : false ≡ true = h in cc)
+
+-- a later tick keeps a world valid
+pub raised_valid : (w : World) → IsValid w → nat_eq w.tick highest_tick ≡ false → IsValid (record w { tick = w.tick + 1 })
+raised_valid w v low = record {
+    limit = v.limit;
+    generations = v.generations;
+    current = v.current;
+    once = v.once;
+    free = v.free;
+    accounted = v.accounted;
+    rows = v.rows;
+    links = v.links;
+    names = v.names;
+    ticks = (λ h r at. all_later w.tick r.cells (v.ticks.0 h r at), λ name cell at. later w.tick cell (v.ticks.1 name cell at));
+    schema = v.schema;
+    generations_low = v.generations_low;
+    tick_low = still_low w.tick v.tick_low low;
+  }
+  where
+    still_low : (t : ℕ) → t ≤ highest_tick → nat_eq t highest_tick ≡ false → t + 1 ≤ highest_tick
+    still_low t l n = grind (arith, nat_tests)
+
+pub raise_keeps : RaiseKeeps
+raise_keeps w v valid is =
+    elim (nat_eq w.tick highest_tick) as (λ b. nat_eq w.tick highest_tick ≡ b → ◌≡◌ {A = Outcome (Unit {0}) World} (if b then refuse TickFull else Ok (tt, record w { tick = w.tick + 1 })) (Ok (tt, v)) → IsValid v) [
+      | true ↦ λ e g. absurd (not_ok (tt, v) _ g)
+      | false ↦ λ e g. subst IsValid (same_world tt tt (record w { tick = w.tick + 1 }) v g).1 (raised_valid w valid e)
+    ] refl is

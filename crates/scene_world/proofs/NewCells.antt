@@ -1,0 +1,75 @@
+-- The cells of a new row.
+use Rattle.std.proofs.Common.{◌≡◌, ℕ, ◌≤◌, length, nat_lt, Bool, true, false, not, ◌||◌, ◌&&◌, List, [], ◌∷◌, refl, ap, sym, ◌∙◌, arith, Option, Some, None, if◌then◌else◌}
+use Rattle.std.specs.Prelude.{nat_le}
+use Rattle.std.specs.List.{list_all, list_any}
+use Rattle.std.proofs.lemmas.Bool.Decides.{nat_tests}
+use Rattle.scene_kinds.specs.declared.cell.Cell.{Cell}
+use Rattle.scene_kinds.specs.declared.value.Value.{Value}
+use Rattle.scene_kinds.specs.declared.fault.Fault.{Fault}
+use Rattle.scene_kinds.specs.declared.fault.Fault.TheVariants.{NoSuchKind, DuplicateKind, WrongShape}
+use Rattle.scene_kinds.specs.Cells.{IsAscending, AreKindsBelow}
+use Rattle.scene_kinds.specs.Schema.{Kinds, fits_kind}
+use Rattle.scene_kinds.proofs.CellLaws.{ascending-with_cell, all-with_cell}
+use Rattle.scene_world.specs.World.{is_unknown}
+use Rattle.scene_world.specs.Commands.{any_twice, spawn_fault, new_cell, new_cells, insert_fault}
+use Rattle.scene_world.specs.Valid.{is_timely}
+
+pub new_ascending : (tick : ℕ) (cells : List (ℕ × Value)) → IsAscending (new_cells tick cells)
+new_ascending tick [] = tt
+new_ascending tick (c ∷ cs) = ascending-with_cell (new_cells tick cs) c.0 (new_cell tick c.1) (new_ascending tick cs)
+
+neither : (a b : Bool) → (a || b) ≡ false → (a ≡ false) × (b ≡ false)
+neither true b h = absurd (let k : true ≡ false = h in cc)
+neither false b h = (refl, h)
+
+yes : (b : Bool) → not b ≡ false → b ≡ true
+yes true h = refl
+yes false h = absurd (let k : true ≡ false = h in cc)
+
+pub new_shapes : (schema : Kinds) (tick : ℕ) (cells : List (ℕ × Value)) → list_any (λ c. not (fits_kind schema c.1 c.0)) cells ≡ false
+    → list_all (λ (c : ℕ × Cell). fits_kind schema c.1.value c.0) (new_cells tick cells) ≡ true
+new_shapes schema tick [] h = refl
+new_shapes schema tick (c ∷ cs) h =
+    let parts = neither (not (fits_kind schema c.1 c.0)) (list_any (λ (c : ℕ × Value). not (fits_kind schema c.1 c.0)) cs) h in
+    all-with_cell (λ (c : ℕ × Cell). fits_kind schema c.1.value c.0) (new_cells tick cs) c.0 (new_cell tick c.1) (new_shapes schema tick cs parts.1) (yes _ parts.0)
+
+-- a cell that is written now is timely
+pub timely_now : (tick : ℕ) (value : Value) (added : ℕ) → nat_le added tick ≡ true → is_timely tick (record { value = value; added = added; changed = tick }) ≡ true
+timely_now tick value added h = let k : nat_le tick tick ≡ true = grind (arith, nat_tests) in ap (λ b. b && nat_le tick tick) h ∙ k
+
+pub new_timely : (tick : ℕ) (cells : List (ℕ × Value)) → list_all (λ (c : ℕ × Cell). is_timely tick c.1) (new_cells tick cells) ≡ true
+new_timely tick [] = refl
+new_timely tick (c ∷ cs) = all-with_cell (λ (c : ℕ × Cell). is_timely tick c.1) (new_cells tick cs) c.0 (new_cell tick c.1) (new_timely tick cs) (timely_now tick c.1 tick (grind (arith, nat_tests)))
+
+three : (a b c : Bool) (x y z : Fault) → (if a then Some x else if b then Some y else if c then Some z else None) ≡ None → (a ≡ false) × (b ≡ false) × (c ≡ false)
+three true b c x y z h = absurd (let k : Some x ≡ None = h in cc)
+three false true c x y z h = absurd (let k : Some y ≡ None = h in cc)
+three false false true x y z h = absurd (let k : Some z ≡ None = h in cc)
+three false false false x y z h = (refl, refl, refl)
+
+two : (a b : Bool) (x y : Fault) → (if a then Some x else if b then Some y else None) ≡ None → (a ≡ false) × (b ≡ false)
+two true b x y h = absurd (let k : Some x ≡ None = h in cc)
+two false true x y h = absurd (let k : Some y ≡ None = h in cc)
+two false false x y h = (refl, refl)
+
+-- what a spawn that isn't refused says of its cells
+pub spawn_tests : (schema : Kinds) (cells : List (ℕ × Value)) → spawn_fault schema cells ≡ None
+    → (list_any (λ c. is_unknown schema c.0) cells ≡ false) × (any_twice cells ≡ false) × (list_any (λ c. not (fits_kind schema c.1 c.0)) cells ≡ false)
+spawn_tests schema cells h = three _ _ _ NoSuchKind DuplicateKind WrongShape h
+
+-- what an insert that isn't refused says of its value
+pub insert_tests : (schema : Kinds) (kind : ℕ) (value : Value) → insert_fault schema kind value ≡ None → (is_unknown schema kind ≡ false) × (fits_kind schema value kind ≡ true)
+insert_tests schema kind value h = let t = two _ _ NoSuchKind WrongShape h in (t.0, yes _ t.1)
+
+known_low : (schema : Kinds) (kind : ℕ) → is_unknown schema kind ≡ false → length schema ≤ 64 → nat_lt kind 64 ≡ true
+known_low schema kind h l = low kind (length schema) (yes (nat_lt kind (length schema)) h) l
+  where
+    low : (a b : ℕ) → nat_lt a b ≡ true → b ≤ 64 → nat_lt a 64 ≡ true
+    low a b h l = grind (arith, nat_tests)
+
+-- the kinds of a new row are below 64
+pub new_kinds_low : (schema : Kinds) (tick : ℕ) (cells : List (ℕ × Value)) → list_any (λ c. is_unknown schema c.0) cells ≡ false → length schema ≤ 64 → AreKindsBelow 64 (new_cells tick cells)
+new_kinds_low schema tick [] h l = refl
+new_kinds_low schema tick (c ∷ cs) h l =
+    let parts = neither (is_unknown schema c.0) (list_any (λ (c : ℕ × Value). is_unknown schema c.0) cs) h in
+    all-with_cell (λ (c : ℕ × Cell). nat_lt c.0 64) (new_cells tick cs) c.0 (new_cell tick c.1) (new_kinds_low schema tick cs parts.1 l) (known_low schema c.0 parts.0 l)

@@ -1,0 +1,105 @@
+-- A list of rows after a push, a write or a swap out: which row stands where, told by cases.
+use Rattle.std.proofs.Common.{◌≡◌, ℕ, zero, suc, ◌+◌, ◌-◌, ◌<◌, ◌≤◌, List, [], ◌∷◌, ◌++◌, length, refl, ap, subst, sym, ◌∙◌, arith, Option, Some, None}
+use Rattle.std.specs.Prelude.{slice_get, slice_set}
+use Rattle.scene_table.specs.Rows.{swap_out, last_of, front_of, last_first}
+
+-- a value that stands in a list stands below its length
+pub within : {X : Type 0} (xs : List X) (p : ℕ) (r : X) → slice_get xs p ≡ Some r → p < length xs
+within [] p r h = absurd (let k : None ≡ Some r = h in cc)
+within (x ∷ xs) zero r h = omega arith
+within (x ∷ xs) (suc p) r h = let k = within xs p r h in omega arith
+
+-- after a push: an old value, or the new one at the end
+pub pushed : {X : Type 0} (P : Type 0) (xs : List X) (x : X) (p : ℕ) (r : X) → slice_get (xs ++ x ∷ []) p ≡ Some r
+    → (slice_get xs p ≡ Some r → P) → (p ≡ length xs → x ≡ r → P) → P
+pushed P [] x zero r h old new = new refl (let k : Some x ≡ Some r = h in cc)
+pushed P [] x (suc p) r h old new = absurd (let k : None ≡ Some r = h in cc)
+pushed P (y ∷ ys) x zero r h old new = old h
+pushed P (y ∷ ys) x (suc p) r h old new = pushed P ys x p r h old (λ e f. new (ap (λ n. suc n) e) f)
+
+-- an old value stays where it is
+pub pushed_stays : {X : Type 0} (xs : List X) (x : X) (p : ℕ) (r : X) → slice_get xs p ≡ Some r → slice_get (xs ++ x ∷ []) p ≡ Some r
+pushed_stays [] x p r h = absurd (let k : None ≡ Some r = h in cc)
+pushed_stays (y ∷ ys) x zero r h = h
+pushed_stays (y ∷ ys) x (suc p) r h = pushed_stays ys x p r h
+
+-- the new one stands at the end
+pub pushed_last : {X : Type 0} (xs : List X) (x : X) → slice_get (xs ++ x ∷ []) (length xs) ≡ Some x
+pushed_last [] x = refl
+pushed_last (y ∷ ys) x = pushed_last ys x
+
+-- after a write: the new value at its place, or an old one at another
+pub written : {X : Type 0} (P : Type 0) (xs : List X) (i : ℕ) (x : X) (p : ℕ) (r : X) → slice_get (slice_set xs i x) p ≡ Some r
+    → (p ≡ i → x ≡ r → P) → ((p ≡ i → ⊥) → slice_get xs p ≡ Some r → P) → P
+written P [] i x p r h new old = absurd (let k : None ≡ Some r = h in cc)
+written P (y ∷ ys) zero x zero r h new old = new refl (let k : Some x ≡ Some r = h in cc)
+written P (y ∷ ys) zero x (suc p) r h new old = old (λ e. omega arith) h
+written P (y ∷ ys) (suc i) x zero r h new old = old (λ e. omega arith) h
+written P (y ∷ ys) (suc i) x (suc p) r h new old = written P ys i x p r h (λ e f. new (ap (λ n. suc n) e) f) (λ ne g. old (λ e. ne (omega arith)) g)
+
+-- the value at another place stays, and the written one stands at its own
+pub written_stays : {X : Type 0} (xs : List X) (i : ℕ) (x : X) (p : ℕ) (r : X) → (p ≡ i → ⊥) → slice_get xs p ≡ Some r → slice_get (slice_set xs i x) p ≡ Some r
+written_stays [] i x p r ne h = h
+written_stays (y ∷ ys) zero x zero r ne h = absurd (ne refl)
+written_stays (y ∷ ys) zero x (suc p) r ne h = h
+written_stays (y ∷ ys) (suc i) x zero r ne h = h
+written_stays (y ∷ ys) (suc i) x (suc p) r ne h = written_stays ys i x p r (λ e. ne (ap (λ n. suc n) e)) h
+
+pub written_there : {X : Type 0} (xs : List X) (i : ℕ) (x r : X) → slice_get xs i ≡ Some r → slice_get (slice_set xs i x) i ≡ Some x
+written_there [] i x r h = absurd (let k : None ≡ Some r = h in cc)
+written_there (y ∷ ys) zero x r h = refl
+written_there (y ∷ ys) (suc i) x r h = written_there ys i x r h
+
+-- the last, and the others, of a list that has one
+get_last : {X : Type 0} (x : X) (xs : List X) → slice_get (x ∷ xs) (length xs) ≡ Some (last_of x xs)
+get_last x [] = refl
+get_last x (y ∷ ys) = get_last y ys
+
+get_front : {X : Type 0} (x : X) (xs : List X) (p : ℕ) (r : X) → slice_get (front_of x xs) p ≡ Some r → (slice_get (x ∷ xs) p ≡ Some r) × (p < length xs)
+get_front x [] p r h = absurd (let k : None ≡ Some r = h in cc)
+get_front x (y ∷ ys) zero r h = (h, omega arith)
+get_front x (y ∷ ys) (suc p) r h = let k = get_front y ys p r h in (k.0, let l : p < length ys = k.1 in omega arith)
+
+front_stays : {X : Type 0} (x : X) (xs : List X) (p : ℕ) (r : X) → p < length xs → slice_get (x ∷ xs) p ≡ Some r → slice_get (front_of x xs) p ≡ Some r
+front_stays x [] p r l h = absurd (omega arith)
+front_stays x (y ∷ ys) zero r l h = h
+front_stays x (y ∷ ys) (suc p) r l h = front_stays y ys p r (omega arith) h
+
+-- after a swap out: the last value at the place that was left, or an old one at another; the last place is gone
+pub swapped : {X : Type 0} (P : Type 0) (xs : List X) (i : ℕ) (p : ℕ) (r : X) → i < length xs → slice_get (swap_out xs i) p ≡ Some r
+    → (p ≡ i → (q : ℕ) → suc q ≡ length xs → p < q → slice_get xs q ≡ Some r → P) → ((p ≡ i → ⊥) → suc p < length xs → slice_get xs p ≡ Some r → P) → P
+swapped P [] i p r l h last old = absurd (omega arith)
+swapped P (x ∷ []) zero p r l h last old = absurd (let k : None ≡ Some r = h in cc)
+swapped P (x ∷ y ∷ ys) zero zero r l h last old =
+    last refl (suc (length ys)) refl (omega arith) (get_last y ys ∙ h)
+swapped P (x ∷ y ∷ ys) zero (suc p) r l h last old =
+    let k = get_front y ys p r h in
+    old (λ e. omega arith) (let m : p < length ys = k.1 in omega arith) k.0
+swapped P (x ∷ xs) (suc i) zero r l h last old =
+    old (λ e. omega arith) (omega arith) h
+swapped P (x ∷ xs) (suc i) (suc p) r l h last old =
+    swapped P xs i p r (omega arith) h
+    (λ e q f m g. last (ap (λ n. suc n) e) (suc q) (ap (λ n. suc n) f) (omega arith) g)
+    (λ ne m g. old (λ e. ne (omega arith)) (omega arith) g)
+
+-- a value of a list is its last or one of the others
+last_or_front : {X : Type 0} (y : X) (ys : List X) (p : ℕ) (r : X) → slice_get (y ∷ ys) p ≡ Some r → (q : ℕ) × (slice_get (last_of y ys ∷ front_of y ys) q ≡ Some r)
+last_or_front y [] zero r h = (0, h)
+last_or_front y [] (suc p) r h = absurd (let k : None ≡ Some r = h in cc)
+last_or_front y (z ∷ zs) zero r h = (1, h)
+last_or_front {X} y (z ∷ zs) (suc p) r h =
+    let k = last_or_front z zs p r h in
+    elim k.0 as (λ q. slice_get (last_of z zs ∷ front_of z zs) q ≡ Some r → (m : ℕ) × (slice_get (last_of z zs ∷ y ∷ front_of z zs) m ≡ Some r)) [
+      | zero ↦ λ g. (0, g)
+      | suc q ↦ λ g. (suc (suc q), g)
+    ] k.1
+
+-- a value other than the one that leaves stands somewhere after the swap
+pub swapped_stays : {X : Type 0} (xs : List X) (i p : ℕ) (r : X) → i < length xs → (p ≡ i → ⊥) → slice_get xs p ≡ Some r → (q : ℕ) × (slice_get (swap_out xs i) q ≡ Some r)
+swapped_stays [] i p r l ne h = absurd (omega arith)
+swapped_stays (x ∷ xs) zero zero r l ne h = absurd (ne refl)
+swapped_stays (x ∷ []) zero (suc p) r l ne h = absurd (let k : None ≡ Some r = h in cc)
+swapped_stays (x ∷ y ∷ ys) zero (suc p) r l ne h = last_or_front y ys p r h
+swapped_stays (x ∷ xs) (suc i) zero r l ne h = (0, h)
+swapped_stays (x ∷ xs) (suc i) (suc p) r l ne h =
+    let k = swapped_stays xs i p r (omega arith) (λ e. ne (ap (λ n. suc n) e)) h in (suc k.0, k.1)

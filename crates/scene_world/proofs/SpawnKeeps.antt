@@ -1,0 +1,115 @@
+-- An accepted spawn keeps a valid world valid.
+use Rattle.std.proofs.Common.{◌≡◌, ℕ, ◌<◌, ◌≤◌, Bool, true, false, ◌||◌, nat_eq, List, length, refl, ap, subst, sym, ◌∙◌, arith, Option, Some, None, Ok, slice_get, slice_index, ⊎_elim}
+use Rattle.std.specs.Prelude.{Result, Err}
+use Rattle.std.specs.List.{list_all}
+use Rattle.std.proofs.lemmas.Bool.Decides.{nat_tests}
+use Rattle.scene_kinds.specs.declared.entity.Entity.{Entity}
+use Rattle.scene_kinds.specs.declared.cell.Cell.{Cell}
+use Rattle.scene_kinds.specs.declared.cells.Row.{Row}
+use Rattle.scene_kinds.specs.declared.value.Value.{Value}
+use Rattle.scene_kinds.specs.Answers.{Outcome}
+use Rattle.scene_kinds.specs.Cells.{mask_of}
+use Rattle.scene_kinds.specs.Schema.{fits_kind}
+use Rattle.scene_alloc.specs.Slots.{SlotState, IsSlots, is_free, take_of}
+use Rattle.scene_world.specs.World.{World, Tables, row_at, with_row}
+use Rattle.scene_world.specs.Commands.{spawned, spawn_fault, new_cells}
+use Rattle.scene_world.specs.Valid.{IsValid, IsRowOf, IsCurrent, is_live_index, is_retired, is_timely, EachRow}
+use Rattle.scene_world.specs.Laws.{SpawnKeeps}
+use Rattle.scene_world.proofs.Outcomes.{no_fault, not_ok, same_world}
+use Rattle.scene_world.proofs.Homes.{here_live, live_here}
+use Rattle.scene_world.proofs.Rows.{StandsNowhere, added_there, each_added, once_added}
+use Rattle.scene_world.proofs.Lives.{lives, lives_added, read, there, one_of, first_of_three, second_of_three, third_of_three}
+use Rattle.scene_world.proofs.NewCells.{new_ascending, new_shapes, new_timely, spawn_tests}
+use Rattle.scene_world.proofs.TakenSlots.{IsTaken, taken}
+
+-- a valid world has sound slots
+pub slots_of : (w : World) → IsValid w → IsSlots w.slots
+slots_of w v = record {
+    some_limit = v.limit.0;
+    low_limit = v.limit.1.0;
+    few = v.limit.1.1;
+    begun = v.generations;
+    low = v.generations_low;
+    in_range = v.free.0;
+    distinct = v.free.1.0;
+  }
+
+-- nobody stands with the identity that a take gives
+pub taken_nowhere : (w : World) (s : SlotState) (e : Entity) → IsValid w → IsTaken w.slots s e → StandsNowhere e w.tables
+taken_nowhere w s e v t = λ h r g same. ⊎_elim
+    (λ f. let k : false ≡ true = sym (v.free.1.1 h r g) ∙ ap (λ (x : Entity). is_free w.slots x.index) same ∙ f in absurd (cc))
+    (λ n. let k : Some r.entity.generation ≡ None = sym (v.current h r g) ∙ ap (λ (x : Entity). slice_get w.slots.generations x.index) same ∙ n in absurd (cc))
+    t.unused
+
+-- the world after a spawn
+abbrev pub grown : World → SlotState → Row → World
+grown w s row = record w { slots = s; tables = with_row w.tables row }
+
+-- an index other than the new one is accounted for as before
+old_accounted : (w : World) (s : SlotState) (row : Row) → IsValid w → IsTaken w.slots s row.entity → (i : ℕ) → i < length w.slots.generations → (i ≡ row.entity.index → ⊥)
+    → (is_live_index (grown w s row) i || is_free s i || is_retired s i) ≡ true
+old_accounted w s row v t i l ne =
+    let kept : slice_index s.generations i ≡ slice_index w.slots.generations i = read s.generations i _ (t.kept i _ (there w.slots.generations i l)) in
+    one_of _ (is_live_index w i) (is_free w.slots i) (is_retired w.slots i) (v.accounted i l)
+    (λ a. first_of_three _ _ _ (ap (λ (g : ℕ). lives (with_row w.tables row) (record { index = i; generation = g })) kept ∙ lives_added w.tables row _ a))
+    (λ b. second_of_three (is_live_index (grown w s row) i) _ _ (t.others i ne b))
+    (λ c. third_of_three (is_live_index (grown w s row) i) (is_free s i) _ (ap (λ (g : ℕ). nat_eq g 4294967295) kept ∙ c))
+
+new_accounted : (w : World) (s : SlotState) (row : Row) → IsTaken w.slots s row.entity → (i : ℕ) → i ≡ row.entity.index
+    → (is_live_index (grown w s row) i || is_free s i || is_retired s i) ≡ true
+new_accounted w s row t i e =
+    let same : record { index = i; generation = slice_index s.generations i } ≡ row.entity =
+        λ j. record { index = e j; generation = (ap (slice_index s.generations) e ∙ read s.generations row.entity.index row.entity.generation t.current) j } in
+    first_of_three _ _ _ (ap (lives (with_row w.tables row)) same ∙ live_here (with_row w.tables row) row.entity _ row (added_there w.tables row) refl)
+
+-- a new row of a new entity keeps a world valid
+pub grown_valid : (w : World) (s : SlotState) (row : Row) → IsValid w → IsTaken w.slots s row.entity → IsRowOf w.schema (mask_of row.cells) row
+    → list_all (λ (c : ℕ × Cell). is_timely w.tick c.1) row.cells ≡ true → IsValid (grown w s row)
+grown_valid w s row v t fits timely = record {
+    limit = (t.sound.some_limit, (t.sound.low_limit, t.sound.few));
+    generations = t.sound.begun;
+    current = each_added (λ m r. IsCurrent s r.entity) w.tables row (λ h r g. t.kept r.entity.index r.entity.generation (v.current h r g)) t.current;
+    once = once_added w.tables row v.once (taken_nowhere w s row.entity v t);
+    free = (t.sound.in_range, (t.sound.distinct, each_added (λ m r. is_free s r.entity.index ≡ false) w.tables row (λ h r g. t.fewer r.entity.index (v.free.1.1 h r g)) t.busy));
+    accounted = λ i l. elim (nat_eq i row.entity.index) as (λ b. nat_eq i row.entity.index ≡ b → (is_live_index (grown w s row) i || is_free s i || is_retired s i) ≡ true) [
+      | true ↦ λ e. new_accounted w s row t i (equal i row.entity.index e)
+      | false ↦ λ e. old_accounted w s row v t i (t.older i l (unequal i row.entity.index e)) (unequal i row.entity.index e)
+    ] refl;
+    rows = each_added (IsRowOf w.schema) w.tables row v.rows fits;
+    links = (λ p c k. (lives_added w.tables row p (v.links.0 p c k).0, lives_added w.tables row c (v.links.0 p c k).1), v.links.1);
+    names = v.names;
+    ticks = (each_added (λ m r. list_all (λ (c : ℕ × Cell). is_timely w.tick c.1) r.cells ≡ true) w.tables row v.ticks.0 timely, v.ticks.1);
+    schema = v.schema;
+    generations_low = t.sound.low;
+    tick_low = v.tick_low;
+  }
+  where
+    equal : (a b : ℕ) → nat_eq a b ≡ true → a ≡ b
+    equal a b h = grind (arith, nat_tests)
+
+    unequal : (a b : ℕ) → nat_eq a b ≡ false → a ≡ b → ⊥
+    unequal a b h e = grind (arith, nat_tests)
+
+-- what an accepted spawn took
+spawn_parts : (P : Type 0) (w v : World) (cells : List (ℕ × Cell)) (e : Entity) (o : Outcome Entity SlotState) → spawned w cells o ≡ Ok (e, v)
+    → ((s : SlotState) → o ≡ Ok (e, s) → grown w s (record { entity = e; cells = cells }) ≡ v → P) → P
+spawn_parts P w v cells e (Ok p) h then =
+    let k = same_world p.0 e (grown w p.1 (record { entity = p.0; cells = cells })) v h in
+    then p.1 (λ i. Ok (k.0 i, p.1)) (ap (λ (x : Entity). grown w p.1 (record { entity = x; cells = cells })) (sym k.0) ∙ k.1)
+spawn_parts P w v cells e (Err r) h then = absurd (not_ok (e, v) r h)
+
+-- the world that a spawn of sound cells leaves
+pub spawned_valid : (w : World) (given : List (ℕ × Value)) (cells : List (ℕ × Cell)) (s : SlotState) (e : Entity) → IsValid w → spawn_fault w.schema given ≡ None → cells ≡ new_cells w.tick given → take_of w.slots ≡ Ok (e, s)
+    → IsValid (grown w s (record { entity = e; cells = cells }))
+spawned_valid w given cells s e v fits made took =
+    let tests = spawn_tests w.schema given fits in
+    subst (λ (cs : List (ℕ × Cell)). IsValid (grown w s (record { entity = e; cells = cs }))) (sym made)
+      (grown_valid w s (record { entity = e; cells = new_cells w.tick given }) v (taken w.slots s e (slots_of w v) took)
+        (record { kinds = record { ascending = new_ascending w.tick given; kinds = refl }; shapes = new_shapes w.schema w.tick given tests.2 })
+        (new_timely w.tick given))
+
+pub spawn_keeps : SpawnKeeps
+spawn_keeps w v cells e valid is =
+    let parts = no_fault _ _ (e, v) is in
+    spawn_parts (IsValid v) w v (new_cells w.tick cells) e (take_of w.slots) parts.1
+    (λ s o made. subst IsValid made (spawned_valid w cells (new_cells w.tick cells) s e valid parts.0 refl o))

@@ -1,0 +1,203 @@
+-- The tables of the code after one of them was made, grown or written.
+use Rattle.std.proofs.Common.{◌≡◌, ℕ, zero, suc, ◌+◌, ◌<◌, ◌≤◌, Bool, true, false, cond, List, [], ◌∷◌, ◌++◌, length, refl, ap, subst, sym, ◌∙◌, arith, Option, Some, None, Ok, nat_eq, length-set, get_or-set_same}
+use Rattle.std.specs.Prelude.{slice_get, slice_set, slice_index_or, Result, Err, OnOk, IfOk, IfSome, IfNone, option_map}
+use Rattle.std.specs.List.{position_from}
+use Rattle.std.specs.Ordering.{nat_cmp}
+use Rattle.std.specs.Cmp.{nat_cmp_total}
+use Rattle.std.specs.FinMap.{nat_cmp-IsAntisymmetric}
+use Rattle.std.proofs.lemmas.Bool.Decides.{nat_tests}
+use Rattle.scene_kinds.specs.declared.entity.Entity.{Entity}
+use Rattle.scene_kinds.specs.declared.cells.Row.{Row}
+use Rattle.scene_kinds.specs.Cells.{HasKinds, mask_of}
+use Rattle.scene_kinds.specs.Lists.{whole, listed}
+use Rattle.scene_kinds.specs.Map as map
+use Rattle.scene_kinds.proofs.Lists.{list_at_same, list_at_apart, with_list-with_list, with_list_apart, get-with_list}
+use Rattle.scene_kinds.proofs.Maps.{same_map}
+use Rattle.scene_table.specs.Rows.{swap_out}
+use Rattle.scene_table.specs.Table.{TableState}
+use Rattle.scene_world.specs.declared.home.Home.{Home}
+use Rattle.scene_world.specs.World.{Tables, rows_at, with_rows, with_row, without_row}
+use Rattle.scene_world.specs.Stored.{tables_of, IsFirstOf, StandsAt, HasRoomAt, NoneHas, AreApart}
+
+pub eq_of_test : (a b : ℕ) → nat_eq a b ≡ true → a ≡ b
+eq_of_test a b h = grind (arith, nat_tests)
+
+pub ne_of_test : (a b : ℕ) → nat_eq a b ≡ false → a ≡ b → ⊥
+ne_of_test a b h e = grind (arith, nat_tests)
+
+-- ---- which rows are seen
+
+absent : {X : Type 0} (b : Bool) (o : Option X) → o ≡ None → cond b None o ≡ o
+absent true o h = sym h
+absent false o h = refl
+
+-- a new table without rows isn't seen
+pub tables_of_pushed : (ts : List TableState) (t : TableState) → t.rows ≡ [] → tables_of (ts ++ t ∷ []) ≡ tables_of ts
+tables_of_pushed [] t e = ap (λ r. with_rows map.empty t.mask r) e ∙ same_map nat_cmp_total nat_cmp-IsAntisymmetric _ _ (λ q.
+    get-with_list nat_cmp_total map.empty t.mask [] q ∙ absent _ (map.get (map.empty {K = ℕ} {X = Row × List Row} {R = nat_cmp}) q) refl)
+tables_of_pushed (x ∷ ts) t e = ap (λ z. with_rows z x.mask x.rows) (tables_of_pushed ts t e)
+
+-- the rows of the first table of a kind set are those that are seen
+pub rows_of_first : (ts : List TableState) (mask i : ℕ) (d : TableState) → IsFirstOf ts mask i → rows_at (tables_of ts) mask ≡ (slice_index_or ts i d).rows
+rows_of_first [] mask i d h = absurd h
+rows_of_first (t ∷ ts) mask zero d h = ap (rows_at (with_rows (tables_of ts) t.mask t.rows)) (sym h) ∙ list_at_same nat_cmp_total (tables_of ts) t.mask t.rows
+rows_of_first (t ∷ ts) mask (suc i) d h = list_at_apart nat_cmp_total nat_cmp-IsAntisymmetric (tables_of ts) t.mask mask t.rows (λ e. h.0 (sym e)) ∙ rows_of_first ts mask i d h.1
+
+-- a write of the first table of a kind set
+pub tables_of_set : (ts : List TableState) (mask i : ℕ) (new : TableState) → IsFirstOf ts mask i → new.mask ≡ mask → tables_of (slice_set ts i new) ≡ with_rows (tables_of ts) mask new.rows
+tables_of_set [] mask i new h e = absurd h
+tables_of_set (t ∷ ts) mask zero new h e =
+    ap (λ m. with_rows (tables_of ts) m new.rows) e ∙ sym (ap (λ m. with_rows (with_rows (tables_of ts) m t.rows) mask new.rows) h ∙ with_list-with_list nat_cmp_total nat_cmp-IsAntisymmetric (tables_of ts) mask t.rows new.rows)
+tables_of_set (t ∷ ts) mask (suc i) new h e =
+    ap (λ z. with_rows z t.mask t.rows) (tables_of_set ts mask i new h.1 e) ∙ with_list_apart nat_cmp_total nat_cmp-IsAntisymmetric (tables_of ts) mask t.mask new.rows t.rows (λ u. h.0 (sym u))
+
+-- a write that keeps a table's kind set and rows isn't seen
+pub tables_of_same : (ts : List TableState) (i : ℕ) (d new : TableState) → new.mask ≡ (slice_index_or ts i d).mask → new.rows ≡ (slice_index_or ts i d).rows → tables_of (slice_set ts i new) ≡ tables_of ts
+tables_of_same [] i d new e f = refl
+tables_of_same (t ∷ ts) zero d new e f = ap (λ m. with_rows (tables_of ts) m new.rows) e ∙ ap (λ r. with_rows (tables_of ts) t.mask r) f
+tables_of_same (t ∷ ts) (suc i) d new e f = ap (λ z. with_rows z t.mask t.rows) (tables_of_same ts i d new e f)
+
+-- ---- where the table of a kind set stands
+
+placed : (mask : ℕ) (ts : List TableState) (n i : ℕ) → position_from (λ (t : TableState). nat_eq t.mask mask) n ts ≡ Some i → (k : ℕ) × ((i ≡ n + k) × StandsAt ts mask k)
+placed mask [] n i h = cc
+placed mask (t ∷ ts) n i h =
+    elim (nat_eq t.mask mask) as (λ b. nat_eq t.mask mask ≡ b → (k : ℕ) × ((i ≡ n + k) × StandsAt (t ∷ ts) mask k)) [
+      | true ↦ λ p.
+          let g : Some n ≡ Some i = rw p at h in
+          let m : n ≡ i = cc in
+          (0, (omega arith, record { within = omega arith; first = eq_of_test t.mask mask p }))
+      | false ↦ λ p.
+          let r = placed mask ts (n + 1) i (rw p at h) in
+          (suc r.0, (omega arith, record { within = omega (arith, r.1.1.within); first = (ne_of_test t.mask mask p, r.1.1.first) }))
+    ] refl
+
+-- a search from the front ends at the table's index
+pub found_table : (mask : ℕ) (ts : List TableState) (i : ℕ) → Some i ≡ position_from (λ (t : TableState). nat_eq t.mask mask) 0 ts → StandsAt ts mask i
+found_table mask ts i h =
+    let r = placed mask ts 0 i (sym h) in
+    let e : r.0 ≡ i = omega arith in subst (StandsAt ts mask) e r.1.1
+
+none_from : (mask : ℕ) (ts : List TableState) (n : ℕ) → position_from (λ (t : TableState). nat_eq t.mask mask) n ts ≡ None → NoneHas mask ts
+none_from mask [] n h = tt
+none_from mask (t ∷ ts) n h =
+    elim (nat_eq t.mask mask) as (λ b. nat_eq t.mask mask ≡ b → NoneHas mask (t ∷ ts)) [
+      | true ↦ λ p. absurd (let g : Some n ≡ None = rw p at h in cc)
+      | false ↦ λ p. ((λ e. ne_of_test t.mask mask p (sym e)), none_from mask ts (n + 1) (rw p at h))
+    ] refl
+
+-- where the search finds nothing no table has the kind set
+pub none_found : (mask : ℕ) (ts : List TableState) → None ≡ position_from (λ (t : TableState). nat_eq t.mask mask) 0 ts → NoneHas mask ts
+none_found mask ts h = none_from mask ts 0 (sym h)
+
+-- and no rows of it are seen
+pub none_seen : (mask : ℕ) (ts : List TableState) → NoneHas mask ts → rows_at (tables_of ts) mask ≡ []
+none_seen mask [] h = refl
+none_seen mask (t ∷ ts) h = list_at_apart nat_cmp_total nat_cmp-IsAntisymmetric (tables_of ts) t.mask mask t.rows h.0 ∙ none_seen mask ts h.1
+
+first_pushed : (mask : ℕ) (ts : List TableState) (new : TableState) → NoneHas mask ts → new.mask ≡ mask → IsFirstOf (ts ++ new ∷ []) mask (length ts)
+first_pushed mask [] new h e = e
+first_pushed mask (t ∷ ts) new h e = ((λ s. h.0 (sym s)), first_pushed mask ts new h.1 e)
+
+length_pushed : (ts : List TableState) (new : TableState) → length ts < length (ts ++ new ∷ [])
+length_pushed [] new = omega arith
+length_pushed (t ∷ ts) new = omega (arith, length_pushed ts new)
+
+-- a new table stands last, where none had its kind set
+pub new_table : (mask : ℕ) (ts : List TableState) (new : TableState) → NoneHas mask ts → new.mask ≡ mask → StandsAt (ts ++ new ∷ []) mask (length ts)
+new_table mask ts new h e = record { within = length_pushed ts new; first = first_pushed mask ts new h e }
+
+pub mask_of_first : (ts : List TableState) (mask i : ℕ) (d : TableState) → IsFirstOf ts mask i → (slice_index_or ts i d).mask ≡ mask
+mask_of_first [] mask i d h = absurd h
+mask_of_first (t ∷ ts) mask zero d h = h
+mask_of_first (t ∷ ts) mask (suc i) d h = mask_of_first ts mask i d h.1
+
+-- a write that keeps a table's kind set keeps each table's index
+first_kept : (ts : List TableState) (i : ℕ) (d new : TableState) → new.mask ≡ (slice_index_or ts i d).mask → (m p : ℕ) → IsFirstOf ts m p → IsFirstOf (slice_set ts i new) m p
+first_kept [] i d new e m p h = absurd h
+first_kept (t ∷ ts) zero d new e m zero h = e ∙ h
+first_kept (t ∷ ts) zero d new e m (suc p) h = (λ u. h.0 (sym e ∙ u), h.1)
+first_kept (t ∷ ts) (suc i) d new e m zero h = h
+first_kept (t ∷ ts) (suc i) d new e m (suc p) h = (h.0, first_kept ts i d new e m p h.1)
+
+pub stands_kept : (ts : List TableState) (i : ℕ) (d new : TableState) → new.mask ≡ (slice_index_or ts i d).mask → (m p : ℕ) → StandsAt ts m p → StandsAt (slice_set ts i new) m p
+stands_kept ts i d new e m p h = record { within = rw length-set h.within; first = first_kept ts i d new e m p h.first }
+
+first_appended : (ts : List TableState) (new : TableState) (m p : ℕ) → IsFirstOf ts m p → IsFirstOf (ts ++ new ∷ []) m p
+first_appended [] new m p h = absurd h
+first_appended (t ∷ ts) new m zero h = h
+first_appended (t ∷ ts) new m (suc p) h = (h.0, first_appended ts new m p h.1)
+
+pub stands_appended : (ts : List TableState) (new : TableState) (m p : ℕ) → StandsAt ts m p → StandsAt (ts ++ new ∷ []) m p
+stands_appended ts new m p h = record { within = omega (arith, h.within, length_pushed ts new); first = first_appended ts new m p h.first }
+
+-- ---- kind sets stay distinct
+
+none_kept : (mask : ℕ) (ts : List TableState) (i : ℕ) (d new : TableState) → new.mask ≡ (slice_index_or ts i d).mask → NoneHas mask ts → NoneHas mask (slice_set ts i new)
+none_kept mask [] i d new e h = tt
+none_kept mask (t ∷ ts) zero d new e h = ((λ s. h.0 (s ∙ e)), h.1)
+none_kept mask (t ∷ ts) (suc i) d new e h = (h.0, none_kept mask ts i d new e h.1)
+
+pub apart_kept : (ts : List TableState) (i : ℕ) (d new : TableState) → new.mask ≡ (slice_index_or ts i d).mask → AreApart ts → AreApart (slice_set ts i new)
+apart_kept [] i d new e h = tt
+apart_kept (t ∷ ts) zero d new e h = (subst (λ m. NoneHas m ts) (sym e) h.0, h.1)
+apart_kept (t ∷ ts) (suc i) d new e h = (none_kept t.mask ts i d new e h.0, apart_kept ts i d new e h.1)
+
+none_appended : (mask : ℕ) (ts : List TableState) (new : TableState) → (mask ≡ new.mask → ⊥) → NoneHas mask ts → NoneHas mask (ts ++ new ∷ [])
+none_appended mask [] new ne h = (ne, tt)
+none_appended mask (t ∷ ts) new ne h = (h.0, none_appended mask ts new ne h.1)
+
+pub apart_appended : (ts : List TableState) (new : TableState) → NoneHas new.mask ts → AreApart ts → AreApart (ts ++ new ∷ [])
+apart_appended [] new h a = (tt, tt)
+apart_appended (t ∷ ts) new h a = (none_appended t.mask ts new (λ e. h.0 (sym e)) a.0, apart_appended ts new h.1 a.1)
+
+-- ---- one step on the table of a kind set
+
+-- a table that grew has room
+pub room_made : {E : Type 0} (ts : List TableState) (mask i : ℕ) (d new : TableState) (r : Result (Unit {0}) E) → StandsAt ts mask i → new.mask ≡ (slice_index_or ts i d).mask → OnOk r (1 ≤ new.room) → IfOk r (λ _. HasRoomAt (slice_set ts i new) mask i)
+room_made ts mask i d new (Ok x) h e o = record { stands = stands_kept ts i d new e mask i h; room = λ z. let within : i < length ts = h.within in rw get_or-set_same (omega arith) }
+room_made ts mask i d new (Err x) h e o = tt
+
+room_at : (ts : List TableState) (i : ℕ) (d new : TableState) → (slice_index_or ts i d).room ≤ new.room → (p : ℕ) (z : TableState) → 0 < (slice_index_or ts p z).room → 0 < (slice_index_or (slice_set ts i new) p z).room
+room_at [] i d new e p z h = h
+room_at (t ∷ ts) zero d new e zero z h = omega arith
+room_at (t ∷ ts) zero d new e (suc p) z h = h
+room_at (t ∷ ts) (suc i) d new e zero z h = h
+room_at (t ∷ ts) (suc i) d new e (suc p) z h = room_at ts i d new e p z h
+
+-- a table that lost a row leaves each room that was there
+pub rooms_kept : (ts : List TableState) (i : ℕ) (d new : TableState) → new.mask ≡ (slice_index_or ts i d).mask → (slice_index_or ts i d).room ≤ new.room → (m p : ℕ) → HasRoomAt ts m p → HasRoomAt (slice_set ts i new) m p
+rooms_kept ts i d new e f m p h = record { stands = stands_kept ts i d new e m p h.stands; room = λ z. room_at ts i d new f p z (h.room z) }
+
+-- the rows that are seen of a table that stands at an index
+pub rows_there : (ts : List TableState) (mask i : ℕ) (d : TableState) → StandsAt ts mask i → d ≡ slice_index_or ts i d → rows_at (tables_of ts) mask ≡ d.rows
+rows_there ts mask i d h e = rows_of_first ts mask i d h.first ∙ ap (λ t. t.rows) (sym e)
+
+pub mask_there : (ts : List TableState) (mask i : ℕ) (d : TableState) → StandsAt ts mask i → d ≡ slice_index_or ts i d → d.mask ≡ mask
+mask_there ts mask i d h e = ap (λ t. t.mask) e ∙ mask_of_first ts mask i d h.first
+
+-- the rows of one table were written
+pub rows_written : (ts : List TableState) (mask i : ℕ) (d new : TableState) (rows : List Row) → StandsAt ts mask i → d ≡ slice_index_or ts i d → new.mask ≡ d.mask → new.rows ≡ rows → tables_of (slice_set ts i new) ≡ with_rows (tables_of ts) mask rows
+rows_written ts mask i d new rows h e m r = tables_of_set ts mask i new h.first (m ∙ mask_there ts mask i d h e) ∙ ap (with_rows (tables_of ts) mask) r
+
+-- ---- the rows of a kind set, where it has some
+
+pub some_found : (mask : ℕ) (ts : List TableState) (o : Option ℕ) → o ≡ position_from (λ (t : TableState). nat_eq t.mask mask) 0 ts → IfSome o (StandsAt ts mask)
+some_found mask ts None e = tt
+some_found mask ts (Some i) e = found_table mask ts i e
+
+pub none_there : (mask : ℕ) (ts : List TableState) (o : Option ℕ) → o ≡ position_from (λ (t : TableState). nat_eq t.mask mask) 0 ts → IfNone o (rows_at (tables_of ts) mask ≡ [])
+none_there mask ts None e = none_seen mask ts (none_found mask ts e)
+none_there mask ts (Some i) e = tt
+
+pub no_rows : (t : Tables) (mask : ℕ) → rows_at t mask ≡ [] → option_map whole (map.get t mask) ≡ None
+no_rows t mask e = elim (map.get t mask) as (λ o. listed o ≡ [] → option_map whole o ≡ None) [
+    | None ↦ λ h. refl
+    | Some p ↦ λ h. absurd (let k : p.0 ∷ p.1 ≡ [] = h in cc)
+  ] e
+
+pub some_rows : (t : Tables) (mask : ℕ) (rows : List Row) → rows_at t mask ≡ rows → (rows ≡ [] → ⊥) → Some rows ≡ option_map whole (map.get t mask)
+some_rows t mask rows e ne = elim (map.get t mask) as (λ o. listed o ≡ rows → Some rows ≡ option_map whole o) [
+    | None ↦ λ h. absurd (ne (sym h))
+    | Some p ↦ λ h. ap Some (sym h)
+  ] e

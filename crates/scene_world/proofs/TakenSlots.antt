@@ -1,0 +1,100 @@
+-- What a take of a slot leaves, as a world sees it.
+use Rattle.std.proofs.Common.{◌≡◌, ℕ, zero, suc, ◌+◌, ◌<◌, ◌≤◌, Bool, true, false, ◌||◌, nat_eq, List, [], ◌∷◌, ◌++◌, length, refl, ap, subst, sym, ◌∙◌, arith, Option, Some, None, Ok, length-append, slice_get, slice_index, ◌⊎◌, inl, inr}
+use Rattle.std.specs.List.{list_any}
+use Rattle.std.proofs.lemmas.Bool.Decides.{nat_tests}
+use Rattle.scene_kinds.specs.declared.entity.Entity.{Entity}
+use Rattle.scene_alloc.specs.Ends.{last, front}
+use Rattle.scene_alloc.specs.Slots.{SlotState, IsSlots, is_free, take_of}
+use Rattle.scene_alloc.proofs.Ends.{push-last}
+use Rattle.scene_alloc.proofs.Moves.{take_cases, IsSlots-take, CanUntake-take, created, after_new, reused, after_reuse}
+use Rattle.scene_world.proofs.RowLists.{within, pushed_stays}
+
+pub record IsTaken (s t : SlotState) (e : Entity) : Type 0 where
+  pub sound : IsSlots t
+  -- the entity has its slot's generation, and isn't free
+  pub current : slice_get t.generations e.index ≡ Some e.generation
+  pub busy : is_free t e.index ≡ false
+  -- other slots stay
+  pub kept : (i g : ℕ) → slice_get s.generations i ≡ Some g → slice_get t.generations i ≡ Some g
+  pub older : (i : ℕ) → i < length t.generations → (i ≡ e.index → ⊥) → i < length s.generations
+  -- an index that wasn't free isn't, and a free one stays free, but for the entity's
+  pub fewer : (i : ℕ) → is_free s i ≡ false → is_free t i ≡ false
+  pub others : (i : ℕ) → (i ≡ e.index → ⊥) → is_free s i ≡ true → is_free t i ≡ true
+  -- the entity's index was free, or no slot yet
+  pub unused : (is_free s e.index ≡ true) ⊎ (slice_get s.generations e.index ≡ None)
+
+-- a number among a list with one more
+pub any_pushed : (xs : List ℕ) (x i : ℕ) → list_any (nat_eq i) (xs ++ x ∷ []) ≡ (list_any (nat_eq i) xs || nat_eq i x)
+any_pushed [] x i = or_false (nat_eq i x)
+  where
+    or_false : (b : Bool) → (b || false) ≡ b
+    or_false true = refl
+    or_false false = refl
+any_pushed (y ∷ ys) x i = ap (λ b. nat_eq i y || b) (any_pushed ys x i) ∙ assoc (nat_eq i y) (list_any (nat_eq i) ys) (nat_eq i x)
+  where
+    assoc : (a b c : Bool) → (a || (b || c)) ≡ ((a || b) || c)
+    assoc true b c = refl
+    assoc false b c = refl
+
+not_or : (a b : Bool) → (a || b) ≡ false → a ≡ false
+not_or true b h = h
+not_or false b h = refl
+
+or_else : (a b : Bool) → (a || b) ≡ true → b ≡ false → a ≡ true
+or_else true b h e = refl
+or_else false b h e = absurd (let k : true ≡ false = sym h ∙ e in cc)
+
+or_right : (a : Bool) → (a || true) ≡ true
+or_right true = refl
+or_right false = refl
+
+same_itself : (i : ℕ) → nat_eq i i ≡ true
+same_itself i = grind (arith, nat_tests)
+
+-- numbers that differ are told apart
+pub differ : (i j : ℕ) → (i ≡ j → ⊥) → nat_eq i j ≡ false
+differ i j ne = elim (nat_eq i j) as (λ b. nat_eq i j ≡ b → b ≡ false) [ true ↦ λ e. absurd (ne (test_eq i j e)) | false ↦ λ e. refl ] refl
+  where
+    test_eq : (i j : ℕ) → nat_eq i j ≡ true → i ≡ j
+    test_eq i j e = grind (arith, nat_tests)
+
+none_past : (xs : List ℕ) → slice_get xs (length xs) ≡ None
+none_past [] = refl
+none_past (x ∷ xs) = none_past xs
+
+free_before : (s : SlotState) (i k : ℕ) → last s.free ≡ Some i → is_free s k ≡ (list_any (nat_eq k) (front s.free) || nat_eq k i)
+free_before s i k q = ap (λ f. list_any (nat_eq k) f) (sym (push-last s.free i q)) ∙ any_pushed (front s.free) i k
+
+pub taken : (s t : SlotState) (e : Entity) → IsSlots s → take_of s ≡ Ok (e, t) → IsTaken s t e
+taken s t e v h =
+    let u = CanUntake-take s t e v h in
+    let rest = take_cases s (λ (e : Entity) (t : SlotState). ((i g : ℕ) → slice_get s.generations i ≡ Some g → slice_get t.generations i ≡ Some g)
+          × ((i : ℕ) → i < length t.generations → (i ≡ e.index → ⊥) → i < length s.generations)
+          × ((i : ℕ) → is_free s i ≡ false → is_free t i ≡ false)
+          × ((i : ℕ) → (i ≡ e.index → ⊥) → is_free s i ≡ true → is_free t i ≡ true)
+          × ((is_free s e.index ≡ true) ⊎ (slice_get s.generations e.index ≡ None)))
+        (λ i q. (
+          (λ k g f. f),
+          (λ k l ne. l),
+          (λ k f. not_or (list_any (nat_eq k) (front s.free)) (nat_eq k i) (sym (free_before s i k q) ∙ f)),
+          (λ k ne f. or_else (list_any (nat_eq k) (front s.free)) (nat_eq k i) (sym (free_before s i k q) ∙ f) (differ k i ne)),
+          inl (free_before s i i q ∙ ap (λ b. list_any (nat_eq i) (front s.free) || b) (same_itself i) ∙ or_right (list_any (nat_eq i) (front s.free))),
+        ))
+        (λ none l. (
+          (λ k g f. pushed_stays s.generations 1 k g f),
+          (λ k m ne. let n : k < length (s.generations ++ 1 ∷ []) = m in omega (arith, length-append s.generations (1 ∷ []))),
+          (λ k f. f),
+          (λ k ne f. f),
+          inr (none_past s.generations),
+        ))
+        e t h in
+    record {
+      sound = IsSlots-take s t e v h;
+      current = u.current;
+      busy = u.not_free;
+      kept = rest.0;
+      older = rest.1;
+      fewer = rest.2;
+      others = rest.3;
+      unused = rest.4;
+    }

@@ -1,0 +1,22 @@
+-- Laws of the commands: an accepted one keeps a valid world valid.
+use Rattle.std.specs.Prelude.{◌≡◌, ℕ, List, Ok}
+use Rattle.scene_kinds.specs.declared.entity.Entity.{Entity}
+use Rattle.scene_kinds.specs.declared.value.Value.{Value}
+use Rattle.scene_world.specs.World.{World, new_world}
+use Rattle.scene_world.specs.Commands.{raise_tick, spawn, despawn, insert, remove}
+use Rattle.scene_world.specs.Valid.{IsValid}
+
+abbrev pub RaiseKeeps : Type 0
+RaiseKeeps = (w v : World) → IsValid w → raise_tick w ≡ Ok (tt, v) → IsValid v
+
+abbrev pub SpawnKeeps : Type 0
+SpawnKeeps = (w v : World) (cells : List (ℕ × Value)) (e : Entity) → IsValid w → spawn w cells ≡ Ok (e, v) → IsValid v
+
+abbrev pub DespawnKeeps : Type 0
+DespawnKeeps = (w v : World) (e : Entity) → IsValid w → despawn w e ≡ Ok (tt, v) → IsValid v
+
+abbrev pub InsertKeeps : Type 0
+InsertKeeps = (w v : World) (e : Entity) (kind : ℕ) (value : Value) → IsValid w → insert w e kind value ≡ Ok (tt, v) → IsValid v
+
+abbrev pub RemoveKeeps : Type 0
+RemoveKeeps = (w v : World) (e : Entity) (kind : ℕ) → IsValid w → remove w e kind ≡ Ok (tt, v) → IsValid v

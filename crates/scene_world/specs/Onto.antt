@@ -1,0 +1,10 @@
+-- Cells put one after another into cells that are there, the last first.
+use Rattle.std.specs.Prelude.{ℕ, List, [], ◌∷◌}
+use Rattle.scene_kinds.specs.declared.cell.Cell.{Cell}
+use Rattle.scene_kinds.specs.declared.value.Value.{Value}
+use Rattle.scene_kinds.specs.Cells.{with_cell}
+use Rattle.scene_world.specs.Commands.{new_cell}
+
+abbrev pub cells_onto : ℕ → List (ℕ × Value) → List (ℕ × Cell) → List (ℕ × Cell)
+cells_onto tick [] cells = cells
+cells_onto tick (c ∷ cs) cells = with_cell (cells_onto tick cs cells) c.0 (new_cell tick c.1)

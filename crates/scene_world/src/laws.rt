@@ -1,0 +1,28 @@
+//! Laws of the commands: an accepted one keeps a valid world valid. Every `World` is valid by its type; these say so of
+//! the definitions.
+ghost use Rattle.scene_world.specs.Laws.{RaiseKeeps, SpawnKeeps, DespawnKeeps, InsertKeeps, RemoveKeeps};
+
+/// A law: raising the tick keeps a valid world valid.
+pub fn raising_keeps_worlds_valid()
+    ensures { RaiseKeeps }
+{}
+
+/// A law: an accepted spawn keeps a valid world valid.
+pub fn spawning_keeps_worlds_valid()
+    ensures { SpawnKeeps }
+{}
+
+/// A law: an accepted despawn keeps a valid world valid.
+pub fn despawning_keeps_worlds_valid()
+    ensures { DespawnKeeps }
+{}
+
+/// A law: an accepted insert, in its place or by a move, keeps a valid world valid.
+pub fn inserting_keeps_worlds_valid()
+    ensures { InsertKeeps }
+{}
+
+/// A law: an accepted remove keeps a valid world valid.
+pub fn removing_keeps_worlds_valid()
+    ensures { RemoveKeeps }
+{}

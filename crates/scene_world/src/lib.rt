@@ -1,0 +1,25 @@
+//! The world of a scene: its definition as one value, what is valid, and its commands.
+//!
+//! `specs/World.antt` says what a world is and what its readers answer, `specs/Commands.antt` what the nine
+//! commands do, `specs/Valid.antt` the ten rules of a valid world, and `specs/Machine.antt` what frames, undo and
+//! redo do to whole saved worlds. `worked_examples_hold` has those definitions compute short scripts.
+//!
+//! `World` keeps a table for each kind set; all growth comes before the first change, so that a refusal leaves
+//! the world as it was. Bodies stand here for spawning, despawning, inserting and removing; the definitions of
+//! the other commands wait for theirs.
+#![tactic(auto)]
+
+mod clones;
+mod examples;
+mod given;
+mod home;
+mod kind_sets;
+mod laws;
+mod moves;
+mod tables;
+mod world;
+
+pub use examples::worked_examples_hold;
+pub use home::Home;
+pub use laws::{despawning_keeps_worlds_valid, inserting_keeps_worlds_valid, raising_keeps_worlds_valid, removing_keeps_worlds_valid, spawning_keeps_worlds_valid};
+pub use world::World;

@@ -1,0 +1,224 @@
+//! The world: entities with their components, links and resources.
+ghost use Rattle.std.specs.Prelude.{◌≡◌, ◌≤◌, MatchResult, IfOk, IfSome, Ok, Err, option_map};
+ghost use Rattle.scene_kinds.specs.Answers.{Gives};
+ghost use Rattle.scene_kinds.specs.Cells.{shown};
+ghost use Rattle.scene_world.specs.World.{new_world, is_live, mask_at, home_of, cell_at, place_at, rows_of, kind_sets};
+ghost use Rattle.scene_world.specs.Commands.{raise_tick};
+ghost use Rattle.scene_world.specs.Stored.{IsHomeOf};
+ghost use Rattle.scene_world.specs.Valid.{IsValid};
+
+mod despawn;
+mod insert;
+mod remove;
+mod spawn;
+
+use crate::clones::clone_tables;
+use crate::given::is_unknown;
+use crate::home::Home;
+use crate::kind_sets::kind_sets_of;
+use crate::tables::{cell_there, find_home, table_with_rows};
+use scene_alloc::Slots;
+use scene_kinds::{CellRef, Entity, Fault, Refusal, Schema};
+use scene_links::Links;
+use scene_resources::Resources;
+use scene_table::Table;
+use std::alloc::{AllocError, Global};
+use std::marker::Model;
+
+/// A world: which entities are alive, their components by archetype, parents and children, resources, and the
+/// tick of its last frame (docs/MODEL.md).
+///
+/// Contracts see it as one value: the schema, the slots, the tick, the rows of each kind set that has rows, the
+/// children of each entity that has some, and the resources. Room that was reserved isn't seen. Every `World`
+/// is valid (docs/MODEL.md, "A valid world").
+#[derive(Drop)]
+pub struct World {
+    alloc: Global,
+    schema: Schema,
+    slots: Slots,
+    tick: u64,
+    tables: Vec<Table>,
+    links: Links,
+    resources: Resources,
+}
+
+impl Model for World {
+    ghost use Rattle.std.specs.Ordering.{nat_cmp};
+    ghost use Rattle.std.specs.Coded.{coded_ℕ, coded_list, coded×, codes};
+    ghost use Rattle.scene_kinds.specs.contracts.cells.Row as row;
+    ghost use Rattle.scene_kinds.specs.contracts.entity.Entity as entity;
+    ghost use Rattle.scene_kinds.specs.contracts.cell.Cell as cell;
+    ghost use Rattle.scene_kinds.specs.contracts.shape.Shape as shape;
+    ghost use Rattle.scene_kinds.specs.Entity.{entity_cmp};
+    ghost use Rattle.scene_kinds.specs.Map as map;
+    ghost use Rattle.scene_resources.specs.Resources.{name_cmp};
+    ghost use Rattle.scene_world.specs.World.{World as Whole};
+
+    ghost Value = { Whole };
+
+    ghost coded = { Prim.hlevel (codes, shape.the_row.coded, map.code {R = nat_cmp} coded_ℕ (coded× row.the_row.coded (coded_list row.the_row.coded)), map.code {R = entity_cmp} entity.the_row.coded (coded× entity.the_row.coded (coded_list entity.the_row.coded)), map.code {R = name_cmp} (coded_list coded_ℕ) cell.the_row.coded) };
+
+    ghost use Rattle.scene_world.specs.Stored.{seen, IsSound};
+
+    ghost view = { λ w. seen w.schema w.slots w.tick w.tables.items w.links w.resources };
+
+    ghost invariant = { λ w. IsSound w.schema w.slots w.tick w.tables.items w.links w.resources };
+}
+
+impl World {
+    /// A world without entities, links and resources, of tick 0, with these kinds and at most `limit` slots.
+    /// It takes no memory. `limit` is from 1 to 1,048,576.
+    pub fn new(alloc: Global, schema: Schema, limit: u32) -> Self
+        requires least { 1 ≤ limit }
+        requires most { limit ≤ 1048576 }
+        ensures { result ≡ new_world schema limit }
+    {
+        let _kinds = schema.len();
+        World {
+            alloc,
+            schema,
+            slots: Slots::new(alloc, limit),
+            tick: 0,
+            tables: Vec::new(alloc),
+            links: Links::new(alloc),
+            resources: Resources::new(alloc),
+        }
+    }
+
+    /// The tick of the last frame; 0 in a new world.
+    pub fn tick(&self) -> u64
+        ensures { result ≡ self.now.tick }
+    {
+        self.tick
+    }
+
+    /// Raises the tick by one, as each frame does before its commands. It takes no memory.
+    ///
+    /// Refused: `TickFull` where the tick is the greatest of 64 bits; then the world is as it was.
+    pub fn raise_tick(&mut self) -> Result<(), Refusal>
+        ensures { Gives result self.old self.new (raise_tick self.old) }
+    {
+        if self.tick == u64::MAX {
+            return Err(Refusal::from(Fault::TickFull));
+        }
+        self.tick += 1;
+        Ok(())
+    }
+
+    /// The kinds, with their names and shapes.
+    pub fn schema(&self) -> &Schema
+        ensures { result.now ≡ self.now.schema }
+    {
+        &self.schema
+    }
+
+    /// The generations by index, and the free list.
+    pub fn slots(&self) -> &Slots
+        ensures { result.now ≡ self.now.slots }
+    {
+        &self.slots
+    }
+
+    /// The parents and children.
+    pub fn links(&self) -> &Links
+        ensures { result.now ≡ self.now.children }
+    {
+        &self.links
+    }
+
+    /// The resources.
+    pub fn resources(&self) -> &Resources
+        ensures { result.now ≡ self.now.resources }
+    {
+        &self.resources
+    }
+
+    /// Where the row of an entity stands. Each call that looks for an entity asks here.
+    fn home_of(&self, entity: Entity) -> Option<Home>
+        ensures home { result ≡ home_of self.now entity }
+        ensures row { IfSome result (IsHomeOf self.now entity) }
+        ensures valid { IsValid self.now }
+    {
+        find_home(self.tables.as_slice(), entity)
+    }
+
+    /// Whether an entity is alive: it has a row (docs/MODEL.md, "The rule of archetypes"). It costs a walk over
+    /// the rows.
+    pub fn is_alive(&self, entity: Entity) -> bool
+        ensures { result ≡ is_live self.now entity }
+    {
+        self.home_of(entity).is_some()
+    }
+
+    /// The kind set of a live entity, in which kind k is bit k; else `None`. It costs a walk over the rows.
+    pub fn mask_of(&self, entity: Entity) -> Option<u64>
+        ensures { result ≡ mask_at self.now entity }
+    {
+        let home = self.home_of(entity)?;
+        Some(home.mask)
+    }
+
+    /// A component of an entity, with its ticks. It costs a walk over the rows.
+    ///
+    /// Refused, in this order: `NoSuchEntity` where the entity isn't alive; `NoSuchKind`; `NotPresent` where the
+    /// entity doesn't have the kind. It takes no memory.
+    pub fn get(&self, entity: Entity, kind: u8) -> Result<CellRef<'_>, Refusal>
+        ensures { MatchResult result (λ r. cell_at self.now entity kind ≡ Ok (shown r)) (λ r. cell_at self.now entity kind ≡ Err r) }
+    {
+        let Some(home) = self.home_of(entity) else {
+            return Err(Refusal::from(Fault::NoSuchEntity));
+        };
+        if is_unknown(&self.schema, kind) {
+            return Err(Refusal::from(Fault::NoSuchKind));
+        }
+        match cell_there(self.tables.as_slice(), home, kind) {
+            Some(cell) => Ok(cell),
+            None => Err(Refusal::from(Fault::NotPresent)),
+        }
+    }
+
+    /// The place of a live entity's row in its table, from 0; else `None`. It costs a walk over the rows.
+    pub fn place_of(&self, entity: Entity) -> Option<u32>
+        ensures { result ≡ place_at self.now entity }
+    {
+        let home = self.home_of(entity)?;
+        Some(home.place as u32)
+    }
+
+    /// The table of a kind set, in which kind k is bit k, or `None` where it has no rows. It costs a walk over
+    /// the kind sets.
+    pub fn rows_of(&self, mask: u64) -> Option<&Table>
+        ensures rows { option_map (λ table. table.now.rows) result ≡ rows_of self.now mask }
+        ensures mask { IfSome result (λ table. table.now.mask ≡ mask) }
+    {
+        table_with_rows(self.tables.as_slice(), mask)
+    }
+
+    /// The kind sets that have rows, ascending, or an error where no memory was found. It costs the number of
+    /// kind sets times its logarithm.
+    pub fn tables(&self) -> Result<Vec<u64>, AllocError>
+        ensures { IfOk result (λ sets. sets.items ≡ kind_sets self.now) }
+    {
+        kind_sets_of(self.alloc, self.tables.as_slice())
+    }
+
+    /// An equal world, or an error where no memory was found. It costs a copy of the whole world.
+    pub fn try_clone(&self) -> Result<World, AllocError>
+        ensures { IfOk result (λ copy. copy ≡ self.now) }
+    {
+        let schema = self.schema.try_clone()?;
+        let slots = self.slots.try_clone()?;
+        let tables = clone_tables(self.alloc, self.tables.as_slice())?;
+        let links = self.links.try_clone()?;
+        let resources = self.resources.try_clone()?;
+        Ok(World {
+            alloc: self.alloc,
+            schema,
+            slots,
+            tick: self.tick,
+            tables,
+            links,
+            resources,
+        })
+    }
+}

@@ -1,0 +1,33 @@
+//! Despawning an entity.
+ghost use Rattle.std.specs.Prelude.{◌≡◌};
+ghost use Rattle.scene_kinds.specs.Answers.{Gives};
+ghost use Rattle.scene_world.specs.Commands.{despawn};
+
+use crate::tables::{table_there, take_row};
+use crate::world::World;
+use scene_kinds::{Entity, Fault, Refusal};
+
+impl World {
+    /// Despawns an entity: its row leaves its table, the last row taking its place (docs/MODEL.md, "The rule of
+    /// rows"); its index goes last in the free list with a raised generation, or is retired ("The rule of
+    /// retirement"); and it leaves its parent's list ("The rule of links"). It takes no memory, and costs a walk
+    /// over the rows.
+    ///
+    /// Refused, in this order: `NoSuchEntity` where the entity isn't alive; `HasChildren`. After a refusal the
+    /// world is as it was.
+    pub fn despawn(&mut self, entity: Entity) -> Result<(), Refusal>
+        ensures { Gives result self.old self.new (despawn self.old entity) }
+    {
+        let Some(home) = self.home_of(entity) else {
+            return Err(Refusal::from(Fault::NoSuchEntity));
+        };
+        if !self.links.children_of(entity).is_empty() {
+            return Err(Refusal::from(Fault::HasChildren));
+        }
+        let at = table_there(self.tables.as_slice(), home.mask);
+        let _row = take_row(&mut self.tables, at, home);
+        let _retired = self.slots.release(entity);
+        let _place = self.links.unlink(entity);
+        Ok(())
+    }
+}

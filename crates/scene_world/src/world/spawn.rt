@@ -1,0 +1,57 @@
+//! Spawning an entity.
+ghost use Rattle.std.specs.Prelude.{◌≡◌, ◌≢◌, Ok, Err, IfOk, IfErr, OnErr};
+ghost use Rattle.scene_kinds.specs.Answers.{Answers, refusal_of};
+ghost use Rattle.scene_kinds.specs.Cells.{IsAscending, mask_of};
+ghost use Rattle.scene_kinds.specs.declared.fault.Fault.TheVariants.{NoMemory};
+ghost use Rattle.scene_alloc.specs.Slots.{take_of};
+ghost use Rattle.scene_world.specs.Commands.{spawn};
+ghost use Rattle.scene_world.specs.World.{with_row};
+ghost use Rattle.scene_world.specs.Stored.{tables_of, AreApart};
+
+use crate::given::{new_cells, spawn_fault};
+use crate::tables::{put_row, room_for};
+use crate::world::World;
+use scene_alloc::Slots;
+use scene_kinds::{Cells, Entity, Refusal, Row, Value};
+use scene_table::Table;
+use std::alloc::Global;
+
+/// Takes a slot for a new entity, and puts its row last in the table of its kind set. All growth comes before
+/// the first change that is seen.
+fn spawn_row(alloc: Global, tables: &mut Vec<Table>, slots: &mut Slots, mask: u64, cells: Cells) -> Result<Entity, Refusal>
+    requires mask { mask ≡ mask_of cells }
+    requires ascending { IsAscending cells }
+    ensures made { IfOk result (λ e. take_of slots.old ≡ Ok (e, slots.new)) }
+    ensures rows { IfOk result (λ e. tables_of tables.new.items ≡ with_row (tables_of tables.old.items) (record { entity = e; cells = cells })) }
+    ensures slots { OnErr result (slots.new ≡ slots.old) }
+    ensures seen { OnErr result (tables_of tables.new.items ≡ tables_of tables.old.items) }
+    ensures refused { IfErr result (λ r. r ≢ refusal_of NoMemory → take_of slots.old ≡ Err r) }
+    ensures apart { AreApart tables.old.items → AreApart tables.new.items }
+{
+    let at = room_for(alloc, tables, mask)?;
+    let entity = slots.take()?;
+    put_row(tables, at, Row { entity, cells });
+    Ok(entity)
+}
+
+impl World {
+    /// Spawns an entity with these components, each with its kind, and gives it. It takes the index that was
+    /// freed last, else a new one (docs/MODEL.md, "The rule of reuse"); its row goes last in the table of its
+    /// kind set ("The rule of rows"), and both ticks of each component are the world's ("The rule of ticks").
+    ///
+    /// Refused, in this order, each being tried over all components before the next one: `NoSuchKind`;
+    /// `DuplicateKind` where a kind is given twice; `WrongShape`; `EntitiesFull` where no index is free and the
+    /// slots are as many as the limit; `NoMemory`. After a refusal the world is as it was, and the components
+    /// are dropped.
+    pub fn spawn(&mut self, cells: Vec<(u8, Value)>) -> Result<Entity, Refusal>
+        ensures { Answers result self.old self.new (spawn self.old cells.items) }
+    {
+        if let Some(fault) = spawn_fault(&self.schema, cells.as_slice()) {
+            return Err(Refusal::from(fault));
+        }
+        let cells = new_cells(self.alloc, self.tick, cells)?;
+        let mask = cells.mask();
+        let entity = spawn_row(self.alloc, &mut self.tables, &mut self.slots, mask, cells)?;
+        Ok(entity)
+    }
+}
