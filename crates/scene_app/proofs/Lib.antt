@@ -1,0 +1,7 @@
+pub mod LineLaws
+pub mod NumberLaws
+pub mod ShowLaws
+pub mod Slices
+pub mod TargetLaws
+pub mod WordLaws
+pub mod Writes

@@ -1,0 +1,10 @@
+pub mod Begins
+pub mod Cells
+pub mod Fault
+pub mod Known
+pub mod Numbers
+pub mod Play
+pub mod Printed
+pub mod Script
+pub mod Shown
+pub mod Words

@@ -1,0 +1,184 @@
+-- A script as a function of its lines: the setup, the machine of saved worlds line by line, and the printed text.
+use Rattle.std.specs.Prelude.{◌≡◌, ℕ, ◌+◌, List, [], ◌∷◌, ◌++◌, Option, Some, None, Result, Ok, Err, option_map, codes}
+use Rattle.std.specs.Str.Lines.{lines}
+use Rattle.scene_kinds.specs.declared.entity.Entity.{Entity}
+use Rattle.scene_kinds.specs.declared.fault.Fault.{Fault}
+use Rattle.scene_kinds.specs.declared.fault.Fault.TheVariants.{NoSuchEntity, BadLocal, NoMemory}
+use Rattle.scene_kinds.specs.declared.refusal.Refusal.{Refusal}
+use Rattle.scene_kinds.specs.declared.refusal.Place.{Place}
+use Rattle.scene_kinds.specs.declared.shape.Shape.{Shape}
+use Rattle.scene_kinds.specs.Answers.{Outcome, refuse, refusal_of}
+use Rattle.scene_kinds.specs.Entity.{entity_text}
+use Rattle.scene_kinds.specs.Fault.{refusal_text}
+use Rattle.scene_kinds.specs.Schema.{Kinds, with_kind}
+use Rattle.scene_world.specs.World.{World, new_world, row_of}
+use Rattle.scene_world.specs.Commands.{and_then, raise_tick, spawn, despawn, insert, remove}
+use Rattle.scene_world.specs.Machine.{Machine, opening, submitted, undo, redo}
+use Rattle.scene_kinds.specs.declared.cells.Row.{Row}
+use Rattle.scene_app.specs.declared.target.TargetWord.{TargetWord}
+use Rattle.scene_app.specs.declared.target.TargetWord.TheVariants as target
+use Rattle.scene_app.specs.declared.command.Command.{Command}
+use Rattle.scene_app.specs.declared.command.Command.TheVariants.{Spawn, Insert, Despawn, Remove}
+use Rattle.scene_app.specs.declared.script_line.Line.{Line}
+use Rattle.scene_app.specs.declared.script_line.Line.TheVariants.{Empty, Bad, Kind, Slots, Do, Undo, Redo, Show, Get}
+use Rattle.scene_app.specs.Printed.{row_text}
+use Rattle.scene_app.specs.Script.{line_in}
+use Rattle.scene_app.specs.Shown.{show_text}
+
+-- ---- commands and frames
+
+-- the entity that a command spawned, if it is a spawn
+abbrev pub spawned_one : Outcome Entity World → Outcome (Option Entity) World
+spawned_one (Ok p) = Ok (Some p.0, p.1)
+spawned_one (Err r) = Err r
+
+abbrev pub spawned_none : {A : Type 0} → Outcome A World → Outcome (Option Entity) World
+spawned_none (Ok p) = Ok (None, p.1)
+spawned_none (Err r) = Err r
+
+-- a frame of one command has spawned nothing before it, so no target is local to it
+abbrev pub target_of : TargetWord → Result Entity Refusal
+target_of (target.Entity e) = Ok e
+target_of (target.New k) = Err (refusal_of BadLocal)
+
+abbrev pub on_entity : {A : Type 0} → Result Entity Refusal → (Entity → Outcome A World) → Outcome (Option Entity) World
+on_entity (Ok e) command = spawned_none (command e)
+on_entity (Err r) command = Err r
+
+abbrev pub done : Command → World → Outcome (Option Entity) World
+done (Spawn cells) w = spawned_one (spawn w cells)
+done (Insert t kind value) w = on_entity (target_of t) (λ e. insert w e kind value)
+done (Despawn t) w = on_entity (target_of t) (despawn w)
+done (Remove t kind) w = on_entity (target_of t) (λ e. remove w e kind)
+
+-- the only place in a frame of one command
+abbrev pub first_place : Place
+first_place = record { phase = 0; queue = 0; command = 0 }
+
+-- a refusal of a frame of one command says its place; want of memory, which no command of the model finds, has none
+abbrev pub fault_at : Fault → Refusal
+fault_at NoMemory = refusal_of NoMemory
+fault_at fault = record { fault = fault; place = Some first_place }
+
+abbrev pub frame_refusal : Refusal → Refusal
+frame_refusal r = fault_at r.fault
+
+abbrev pub placed : {A : Type 0} → Outcome A World → Outcome A World
+placed (Ok p) = Ok p
+placed (Err r) = Err (frame_refusal r)
+
+-- a frame of one command: the tick is raised, then the command is done, its refusal with its place
+abbrev pub frame : Command → World → Outcome (Option Entity) World
+frame command w = and_then (raise_tick w) (λ a v. placed (done command v))
+
+-- ---- the answer of a line
+
+abbrev pub made_text : Option Entity → List ℕ
+made_text None = codes "done\n"
+made_text (Some e) = codes "done " ++ (entity_text e.index e.generation ++ codes "\n")
+
+abbrev pub refused_text : Refusal → List ℕ
+refused_text r = codes "refused " ++ (refusal_text r ++ codes "\n")
+
+abbrev pub row_answer : Kinds → Option Row → List ℕ
+row_answer kinds None = refused_text (refusal_of NoSuchEntity)
+row_answer kinds (Some row) = row_text kinds row ++ codes "\n"
+
+-- what a line prints, whether it is bad, and the machine after it
+pub record Reply : Type 0 where
+  pub text : List ℕ
+  pub bad : ℕ
+  pub machine : Machine World
+
+-- what a body that answers a line did: it added the text, so many lines are bad, and this is the machine after it
+abbrev pub Replies : (old new : List ℕ) → Machine World → ℕ → Reply → Type 0
+Replies old new machine bad r = (new ≡ old ++ r.text) × (machine ≡ r.machine) × (bad ≡ r.bad)
+
+abbrev pub undone_text : Unit {0} → List ℕ
+undone_text a = codes "undone\n"
+
+abbrev pub redone_text : Unit {0} → List ℕ
+redone_text a = codes "redone\n"
+
+-- the answer of a call, by the text of an accepted one
+abbrev pub answered : {A : Type 0} → Machine World → (A → List ℕ) → Outcome A (Machine World) → Reply
+answered m text (Ok p) = record { text = text p.0; bad = 0; machine = p.1 }
+answered m text (Err r) = record { text = refused_text r; bad = 0; machine = m }
+
+abbrev pub bad_reply : Machine World → Reply
+bad_reply m = record { text = codes "bad line\n"; bad = 1; machine = m }
+
+-- a line after the setup
+abbrev pub reply : Machine World → Line → Reply
+reply m Empty = record { text = []; bad = 0; machine = m }
+reply m Bad = bad_reply m
+reply m (Kind name shape) = bad_reply m
+reply m (Slots n) = bad_reply m
+reply m (Do command) = answered m made_text (submitted m (frame command m.now))
+reply m Undo = answered m undone_text (undo m)
+reply m Redo = answered m redone_text (redo m)
+reply m Show = record { text = show_text m.now; bad = 0; machine = m }
+reply m (Get e) = record { text = row_answer m.now.schema (option_map (λ p. p.1) (row_of m.now e)); bad = 0; machine = m }
+
+-- ---- the run
+
+-- what a run prints, and how many of its lines are bad
+pub record Printed : Type 0 where
+  pub text : List ℕ
+  pub bad : ℕ
+
+abbrev pub nothing : Printed
+nothing = record { text = []; bad = 0 }
+
+-- a text, perhaps of a bad line, before the rest
+abbrev pub and_more : List ℕ → ℕ → Printed → Printed
+and_more text bad rest = record { text = text ++ rest.text; bad = bad + rest.bad }
+
+-- the lines after the setup, one after another
+abbrev pub run_from : Machine World → List (List ℕ) → Printed
+run_from m [] = nothing
+run_from m (l ∷ ls) = let r : Reply = reply m (line_in m.now.schema l) in and_more r.text r.bad (run_from r.machine ls)
+
+-- what a body that plays lines did: it added their text, and so many are bad
+abbrev pub Prints : (old new : List ℕ) → ℕ → Printed → Type 0
+Prints old new bad p = (new ≡ old ++ p.text) × (bad ≡ p.bad)
+
+-- the answer of a declaration, and the kinds after it
+abbrev pub kind_text : Outcome ℕ Kinds → List ℕ
+kind_text (Ok p) = codes "ok\n"
+kind_text (Err r) = refused_text r
+
+abbrev pub kinds_after : Kinds → Outcome ℕ Kinds → Kinds
+kinds_after kinds (Ok p) = p.1
+kinds_after kinds (Err r) = kinds
+
+abbrev pub declared_text : Kinds → List ℕ → Shape → List ℕ
+declared_text kinds name shape = kind_text (with_kind kinds name shape)
+
+abbrev pub after_kind : Kinds → List ℕ → Shape → Kinds
+after_kind kinds name shape = kinds_after kinds (with_kind kinds name shape)
+
+-- a line of the setup, or else the run begins with it; a bad line, an empty one and a comment don't end the setup
+abbrev pub setup_line : Kinds → ℕ → (Kinds → ℕ → Printed) → Printed → Line → Printed
+setup_line kinds limit rest begin Empty = rest kinds limit
+setup_line kinds limit rest begin Bad = and_more (codes "bad line\n") 1 (rest kinds limit)
+setup_line kinds limit rest begin (Kind name shape) = and_more (declared_text kinds name shape) 0 (rest (after_kind kinds name shape) limit)
+setup_line kinds limit rest begin (Slots n) = and_more (codes "ok\n") 0 (rest kinds n)
+setup_line kinds limit rest begin line = begin
+
+-- the lines from the start, with the kinds and the slot limit so far
+abbrev pub setup_from : Kinds → ℕ → List (List ℕ) → Printed
+setup_from kinds limit [] = nothing
+setup_from kinds limit (l ∷ ls) =
+    setup_line kinds limit (λ k n. setup_from k n ls) (run_from (opening (new_world kinds limit)) (l ∷ ls)) (line_in kinds l)
+
+abbrev pub printed : List ℕ → Printed
+printed script = setup_from [] 1048576 (lines script)
+
+-- what a script prints
+abbrev pub output : List ℕ → List ℕ
+output script = (printed script).text
+
+-- how many of its lines are bad
+abbrev pub bad_count : List ℕ → ℕ
+bad_count script = (printed script).bad

@@ -1,0 +1,60 @@
+-- How a world prints.
+use Rattle.std.specs.Prelude.{ℕ, ◌+◌, ◌/◌, ◌%◌, ◌^◌, List, [], ◌∷◌, ◌++◌, Bool, Option, Some, None, if◌then◌else◌, nat_eq, codes, decimal}
+use Rattle.scene_kinds.specs.declared.cells.Row.{Row}
+use Rattle.scene_kinds.specs.Schema.{Kinds, name_of}
+use Rattle.scene_world.specs.World.{World, kind_sets, rows_at}
+use Rattle.scene_app.specs.Printed.{row_text}
+
+-- numbers, each after a space (32)
+abbrev pub numbers_text : List ℕ → List ℕ
+numbers_text [] = []
+numbers_text (n ∷ ns) = 32 ∷ (decimal n ++ numbers_text ns)
+
+-- whether a kind set has kind k, which is bit k
+abbrev pub has_kind : ℕ → ℕ → Bool
+has_kind mask k = nat_eq (mask / 2 ^ k % 2) 1
+
+-- the name of a kind that a kind set has
+abbrev pub name_in : Kinds → ℕ → ℕ → Option (List ℕ)
+name_in kinds mask k = if has_kind mask k then name_of kinds k else None
+
+-- a name that may be there, as a list
+abbrev pub one_name : Option (List ℕ) → List (List ℕ)
+one_name None = []
+one_name (Some name) = name ∷ []
+
+-- the names of the kinds from number k on that a kind set has
+abbrev pub names_from : Kinds → ℕ → ℕ → List (List ℕ)
+names_from [] k mask = []
+names_from (s ∷ ss) k mask = if has_kind mask k then s.0 ∷ names_from ss (k + 1) mask else names_from ss (k + 1) mask
+
+-- names, each after a comma (44)
+abbrev pub more_names : List (List ℕ) → List ℕ
+more_names [] = []
+more_names (n ∷ ns) = 44 ∷ (n ++ more_names ns)
+
+-- names with commas between them, - for none
+abbrev pub names_text : List (List ℕ) → List ℕ
+names_text [] = codes "-"
+names_text (n ∷ ns) = n ++ more_names ns
+
+-- rows, a line each (10 ends a line)
+abbrev pub rows_text : Kinds → List Row → List ℕ
+rows_text kinds [] = []
+rows_text kinds (r ∷ rs) = row_text kinds r ++ (10 ∷ rows_text kinds rs)
+
+-- a kind set by its names, and its rows
+abbrev pub table_text : Kinds → ℕ → List Row → List ℕ
+table_text kinds mask rows = codes "table " ++ (names_text (names_from kinds 0 mask) ++ (10 ∷ rows_text kinds rows))
+
+-- the tables of kind sets
+abbrev pub tables_text : World → List ℕ → List ℕ
+tables_text w [] = []
+tables_text w (mask ∷ masks) = table_text w.schema mask (rows_at w.tables mask) ++ tables_text w masks
+
+-- the tick, the generations, the free list and the tables of the kind sets with rows, ascending; no line of this stage makes
+-- links or resources
+abbrev pub show_text : World → List ℕ
+show_text w =
+    codes "tick " ++ (decimal w.tick ++ (codes "\ngens" ++ (numbers_text w.slots.generations
+    ++ (codes "\nfree" ++ (numbers_text w.slots.free ++ (codes "\n" ++ tables_text w (kind_sets w)))))))

@@ -1,0 +1,138 @@
+//! The answer to one line after the setup.
+ghost use Rattle.std.specs.Prelude.{◌≡◌, ◌≢◌, ◌++◌, ◌≤◌, OnOk, IfOk, string_bytes, option_map};
+ghost use Rattle.scene_kinds.specs.Answers.{refusal_of};
+ghost use Rattle.scene_kinds.specs.declared.fault.Fault.TheVariants.{NoMemory};
+ghost use Rattle.scene_world.specs.Machine.{submitted, undo, redo};
+ghost use Rattle.scene_world.specs.World.{row_of};
+ghost use Rattle.scene_app.specs.Play.{Replies, reply, answered, frame, made_text, refused_text, row_answer, undone_text, redone_text};
+
+use crate::command::Command;
+use crate::print::write_row;
+use crate::saved::Saved;
+use crate::script_line::Line;
+use crate::show::{row_of, write_show};
+use scene_kinds::{Entity, Fault, Refusal};
+use scene_world::World;
+use std::alloc::{AllocError, Global};
+
+/// Adds a refusal.
+fn write_refused(out: &mut String, refusal: Refusal) -> Result<(), AllocError>
+    ensures { OnOk result (string_bytes out.new ≡ string_bytes out.old ++ refused_text refusal) }
+{
+    write!(out, "refused {refusal}\n")?;
+    Ok(())
+}
+
+/// Adds a refusal of the machine; want of memory is no answer, and ends the run.
+pub(crate) fn write_answer(out: &mut String, refusal: Refusal) -> Result<(), AllocError>
+    ensures text { OnOk result (string_bytes out.new ≡ string_bytes out.old ++ refused_text refusal) }
+    ensures memory { OnOk result (refusal ≢ refusal_of NoMemory) }
+{
+    match refusal.fault {
+        Fault::NoMemory => Err(AllocError),
+        _ => write_refused(out, refusal),
+    }
+}
+
+/// Adds what a frame made.
+fn write_made(out: &mut String, made: Option<Entity>) -> Result<(), AllocError>
+    ensures { OnOk result (string_bytes out.new ≡ string_bytes out.old ++ made_text made) }
+{
+    match made {
+        None => out.push_str("done\n"),
+        Some(entity) => {
+            write!(out, "done {entity}\n")?;
+            Ok(())
+        }
+    }
+}
+
+/// A frame of one command.
+fn answer_command(out: &mut String, machine: &mut Saved, command: Command) -> Result<(), AllocError>
+    ensures { OnOk result (Replies (string_bytes out.old) (string_bytes out.new) machine.new 0
+        (answered machine.old made_text (submitted machine.old (frame command machine.old.now)))) }
+{
+    match machine.submit(command) {
+        Ok(made) => write_made(out, made),
+        Err(refusal) => write_answer(out, refusal),
+    }
+}
+
+/// `undo`.
+fn answer_undo(out: &mut String, machine: &mut Saved) -> Result<(), AllocError>
+    ensures { OnOk result (Replies (string_bytes out.old) (string_bytes out.new) machine.new 0
+        (answered machine.old undone_text (undo machine.old))) }
+{
+    match machine.undo() {
+        Ok(()) => out.push_str("undone\n"),
+        Err(refusal) => write_answer(out, refusal),
+    }
+}
+
+/// `redo`.
+fn answer_redo(out: &mut String, machine: &mut Saved) -> Result<(), AllocError>
+    ensures { OnOk result (Replies (string_bytes out.old) (string_bytes out.new) machine.new 0
+        (answered machine.old redone_text (redo machine.old))) }
+{
+    match machine.redo() {
+        Ok(()) => out.push_str("redone\n"),
+        Err(refusal) => write_answer(out, refusal),
+    }
+}
+
+/// `get`.
+fn answer_get(
+    alloc: Global,
+    out: &mut String,
+    world: &World,
+    entity: Entity,
+) -> Result<(), AllocError>
+    ensures { OnOk result (string_bytes out.new ≡ string_bytes out.old ++ row_answer world.now.schema (option_map (λ p. p.1) (row_of world.now entity))) }
+{
+    match row_of(world, entity) {
+        None => write_refused(out, Refusal::from(Fault::NoSuchEntity)),
+        Some(row) => {
+            write_row(alloc, out, world.schema(), row)?;
+            out.push('\n')
+        }
+    }
+}
+
+/// Answers a line after the setup, and gives how many bad lines it is.
+pub(crate) fn answer(
+    alloc: Global,
+    out: &mut String,
+    machine: &mut Saved,
+    line: Line,
+) -> Result<usize, AllocError>
+    ensures reply { IfOk result (λ bad. Replies (string_bytes out.old) (string_bytes out.new) machine.new bad (reply machine.old line)) }
+    ensures one { IfOk result (λ bad. bad ≤ 1) }
+{
+    match line {
+        Line::Empty => Ok(0),
+        Line::Bad | Line::Kind(..) | Line::Slots(_) => {
+            out.push_str("bad line\n")?;
+            Ok(1)
+        }
+        Line::Do(command) => {
+            answer_command(out, machine, command)?;
+            Ok(0)
+        }
+        Line::Undo => {
+            answer_undo(out, machine)?;
+            Ok(0)
+        }
+        Line::Redo => {
+            answer_redo(out, machine)?;
+            Ok(0)
+        }
+        Line::Show => {
+            write_show(alloc, out, machine.now())?;
+            Ok(0)
+        }
+        Line::Get(entity) => {
+            answer_get(alloc, out, machine.now(), entity)?;
+            Ok(0)
+        }
+    }
+}

@@ -1,0 +1,103 @@
+//! A whole script: the setup, and then line after line on the machine of saved worlds.
+ghost use Rattle.std.specs.Prelude.{◌≡◌, ◌++◌, ◌≤◌, OnOk, IfOk, length, string_bytes};
+ghost use Rattle.std.specs.Str.Lines.{lines};
+ghost use Rattle.scene_world.specs.Machine.{opening};
+ghost use Rattle.scene_app.specs.Play.{Prints, run_from, printed, declared_text, after_kind};
+
+use crate::answer::{answer, write_answer};
+use crate::line::first_line;
+use crate::saved::Saved;
+use crate::script_line::{Line, SlotLimit, read_line};
+use scene_kinds::{Schema, Shape};
+use scene_world::World;
+use std::alloc::{AllocError, Global};
+
+/// Plays lines on a machine, and gives how many are bad.
+fn play_lines(
+    alloc: Global,
+    machine: &mut Saved,
+    script: &[u8],
+    out: &mut String,
+) -> Result<usize, AllocError>
+    ensures printed { IfOk result (λ bad. Prints (string_bytes out.old) (string_bytes out.new) bad (run_from machine.old (lines script.now))) }
+    ensures few { IfOk result (λ bad. bad ≤ length script.now) }
+{
+    let mut rest = script;
+    let mut bad = 0;
+    'lines: while !rest.is_empty() {
+        let (bytes, after) = first_line(rest);
+        let line = read_line(alloc, machine.now().schema(), bytes)?;
+        bad += answer(alloc, out, machine, line)?;
+        rest = after;
+    }
+    Ok(bad)
+}
+
+/// Plays the lines after the setup, and gives how many are bad.
+fn play_run(
+    alloc: Global,
+    world: World,
+    script: &[u8],
+    out: &mut String,
+) -> Result<usize, AllocError>
+    ensures printed { IfOk result (λ bad. Prints (string_bytes out.old) (string_bytes out.new) bad (run_from (opening world) (lines script.now))) }
+    ensures few { IfOk result (λ bad. bad ≤ length script.now) }
+{
+    let mut machine = Saved::new(alloc, world);
+    play_lines(alloc, &mut machine, script, out)
+}
+
+/// Declares a kind, and adds the answer.
+fn declare(
+    alloc: Global,
+    out: &mut String,
+    schema: &mut Schema,
+    name: &str,
+    shape: Shape,
+) -> Result<(), AllocError>
+    ensures text { OnOk result (string_bytes out.new ≡ string_bytes out.old ++ declared_text schema.old name.now shape) }
+    ensures kinds { OnOk result (schema.new ≡ after_kind schema.old name.now shape) }
+{
+    let name = String::from_str(alloc, name)?;
+    match schema.add(name, shape) {
+        Ok(_) => out.push_str("ok\n"),
+        Err(refusal) => write_answer(out, refusal),
+    }
+}
+
+/// Plays a script from its first line, adds what it prints, and gives how many of its lines are bad
+/// (docs/SCRIPTS.md, "Lines").
+///
+/// The first line that is no `kind` or `slots`, not empty and not bad ends the setup, and is played itself. Want
+/// of memory ends it with an error, and then a part of the text may be there. Each frame costs a copy of the
+/// world.
+pub fn play_script(alloc: Global, script: &[u8], out: &mut String) -> Result<usize, AllocError>
+    ensures printed { IfOk result (λ bad. Prints (string_bytes out.old) (string_bytes out.new) bad (printed script.now)) }
+    ensures few { IfOk result (λ bad. bad ≤ length script.now) }
+{
+    let mut schema = Schema::new(alloc);
+    let mut limit = SlotLimit::most();
+    let mut rest = script;
+    let mut bad = 0;
+    'lines: while !rest.is_empty() {
+        let (bytes, after) = first_line(rest);
+        match read_line(alloc, &schema, bytes)? {
+            Line::Empty => {}
+            Line::Bad => {
+                out.push_str("bad line\n")?;
+                bad += 1;
+            }
+            Line::Kind(name, shape) => declare(alloc, out, &mut schema, name.as_str(), shape)?,
+            Line::Slots(slots) => {
+                out.push_str("ok\n")?;
+                limit = slots;
+            }
+            _ => {
+                let world = World::new(alloc, schema, limit.get());
+                return Ok(bad + play_run(alloc, world, rest, out)?);
+            }
+        }
+        rest = after;
+    }
+    Ok(bad)
+}

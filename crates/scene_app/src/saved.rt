@@ -1,0 +1,168 @@
+//! The machine of saved worlds: each accepted frame keeps the world before it.
+ghost use Rattle.std.specs.Prelude.{◌≡◌, ◌≢◌, Ok, Err, None, MatchResult};
+ghost use Rattle.scene_kinds.specs.Answers.{Answers, Outcome, refusal_of};
+ghost use Rattle.scene_kinds.specs.declared.fault.Fault.TheVariants.{NoMemory};
+ghost use Rattle.scene_kinds.specs.declared.refusal.Refusal.{Refusal as Refused};
+ghost use Rattle.scene_world.specs.Machine.{opening, submitted, undo, redo};
+ghost use Rattle.scene_app.specs.Play.{done, frame, frame_refusal, target_of};
+
+use crate::command::Command;
+use crate::target::TargetWord;
+use scene_kinds::{Entity, Fault, Place, Refusal};
+use scene_world::World;
+use std::alloc::Global;
+use std::marker::Model;
+
+/// A world with the worlds to which undo and redo return, each kept whole. Each vector is a stack whose last
+/// world is the next to return to; contracts see both with that world first.
+#[derive(Drop)]
+pub(crate) struct Saved {
+    past: Vec<World>,
+    now: World,
+    future: Vec<World>,
+    rewinds: u64,
+}
+
+impl Model for Saved {
+    ghost use mathlib.Core.List.{reverse};
+    ghost use Rattle.scene_world.specs.World.{World as Whole};
+    ghost use Rattle.scene_world.specs.Machine.{Machine};
+
+    ghost Value = { Machine Whole };
+
+    ghost view = { λ s. record { past = reverse s.past.items; now = s.now; future = reverse s.future.items; rewinds = s.rewinds } };
+}
+
+/// The entity of a target in a frame of one command, which has spawned none before it.
+fn entity_of(target: TargetWord) -> Result<Entity, Refusal>
+    ensures { result ≡ target_of target }
+{
+    match target {
+        TargetWord::Entity(entity) => Ok(entity),
+        TargetWord::New(_) => Err(Refusal::from(Fault::BadLocal)),
+    }
+}
+
+/// Does a command.
+fn do_command(world: &mut World, command: Command) -> Result<Option<Entity>, Refusal>
+    ensures { Answers result world.old world.new (done command world.old) }
+{
+    match command {
+        Command::Spawn(cells) => {
+            let entity = world.spawn(cells.into_vec())?;
+            Ok(Some(entity))
+        }
+        Command::Insert(target, kind, value) => {
+            let entity = entity_of(target)?;
+            world.insert(entity, kind, value)?;
+            Ok(None)
+        }
+        Command::Despawn(target) => {
+            let entity = entity_of(target)?;
+            world.despawn(entity)?;
+            Ok(None)
+        }
+        Command::Remove(target, kind) => {
+            let entity = entity_of(target)?;
+            let _value = world.remove(entity, kind)?;
+            Ok(None)
+        }
+    }
+}
+
+/// A refusal with its place in a frame of one command. Want of memory has none.
+fn placed(refusal: Refusal) -> Refusal
+    ensures { result ≡ frame_refusal refusal }
+{
+    match refusal.fault {
+        Fault::NoMemory => Refusal::from(Fault::NoMemory),
+        fault => Refusal {
+            fault,
+            place: Some(Place {
+                phase: 0,
+                queue: 0,
+                command: 0,
+            }),
+        },
+    }
+}
+
+/// Does a frame of one command on a world that is dropped where the frame is refused.
+fn do_frame(world: &mut World, command: Command) -> Result<Option<Entity>, Refusal>
+    ensures { MatchResult result (λ a. frame command world.old ≡ Ok (a, world.new)) (λ r. r ≢ refusal_of NoMemory → frame command world.old ≡ Err r) }
+{
+    world.raise_tick()?;
+    match do_command(world, command) {
+        Ok(made) => Ok(made),
+        Err(refusal) => Err(placed(refusal)),
+    }
+}
+
+impl Saved {
+    /// A machine without frames.
+    pub(crate) fn new(alloc: Global, now: World) -> Self
+        ensures { result ≡ opening now }
+    {
+        Saved {
+            past: Vec::new(alloc),
+            now,
+            future: Vec::new(alloc),
+            rewinds: 0,
+        }
+    }
+
+    /// The world now.
+    pub(crate) fn now(&self) -> &World
+        ensures { result.now ≡ self.entry.now.now }
+    {
+        &self.now
+    }
+
+    /// Does a frame of one command: the world before it is kept, and what was undone is forgotten. It costs a copy
+    /// of the world.
+    pub(crate) fn submit(&mut self, command: Command) -> Result<Option<Entity>, Refusal>
+        ensures { Answers result self.old self.new (submitted self.old (frame command self.old.now)) }
+    {
+        let mut next = self.now.try_clone()?;
+        let made = do_frame(&mut next, command)?;
+        self.past.reserve(1)?;
+        let before = std::mem::replace(&mut self.now, next);
+        self.past.push_reserved(before);
+        self.future.clear();
+        Ok(made)
+    }
+
+    /// Takes the newest frame back.
+    pub(crate) fn undo(&mut self) -> Result<(), Refusal>
+        ensures { Answers result self.old self.new (undo self.old) }
+    {
+        if self.past.is_empty() {
+            return Err(Refusal::from(Fault::NothingToUndo));
+        }
+        if self.rewinds == u64::MAX {
+            return Err(Refusal::from(Fault::TickFull));
+        }
+        self.future.reserve(1)?;
+        if let Some(before) = self.past.pop() {
+            let after = std::mem::replace(&mut self.now, before);
+            self.future.push_reserved(after);
+            self.rewinds += 1;
+        }
+        Ok(())
+    }
+
+    /// Does the newest undone frame again.
+    pub(crate) fn redo(&mut self) -> Result<(), Refusal>
+        ensures { Answers result self.old self.new (redo self.old) }
+    {
+        if self.future.is_empty() {
+            return Err(Refusal::from(Fault::NothingToRedo));
+        }
+        self.past.reserve(1)?;
+        if let Some(after) = self.future.pop() {
+            let before = std::mem::replace(&mut self.now, after);
+            self.past.push_reserved(before);
+        }
+        Ok(())
+    }
+}

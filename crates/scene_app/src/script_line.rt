@@ -1,0 +1,244 @@
+//! What a line of a script says.
+ghost use Rattle.std.specs.Prelude.{◌≡◌, ◌≤◌, IfOk, map};
+ghost use Rattle.scene_app.specs.Script.{limit_of, line_in, line_of_words, named_line, kind_line, slots_line, cells_in, spawn_line, insert_line, despawn_line, remove_line, get_line, lone};
+
+use crate::cell_word::{read_cell, read_shape};
+use crate::command::{Command, Given};
+use crate::number::{read_count, read_entity};
+use crate::target::read_target;
+use crate::word::words;
+use scene_kinds::{Entity, Schema, Shape, Text};
+use std::alloc::{AllocError, Global};
+use std::marker::Model;
+
+/// A slot limit, from 1 to 1,048,576.
+#[derive(Drop)]
+pub struct SlotLimit {
+    slots: u32,
+}
+
+impl Model for SlotLimit {
+    ghost use Rattle.std.specs.Prelude.{ℕ, ◌≤◌};
+
+    ghost Value = { ℕ };
+
+    ghost view = { λ l. l.slots };
+
+    ghost invariant = { λ l. (1 ≤ l.slots) × (l.slots ≤ 1048576) };
+}
+
+impl SlotLimit {
+    /// The greatest limit, which holds where a script gives none.
+    pub fn most() -> Self
+        ensures { result ≡ 1048576 }
+    {
+        SlotLimit { slots: 1_048_576 }
+    }
+
+    /// The limit of a number, or `None` only where it is 0 or above 1,048,576.
+    pub fn new(slots: u32) -> Option<Self>
+        ensures { result ≡ limit_of slots }
+    {
+        if 0 < slots && slots <= 1_048_576 {
+            Some(SlotLimit { slots })
+        } else {
+            None
+        }
+    }
+
+    /// The limit as a number.
+    pub fn get(&self) -> u32
+        ensures slots { result ≡ self.now }
+        ensures least { 1 ≤ result }
+        ensures most { result ≤ 1048576 }
+    {
+        self.slots
+    }
+}
+
+/// The meaning of a line (docs/SCRIPTS.md, "Lines").
+#[derive(Drop)]
+pub enum Line {
+    /// No words, or a comment.
+    Empty,
+    /// No form of the language.
+    Bad,
+    /// A kind is declared: its name and its shape.
+    Kind(Text, Shape),
+    /// The slot limit.
+    Slots(SlotLimit),
+    /// A frame of one command.
+    Do(Command),
+    Undo,
+    Redo,
+    Show,
+    Get(Entity),
+}
+
+/// `kind NAME SHAPE`.
+fn kind_line(alloc: Global, rest: &[&str]) -> Result<Line, AllocError>
+    ensures { IfOk result (λ line. line ≡ kind_line (map (λ w. w.now) rest.now)) }
+{
+    let [name, shape] = rest else {
+        return Ok(Line::Bad);
+    };
+    match read_shape(shape) {
+        None => Ok(Line::Bad),
+        Some(shape) => Ok(Line::Kind(Text::from_string(String::from_str(alloc, name)?), shape)),
+    }
+}
+
+/// `slots N`.
+fn slots_line(rest: &[&str]) -> Line
+    ensures { result ≡ slots_line (map (λ w. w.now) rest.now) }
+{
+    let [word] = rest else {
+        return Line::Bad;
+    };
+    let Some(slots) = read_count(word) else {
+        return Line::Bad;
+    };
+    match SlotLimit::new(slots) {
+        Some(limit) => Line::Slots(limit),
+        None => Line::Bad,
+    }
+}
+
+/// The components that words name, or `None` where one names none.
+fn read_cells(alloc: Global, schema: &Schema, rest: &[&str]) -> Result<Option<Given>, AllocError>
+    ensures { IfOk result (λ cells. cells ≡ cells_in schema.now (map (λ w. w.now) rest.now)) }
+{
+    let mut cells = Vec::new(alloc);
+    for word in rest {
+        match read_cell(alloc, schema, word)? {
+            None => return Ok(None),
+            Some(cell) => cells.push(cell)?,
+        }
+    }
+    Ok(Some(Given::from_vec(cells)))
+}
+
+/// `spawn CELL..`.
+fn spawn_line(alloc: Global, schema: &Schema, rest: &[&str]) -> Result<Line, AllocError>
+    ensures { IfOk result (λ line. line ≡ spawn_line schema.now (map (λ w. w.now) rest.now)) }
+{
+    match read_cells(alloc, schema, rest)? {
+        None => Ok(Line::Bad),
+        Some(cells) => Ok(Line::Do(Command::Spawn(cells))),
+    }
+}
+
+/// `insert T CELL`.
+fn insert_line(alloc: Global, schema: &Schema, rest: &[&str]) -> Result<Line, AllocError>
+    ensures { IfOk result (λ line. line ≡ insert_line schema.now (map (λ w. w.now) rest.now)) }
+{
+    let [target, cell] = rest else {
+        return Ok(Line::Bad);
+    };
+    let Some(target) = read_target(target) else {
+        return Ok(Line::Bad);
+    };
+    match read_cell(alloc, schema, cell)? {
+        None => Ok(Line::Bad),
+        Some((kind, value)) => Ok(Line::Do(Command::Insert(target, kind, value))),
+    }
+}
+
+/// `despawn T`.
+fn despawn_line(rest: &[&str]) -> Line
+    ensures { result ≡ despawn_line (map (λ w. w.now) rest.now) }
+{
+    let [target] = rest else {
+        return Line::Bad;
+    };
+    match read_target(target) {
+        None => Line::Bad,
+        Some(target) => Line::Do(Command::Despawn(target)),
+    }
+}
+
+/// `remove T NAME`.
+fn remove_line(schema: &Schema, rest: &[&str]) -> Line
+    ensures { result ≡ remove_line schema.now (map (λ w. w.now) rest.now) }
+{
+    let [target, name] = rest else {
+        return Line::Bad;
+    };
+    let Some(target) = read_target(target) else {
+        return Line::Bad;
+    };
+    match schema.number_of(name) {
+        None => Line::Bad,
+        Some(kind) => Line::Do(Command::Remove(target, kind)),
+    }
+}
+
+/// `get T`.
+fn get_line(rest: &[&str]) -> Line
+    ensures { result ≡ get_line (map (λ w. w.now) rest.now) }
+{
+    let [word] = rest else {
+        return Line::Bad;
+    };
+    match read_entity(word) {
+        None => Line::Bad,
+        Some(entity) => Line::Get(entity),
+    }
+}
+
+/// A line that is one word.
+fn lone(line: Line, rest: &[&str]) -> Line
+    ensures { result ≡ lone line (map (λ w. w.now) rest.now) }
+{
+    if rest.is_empty() { line } else { Line::Bad }
+}
+
+/// A line by its first word and the others.
+fn named_line(
+    alloc: Global,
+    schema: &Schema,
+    first: &str,
+    rest: &[&str],
+) -> Result<Line, AllocError>
+    ensures { IfOk result (λ line. line ≡ named_line schema.now first.now (map (λ w. w.now) rest.now)) }
+{
+    match first {
+        "kind" => kind_line(alloc, rest),
+        "slots" => Ok(slots_line(rest)),
+        "spawn" => spawn_line(alloc, schema, rest),
+        "insert" => insert_line(alloc, schema, rest),
+        "despawn" => Ok(despawn_line(rest)),
+        "remove" => Ok(remove_line(schema, rest)),
+        "undo" => Ok(lone(Line::Undo, rest)),
+        "redo" => Ok(lone(Line::Redo, rest)),
+        "show" => Ok(lone(Line::Show, rest)),
+        "get" => Ok(get_line(rest)),
+        _ => Ok(Line::Bad),
+    }
+}
+
+/// A line by its words.
+fn line_of_words(alloc: Global, schema: &Schema, words: &[&str]) -> Result<Line, AllocError>
+    ensures { IfOk result (λ line. line ≡ line_of_words schema.now (map (λ w. w.now) words.now)) }
+{
+    let [first, rest @ ..] = words else {
+        return Ok(Line::Empty);
+    };
+    if first.starts_with('#') {
+        return Ok(Line::Empty);
+    }
+    named_line(alloc, schema, first, rest)
+}
+
+/// What a line says, where these kinds are declared. It costs a walk over the line.
+pub fn read_line(alloc: Global, schema: &Schema, bytes: &[u8]) -> Result<Line, AllocError>
+    ensures { IfOk result (λ line. line ≡ line_in schema.now bytes.now) }
+{
+    match str::from_utf8(bytes) {
+        Err(_) => Ok(Line::Bad),
+        Ok(text) => {
+            let words = words(alloc, text)?;
+            line_of_words(alloc, schema, words.as_slice())
+        }
+    }
+}

@@ -1,0 +1,162 @@
+//! The printed text of a whole world.
+ghost use Rattle.std.specs.Prelude.{◌≡◌, ◌++◌, ◌<◌, OnOk, IfOk, map, string_bytes, option_map};
+ghost use Rattle.scene_world.specs.World.{rows_at, row_of};
+ghost use Rattle.scene_app.specs.Shown.{numbers_text, has_kind, name_in, one_name, names_from, more_names, names_text, rows_text, table_text, tables_text, show_text};
+
+use crate::print::write_row;
+use scene_kinds::{Entity, Row, Schema};
+use scene_world::World;
+use std::alloc::{AllocError, Global};
+
+/// Adds numbers, each after a space.
+fn write_numbers(out: &mut String, numbers: &[u32]) -> Result<(), AllocError>
+    ensures { OnOk result (string_bytes out.new ≡ string_bytes out.old ++ numbers_text numbers.now) }
+{
+    'numbers: for n in numbers {
+        write!(out, " {n}")?;
+    }
+    Ok(())
+}
+
+/// Whether a kind set has a kind.
+fn has_kind(mask: u64, kind: u8) -> bool
+    requires { kind < 64 }
+    ensures { result ≡ has_kind mask kind }
+{
+    (mask >> kind) % 2 == 1
+}
+
+/// The name of a kind that a kind set has.
+fn name_in(schema: &Schema, mask: u64, kind: u8) -> Option<&str>
+    requires { kind < 64 }
+    ensures { option_map (λ n. n.now) result ≡ name_in schema.now mask kind }
+{
+    if has_kind(mask, kind) {
+        schema.name_of(kind)
+    } else {
+        None
+    }
+}
+
+/// Adds a name where there is one.
+fn push_some<'s>(names: &mut Vec<&'s str>, name: Option<&'s str>) -> Result<(), AllocError>
+    ensures { OnOk result (map (λ n. n.now) names.new.items ≡ map (λ n. n.now) names.old.items ++ one_name (option_map (λ n. n.now) name.entry)) }
+{
+    if let Some(name) = name {
+        names.push(name)?;
+    }
+    Ok(())
+}
+
+/// The names of the kinds that a kind set has, by their numbers.
+fn names_of<'s>(alloc: Global, schema: &'s Schema, mask: u64) -> Result<Vec<&'s str>, AllocError>
+    ensures { IfOk result (λ names. map (λ n. n.now) names.items ≡ names_from schema.now 0 mask) }
+{
+    let mut names = Vec::new(alloc);
+    let count = schema.len();
+    let mut kind = 0u8;
+    'kinds: while (kind as usize) < count {
+        push_some(&mut names, name_in(schema, mask, kind))?;
+        kind += 1;
+    }
+    Ok(names)
+}
+
+/// Adds names, each after a comma.
+fn write_more_names(out: &mut String, names: &[&str]) -> Result<(), AllocError>
+    ensures { OnOk result (string_bytes out.new ≡ string_bytes out.old ++ more_names (map (λ n. n.now) names.now)) }
+{
+    'names: for name in names {
+        out.push(',')?;
+        out.push_str(name)?;
+    }
+    Ok(())
+}
+
+/// Adds names with commas between them, or `-` where there are none.
+fn write_names(out: &mut String, names: &[&str]) -> Result<(), AllocError>
+    ensures { OnOk result (string_bytes out.new ≡ string_bytes out.old ++ names_text (map (λ n. n.now) names.now)) }
+{
+    match names {
+        [] => out.push_str("-"),
+        [first, rest @ ..] => {
+            out.push_str(first)?;
+            write_more_names(out, rest)
+        }
+    }
+}
+
+/// Adds rows, a line each.
+fn write_rows(
+    alloc: Global,
+    out: &mut String,
+    schema: &Schema,
+    rows: &[Row],
+) -> Result<(), AllocError>
+    ensures { OnOk result (string_bytes out.new ≡ string_bytes out.old ++ rows_text schema.now rows.now) }
+{
+    'rows: for row in rows {
+        write_row(alloc, out, schema, row)?;
+        out.push('\n')?;
+    }
+    Ok(())
+}
+
+/// The rows of a kind set.
+fn rows_of(world: &World, mask: u64) -> &[Row]
+    ensures { result.now ≡ rows_at world.now.tables mask }
+{
+    match world.rows_of(mask) {
+        Some(table) => table.rows(),
+        None => &[],
+    }
+}
+
+/// Adds a table: the names of its kind set, and its rows.
+fn write_table(alloc: Global, out: &mut String, world: &World, mask: u64) -> Result<(), AllocError>
+    ensures { OnOk result (string_bytes out.new ≡ string_bytes out.old ++ table_text world.now.schema mask (rows_at world.now.tables mask)) }
+{
+    let names = names_of(alloc, world.schema(), mask)?;
+    out.push_str("table ")?;
+    write_names(out, names.as_slice())?;
+    out.push('\n')?;
+    write_rows(alloc, out, world.schema(), rows_of(world, mask))
+}
+
+/// Adds tables.
+fn write_tables(
+    alloc: Global,
+    out: &mut String,
+    world: &World,
+    masks: &[u64],
+) -> Result<(), AllocError>
+    ensures { OnOk result (string_bytes out.new ≡ string_bytes out.old ++ tables_text world.now masks.now) }
+{
+    'masks: for mask in masks {
+        write_table(alloc, out, world, *mask)?;
+    }
+    Ok(())
+}
+
+/// Adds a world (docs/SCRIPTS.md, "Output"): its tick, its generations by index, its free list, and each table by
+/// its kind set, ascending. It costs a walk over the world.
+pub(crate) fn write_show(alloc: Global, out: &mut String, world: &World) -> Result<(), AllocError>
+    ensures { OnOk result (string_bytes out.new ≡ string_bytes out.old ++ show_text world.now) }
+{
+    let masks = world.tables()?;
+    write!(out, "tick {}\ngens", world.tick())?;
+    write_numbers(out, world.slots().generations())?;
+    out.push_str("\nfree")?;
+    write_numbers(out, world.slots().free())?;
+    out.push_str("\n")?;
+    write_tables(alloc, out, world, masks.as_slice())
+}
+
+/// The row of an entity, or `None` where it isn't alive.
+pub(crate) fn row_of(world: &World, entity: Entity) -> Option<&Row>
+    ensures { option_map (λ row. row.now) result ≡ option_map (λ p. p.1) (row_of world.now entity) }
+{
+    let mask = world.mask_of(entity)?;
+    let place = world.place_of(entity)?;
+    rows_of(world, mask).get(place as usize)
+}
