@@ -31,7 +31,7 @@ pub use number::{read_count, read_entity, read_number};
 pub use play::play_script;
 pub use print::{write_cell, write_json_text, write_row, write_value};
 pub use reading::{MOST_BYTES, MOST_TURNS, ReadError, read_all};
-pub use run::run_script;
+pub use run::{RunEnd, run_script};
 pub use script_line::{Line, SlotLimit, read_line};
 pub use target::{TargetWord, read_target};
 pub use word::{cut, words};

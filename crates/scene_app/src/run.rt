@@ -22,8 +22,15 @@ fn played(alloc: Global, script: &[u8]) -> Result<(String, usize), AppFault>
     Ok((out, bad))
 }
 
-/// Reads a script to its end, plays it, and writes what it prints (docs/SCRIPTS.md, "Output"); gives how many of
-/// its lines are bad. Nothing is written before the whole script is played.
+/// How a run ended.
+#[derive(Clone, Copy, Debug, PartialEq, Eq)]
+pub struct RunEnd {
+    /// How many lines of the script were bad.
+    pub bad_lines: usize,
+}
+
+/// Reads a script to its end, plays it, and writes what it prints (docs/SCRIPTS.md, "Output"). Nothing is written
+/// before the whole script is played.
 ///
 /// Refused: `ReadFault` where a call of the reader fails; `TooLong` where the script is longer than `MOST_BYTES`
 /// or its end doesn't come in `MOST_TURNS` calls; `NoMemory`; and then nothing is written. `WriteFault` where a
@@ -33,15 +40,15 @@ pub fn run_script<R: Read, W: Write>(
     alloc: Global,
     reader: &mut R,
     writer: &mut W,
-) -> Result<usize, AppFault>
+) -> Result<RunEnd, AppFault>
     ensures printed { OnOk result (IfSome (R.remaining reader.old) (λ script. Appends (W.contents writer.old) (W.contents writer.new) (output script))) }
-    ensures bad { IfOk result (λ bad. IfSome (R.remaining reader.old) (λ script. bad ≡ bad_count script)) }
+    ensures bad { IfOk result (λ end. IfSome (R.remaining reader.old) (λ script. end.bad_lines ≡ bad_count script)) }
     ensures end { OnOk result (IsAtEnd (R.remaining reader.new)) }
     ensures prefix { OnErr result (IfSome (R.remaining reader.old) (λ script. AppendsPrefix (W.contents writer.old) (W.contents writer.new) (output script))) }
     ensures nothing { IfErr result (λ f. f ≢ WriteFault → writer.new ≡ writer.old) }
 {
     let script = read_all(alloc, reader)?;
-    let (out, bad) = played(alloc, script.as_slice())?;
+    let (out, bad_lines) = played(alloc, script.as_slice())?;
     write_out(writer, out.as_bytes())?;
-    Ok(bad)
+    Ok(RunEnd { bad_lines })
 }
