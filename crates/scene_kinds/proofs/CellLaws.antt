@@ -24,9 +24,11 @@ ascending-without_cell cells kind h = is_sorted-where_key nat_cmp (λ k. not (eq
 pub cell_of-with_cell : (cells : List (ℕ × Cell)) (kind : ℕ) (cell : Cell) (q : ℕ) → cell_of (with_cell cells kind cell) q ≡ cond (eq_by_cmp nat_cmp q kind) (Some cell) (cell_of cells q)
 cell_of-with_cell cells kind cell q = find-put nat_cmp nat_cmp_total q kind cell cells
 
+-- kinds that tie are told from a third alike
 alike : (kind q x : ℕ) → nat_cmp q x ≡ Equal → not (eq_by_cmp nat_cmp kind x) ≡ not (eq_by_cmp nat_cmp kind q)
 alike kind q x e = let s : q ≡ x = grind (arith, nat_tests) in ap (λ (k : ℕ). not (eq_by_cmp nat_cmp kind k)) (sym s)
 
+-- a choice by two kinds being apart is the turned choice by their being one
 unlike : {A : Type 0} (kind q : ℕ) (x y : A) → cond (not (eq_by_cmp nat_cmp kind q)) x y ≡ cond (eq_by_cmp nat_cmp q kind) y x
 unlike kind q x y = let s : eq_by_cmp nat_cmp kind q ≡ eq_by_cmp nat_cmp q kind = grind (arith, nat_tests) in
     ap (λ b. cond (not b) x y) s ∙ elim (eq_by_cmp nat_cmp q kind) as (λ b. cond (not b) x y ≡ cond b y x) [ true ↦ refl | false ↦ refl ]
@@ -68,10 +70,12 @@ none_taken (e ∷ es) kind h =
       | false ↦ λ g. ap (e ∷◌) (none_taken es kind g)
     ] h
 
-in_front : (a b : Bool) → T (a && b) → T a × T b
-in_front true b h = (tt, h)
-in_front false b h = absurd h
+-- the two tests of one that passes
+test_parts : (a b : Bool) → T (a && b) → T a × T b
+test_parts true b h = (tt, h)
+test_parts false b h = absurd h
 
+-- what a test for less says
 less : (o : Ordering) → T (is_lt o) → o ≡ Less
 less Less h = refl
 less Equal h = absurd h
@@ -79,19 +83,19 @@ less Greater h = absurd h
 
 -- the first kind is below all others
 pub first_below : (e : ℕ × Cell) (es : List (ℕ × Cell)) → IsAscending (e ∷ es) → T (below_all nat_cmp e.0 es)
-first_below e es h = (in_front (below_all nat_cmp e.0 es) (is_sorted nat_cmp es) h).0
+first_below e es h = (test_parts (below_all nat_cmp e.0 es) (is_sorted nat_cmp es) h).0
 
 -- the others ascend
 pub rest_ascends : (e : ℕ × Cell) (es : List (ℕ × Cell)) → IsAscending (e ∷ es) → IsAscending es
-rest_ascends e es h = (in_front (below_all nat_cmp e.0 es) (is_sorted nat_cmp es) h).1
+rest_ascends e es h = (test_parts (below_all nat_cmp e.0 es) (is_sorted nat_cmp es) h).1
 
 -- a kind below all is below the first
 pub below_first : (kind : ℕ) (e : ℕ × Cell) (es : List (ℕ × Cell)) → T (below_all nat_cmp kind (e ∷ es)) → nat_cmp kind e.0 ≡ Less
-below_first kind e es h = less _ (in_front (is_lt (nat_cmp kind e.0)) (below_all nat_cmp kind es) h).0
+below_first kind e es h = less _ (test_parts (is_lt (nat_cmp kind e.0)) (below_all nat_cmp kind es) h).0
 
 -- and below the others
 pub below_rest : (kind : ℕ) (e : ℕ × Cell) (es : List (ℕ × Cell)) → T (below_all nat_cmp kind (e ∷ es)) → T (below_all nat_cmp kind es)
-below_rest kind e es h = (in_front (is_lt (nat_cmp kind e.0)) (below_all nat_cmp kind es) h).1
+below_rest kind e es h = (test_parts (is_lt (nat_cmp kind e.0)) (below_all nat_cmp kind es) h).1
 
 -- a kind below all that are there isn't there
 pub below_none : (kind : ℕ) (cells : List (ℕ × Cell)) → T (below_all nat_cmp kind cells) → cell_of cells kind ≡ None

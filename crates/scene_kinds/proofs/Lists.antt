@@ -15,18 +15,22 @@ abbrev pub kept : {X : Type 0} → List X → Option (X × List X)
 kept [] = None
 kept (x ∷ xs) = Some (x, xs)
 
+-- a list that a map shows, put back
 pub kept-listed : {X : Type 0} (p : Option (X × List X)) → kept (listed p) ≡ p
 kept-listed None = refl
 kept-listed (Some p) = refl
 
+-- a list that is put in, shown
 pub listed-kept : {X : Type 0} (xs : List X) → listed (kept xs) ≡ xs
 listed-kept [] = refl
 listed-kept (x ∷ xs) = refl
 
+-- of two choices by one test the first decides
 absorbed : {A : Type 0} (b : Bool) (x y z : A) → cond b x (cond b y z) ≡ cond b x z
 absorbed true x y z = refl
 absorbed false x y z = refl
 
+-- choices by tests that never both pass may be made in either order
 exchanged : {A : Type 0} (b c : Bool) (x y z : A) → (b ≡ true → c ≡ true → ⊥) → cond b x (cond c y z) ≡ cond c y (cond b x z)
 exchanged true true x y z h = absurd (h refl refl)
 exchanged true false x y z h = refl

@@ -8,6 +8,7 @@ use Rattle.std.specs.FinMap.{IsAntisymmetric}
 use Rattle.std.specs.FinMap.Entries.{find-put, find-where_key, find_tied, same_entries}
 use Rattle.scene_kinds.specs.Map.{Map, get, insert, remove, same_entries_map}
 
+-- a choice by a test that is turned round
 turned : {A : Type 0} (b : Bool) (x y : A) → cond (not b) x y ≡ cond b y x
 turned true x y = refl
 turned false x y = refl
@@ -26,9 +27,11 @@ equal_keys {K} {R} same q k = elim (R q k) as (λ r. R q k ≡ r → is_eq r ≡
 
 module _ {K X : Type 0} {R : K → K → Ordering} where
   module _ (o : IsTotalOrder R) where
+    -- the value of a key after a value was put in
     pub get-insert : (m : Map R X) (k : K) (v : X) (q : K) → get (insert o m k v) q ≡ cond (eq_by_cmp R q k) (Some v) (get m q)
     get-insert m k v q = find-put R o q k v m.entries
 
+    -- the value of a key after a key was taken out
     pub get-remove : (m : Map R X) (k q : K) → get (remove m k) q ≡ cond (eq_by_cmp R q k) None (get m q)
     get-remove m k q = find-where_key R (λ x. not (eq_by_cmp R k x)) q (λ x t. ap (λ r. not (is_eq r)) (sym (alike_right o q x k t))) m.entries
         ∙ turned (eq_by_cmp R k q) _ _ ∙ ap (λ b. cond b None (get m q)) ((eq_by_cmp_equiv o).symm k q)

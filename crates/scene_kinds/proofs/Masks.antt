@@ -16,6 +16,7 @@ use Rattle.scene_kinds.proofs.CellLaws.{none_taken, first_below, rest_ascends, b
 pub mask-cons : (e : ℕ × Cell) (es : List (ℕ × Cell)) → mask_of (e ∷ es) ≡ 2 ^ e.0 + mask_of es
 mask-cons e es = sum_by-cons (λ (c : ℕ × Cell). 2 ^ c.0) e es
 
+-- a power of two with a larger exponent is larger
 pow_mono : (i j : ℕ) → i ≤ j → 2 ^ i ≤ 2 ^ j
 pow_mono i j h = elim (nat_lt i j) as (λ b. nat_lt i j ≡ b → 2 ^ i ≤ 2 ^ j) [
   | true ↦ λ t. let l : i < j = grind (arith, nat_tests) in omega (arith, pow_below i j l)

@@ -12,6 +12,7 @@ use Rattle.scene_kinds.specs.declared.fault.Fault.TheVariants.{KindTaken, KindsF
 use Rattle.scene_kinds.specs.Answers.{Outcome, refuse}
 use Rattle.scene_kinds.specs.Schema.{Kinds, named, number_of, is_good_name, with_kind}
 
+-- the index of a key, counted from any number
 from_keys : (name : List ℕ) (es : List (String Global × Shape)) (n : ℕ) → position_from (λ k. bytes_eq name (string_bytes k)) n (keys_of es) ≡ position_from (λ k. bytes_eq name k.0) n (named es)
 from_keys name [] n = refl
 from_keys name (e ∷ es) n = ap (cond (bytes_eq name (string_bytes e.0)) (Some n)) (from_keys name es (n + 1))
@@ -20,10 +21,12 @@ from_keys name (e ∷ es) n = ap (cond (bytes_eq name (string_bytes e.0)) (Some 
 pub number_of_keys : (name : List ℕ) (es : List (String Global × Shape)) → position (λ k. bytes_eq name (string_bytes k)) (keys_of es) ≡ number_of (named es) name
 number_of_keys name es = position_from-zero (λ k. bytes_eq name (string_bytes k)) (keys_of es) ∙ from_keys name es 0
 
+-- there are as many kinds as entries
 pub length_named : (es : List (String Global × Shape)) → length (named es) ≡ length es
 length_named [] = refl
 length_named (e ∷ es) = ap (λ n. suc n) (length_named es)
 
+-- whether a key is found, counted from any number
 taken : (name : List ℕ) (es : List (String Global × Shape)) (n : ℕ) → is_some (lookup (λ k. bytes_eq name (string_bytes k)) es) ≡ is_some (position_from (λ k. bytes_eq name k.0) n (named es))
 taken name [] n = refl
 taken name (e ∷ es) n =
@@ -53,12 +56,15 @@ named_clone D same (e ∷ es) (f ∷ fs) h = λ i. (h.0.0 i, same e.1 f.1 h.0.1 
 pub kind_taken : (kinds : Kinds) (name : List ℕ) (shape : Shape) → is_good_name name ≡ true → is_some (number_of kinds name) ≡ true → with_kind kinds name shape ≡ refuse KindTaken
 kind_taken kinds name shape good there = rw (good, there) refl
 
+-- a good new name where there are 64 kinds
 pub kinds_full : (kinds : Kinds) (name : List ℕ) (shape : Shape) → is_good_name name ≡ true → is_some (number_of kinds name) ≡ false → 64 ≤ length kinds → with_kind kinds name shape ≡ refuse KindsFull
 kinds_full kinds name shape good there most = let full : nat_lt (length kinds) 64 ≡ false = grind (arith, nat_tests) in rw (good, there, full) refl
 
+-- a good new name where there is room
 pub kind_added : (kinds : Kinds) (name : List ℕ) (shape : Shape) → is_good_name name ≡ true → is_some (number_of kinds name) ≡ false → length kinds < 64 → with_kind kinds name shape ≡ Ok (length kinds, kinds ++ (name, shape) ∷ [])
 kind_added kinds name shape good there few = let room : nat_lt (length kinds) 64 ≡ true = grind (arith, nat_tests) in rw (good, there, room) refl
 
+-- what is not there is none
 pub none_of_false : {X : Type 0} (o : Option X) → is_some o ≡ false → o ≡ None
 none_of_false None e = refl
 none_of_false (Some x) e = absurd (let k : true ≡ false = e in cc)

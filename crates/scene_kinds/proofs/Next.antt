@@ -9,15 +9,19 @@ use Rattle.std.proofs.lemmas.Bool.Decides.{nat_tests}
 use Rattle.scene_kinds.specs.declared.cell.Cell.{Cell}
 use Rattle.scene_kinds.specs.Cells.{IsNext, GoesLast}
 
+-- a kind is above one below it
 above : (a k : ℕ) → nat_lt a k ≡ true → nat_cmp k a ≡ Greater
 above a k h = grind (arith, nat_tests)
 
+-- equal kinds tie
 same_cmp : (a k : ℕ) → a ≡ k → nat_cmp k a ≡ Equal
 same_cmp a k h = grind (arith, nat_tests)
 
+-- a kind that is neither at nor above another is below it
 below : (a k : ℕ) → nat_lt a k ≡ false → (a ≡ k → ⊥) → nat_cmp k a ≡ Less
 below a k h e = grind (arith, nat_tests)
 
+-- where the search for a place ends, counted from any number
 nexts : (kind : ℕ) (es : List (ℕ × Cell)) (n i : ℕ) → position_from (λ (c : ℕ × Cell). not (nat_lt c.0 kind)) n es ≡ Some i → (k : ℕ) × ((i ≡ n + k) × IsNext kind es k)
 nexts kind [] n i h = cc
 nexts kind (e ∷ es) n i h =
@@ -56,6 +60,7 @@ next_found kind es (Some i) h =
     let r = nexts kind es 0 i (sym h) in
     let e : r.0 ≡ i = omega arith in subst (IsNext kind es) e r.1.1
 
+-- where it ends with none, the cell goes last
 none_next : (kind : ℕ) (es : List (ℕ × Cell)) (n : ℕ) (v : Cell) → position_from (λ (c : ℕ × Cell). not (nat_lt c.0 kind)) n es ≡ None → es ++ (kind, v) ∷ [] ≡ put nat_cmp kind v es
 none_next kind [] n v h = refl
 none_next kind (e ∷ es) n v h =

@@ -13,6 +13,7 @@ use Rattle.std.proofs.lemmas.Fmt.{decimal-digits_value, parse-decimal, decimal_d
 use Rattle.scene_kinds.specs.Number.{BeginsPlainly}
 use Rattle.scene_kinds.specs.Entity.{entity_text}
 
+-- numerals are digits with their value
 own : IsNumeralModel (AllDigits 10) (digits_value 10)
 own = numerals_by_value (AllDigits 10) tells_digits
 
@@ -28,6 +29,7 @@ number_found {E} bs (Ok n) h b =
 pub number_only : {E : Type 0} (bs : List ℕ) (r : Result ℕ E) (n : ℕ) → n < 2 ^ 32 → bs ≡ decimal n → ParsesUnsigned 32 10 bs r → r ≡ Ok n
 number_only bs r n small e h = parse-decimal 32 n bs r small (omega arith) e h
 
+-- the text of a number begins plainly
 begins : (n : ℕ) → n < 2 ^ 64 → BeginsPlainly (decimal n)
 begins zero small = rw (decimal_digit 0 (omega arith)) (omega arith, omega arith, λ e. refl)
 begins (suc n) small =
@@ -49,6 +51,7 @@ splits_at_v bs i g r h small e = split_after 118 bs (decimal i) (decimal g) r h 
 
 pub ruleset numbers = (number_found, number_only, begins_decimal)
 
+-- the letter v is ASCII
 v_is_ascii : (i : ℕ) → get_or (118 ∷ []) i 0 < 128
 v_is_ascii zero = lit< tt
 v_is_ascii (suc i) = lit< tt

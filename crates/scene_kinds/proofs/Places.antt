@@ -90,4 +90,3 @@ put_at_place (e ∷ es) kind (suc i) cell d up within is =
     let later : e.0 < kind = subst (λ k. e.0 < k) is (below_at e.0 es i d (both _ _ up).0 (omega arith)) in
     ap (λ t. e ∷ t) (put_at_place es kind i cell d (both _ _ up).1 (omega arith) is)
     ∙ ap (λ o. by_order o ((kind, cell) ∷ e ∷ es) ((e.0, cell) ∷ es) (e ∷ put nat_cmp kind cell es)) (sym (cmp_greater kind e.0 later))
-

@@ -37,6 +37,7 @@ taken kind (e ∷ es) n i h =
           )
     ] refl
 
+-- a search that finds a place finds where the kind is taken out
 pub taken_placed : (kind : ℕ) (cells : List (ℕ × Cell)) (r : Option ℕ) → r ≡ position_from (λ (e : ℕ × Cell). nat_eq kind e.0) 0 cells → IfSome r (IsTakenAt kind cells)
 taken_placed kind cells None e = tt
 taken_placed kind cells (Some i) e =

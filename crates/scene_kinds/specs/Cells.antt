@@ -11,6 +11,7 @@ use Rattle.scene_kinds.specs.declared.cells.Row.{Row}
 abbrev pub IsAscending : List (ℕ × Cell) → Type 0
 IsAscending cells = T (is_sorted nat_cmp cells)
 
+-- the cell of a kind, if it is there
 abbrev pub cell_of : List (ℕ × Cell) → ℕ → Option Cell
 cell_of cells kind = find nat_cmp kind cells
 
@@ -18,6 +19,7 @@ cell_of cells kind = find nat_cmp kind cells
 abbrev pub with_cell : List (ℕ × Cell) → ℕ → Cell → List (ℕ × Cell)
 with_cell cells kind cell = put nat_cmp kind cell cells
 
+-- the cells but for the one of a kind
 abbrev pub without_cell : List (ℕ × Cell) → ℕ → List (ℕ × Cell)
 without_cell cells kind = where_key nat_cmp (λ k. not (eq_by_cmp nat_cmp kind k)) cells
 

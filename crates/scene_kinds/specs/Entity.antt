@@ -17,12 +17,14 @@ entity_text index generation = decimal index ++ (118 ∷ decimal generation)
 abbrev pub entity_cmp : Entity → Entity → Ordering
 entity_cmp a b = ordering_then (nat_cmp a.index b.index) (nat_cmp a.generation b.generation)
 
+-- whether two entities are one
 abbrev pub is_same : Entity → Entity → Bool
 is_same a b = eq_by_cmp entity_cmp a b
 
--- the order is total, and only equal entities tie
+-- the order is total
 pub entity_cmp_total : IsTotalOrder entity_cmp
 entity_cmp_total = then_total (on_total (λ e. e.index) nat_cmp_total) (on_total (λ e. e.generation) nat_cmp_total)
 
+-- entities that tie are equal
 pub entity_cmp_exact : IsAntisymmetric entity_cmp
 entity_cmp_exact a b h = ap (λ (p : ℕ × ℕ). record { index = p.0; generation = p.1 }) (exact_pairs nat_cmp nat_cmp exact_unsigned exact_unsigned (a.index, a.generation) (b.index, b.generation) h)

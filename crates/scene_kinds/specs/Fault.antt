@@ -6,6 +6,7 @@ use Rattle.scene_kinds.specs.declared.refusal.Place.{Place}
 use Rattle.scene_kinds.specs.declared.refusal.Refusal.{Refusal}
 use Rattle.scene_kinds.specs.Entity.{entity_text}
 
+-- a fault's number, whatever its fields
 abbrev pub fault_number : Fault → ℕ
 fault_number NoSuchEntity = 1
 fault_number HasChildren = 2
@@ -37,6 +38,7 @@ fault_number KindsFull = 32
 fault_number (BadWorld rule) = 40
 fault_number (BadRecord frame delta) = 41
 
+-- a fault's name, whatever its fields
 abbrev pub fault_name : Fault → List ℕ
 fault_name NoSuchEntity = codes "NoSuchEntity"
 fault_name HasChildren = codes "HasChildren"
@@ -93,5 +95,6 @@ abbrev pub placed_text : Fault → Option Place → List ℕ
 placed_text f None = fault_text f
 placed_text f (Some p) = fault_text f ++ (codes " at " ++ place_text p)
 
+-- the line of a refusal
 abbrev pub refusal_text : Refusal → List ℕ
 refusal_text r = placed_text r.fault r.place

@@ -31,17 +31,20 @@ named entries = map (λ e. (string_bytes e.0, e.1)) entries
 abbrev pub number_of : Kinds → List ℕ → Option ℕ
 number_of kinds name = position_from (λ k. bytes_eq name k.0) 0 kinds
 
+-- the shape of a kind, if it is there
 abbrev pub shape_of : Kinds → ℕ → Option Shape
 shape_of kinds kind = option_map (λ k. k.1) (slice_get kinds kind)
 
+-- the name of a kind, if it is there
 abbrev pub name_of : Kinds → ℕ → Option (List ℕ)
 name_of kinds kind = option_map (λ k. k.0) (slice_get kinds kind)
 
--- whether a value has a kind's shape; nothing fits a kind that isn't there
+-- whether a value has a shape, where there is one
 abbrev pub has_shape : Value → Option Shape → Bool
 has_shape value None = false
 has_shape value (Some shape) = same_shape (shape_of_value value) shape
 
+-- whether a value has a kind's shape; nothing fits a kind that isn't there
 abbrev pub fits_kind : Kinds → Value → ℕ → Bool
 fits_kind kinds value kind = has_shape value (shape_of kinds kind)
 

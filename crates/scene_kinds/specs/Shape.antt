@@ -5,6 +5,7 @@ use Rattle.scene_kinds.specs.declared.shape.Shape.TheVariants as shape
 use Rattle.scene_kinds.specs.declared.value.Value.{Value}
 use Rattle.scene_kinds.specs.declared.value.Value.TheVariants as value
 
+-- a shape's name
 abbrev pub shape_name : Shape → List ℕ
 shape_name shape.Tag = codes "Tag"
 shape_name shape.Int = codes "Int"
@@ -12,6 +13,7 @@ shape_name shape.Vec3 = codes "Vec3"
 shape_name shape.Text = codes "Text"
 shape_name shape.Link = codes "Link"
 
+-- the one shape that a value has
 abbrev pub shape_of_value : Value → Shape
 shape_of_value value.Tag = shape.Tag
 shape_of_value (value.Int n) = shape.Int

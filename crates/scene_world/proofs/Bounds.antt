@@ -37,7 +37,7 @@ same_entity generations a b x y e =
 pub rows_few : (w : World) → IsValid w → (mask : ℕ) → length (rows_at w.tables mask) ≤ length w.slots.generations
 rows_few w v mask =
     subst (λ n. n ≤ length w.slots.generations) (length_indices (rows_at w.tables mask))
-      (few_distinct (length w.slots.generations) (indices (rows_at w.tables mask)) (IsDistinct-from_apart nat_eq (indices (rows_at w.tables mask)) apart) below)
+    (few_distinct (length w.slots.generations) (indices (rows_at w.tables mask)) (IsDistinct-from_apart nat_eq (indices (rows_at w.tables mask)) apart) below)
   where
     below : All (λ i. i < length w.slots.generations) (indices (rows_at w.tables mask))
     below i d l =

@@ -55,19 +55,19 @@ pub released : (s : SlotState) (e : Entity) → IsSlots s → CanRelease s e →
 released s e v c =
     elim (retires e) as (λ b. retires e ≡ b → IsSlots (if b then s else freed s e) → IsReleased s (if b then s else freed s e) e) [
       | true ↦ λ r sound. record {
-          sound = sound;
-          as_many = refl;
-          kept = λ i g ne h. h;
-          others = λ i ne. refl;
-          settled = ap (λ b. is_free s e.index || b) (ap (λ (g : ℕ). nat_eq g 4294967295) (read s.generations e.index e.generation c.current) ∙ r) ∙ or_true (is_free s e.index);
-        }
+        sound = sound;
+        as_many = refl;
+        kept = λ i g ne h. h;
+        others = λ i ne. refl;
+        settled = ap (λ b. is_free s e.index || b) (ap (λ (g : ℕ). nat_eq g 4294967295) (read s.generations e.index e.generation c.current) ∙ r) ∙ or_true (is_free s e.index);
+      }
       | false ↦ λ r sound. record {
-          sound = sound;
-          as_many = length-set s.generations e.index (e.generation + 1);
-          kept = λ i g ne h. written_stays s.generations e.index (e.generation + 1) i g ne h;
-          others = λ i ne. any_pushed s.free e.index i ∙ ap (λ b. list_any (nat_eq i) s.free || b) (unequal i e.index ne) ∙ or_false (list_any (nat_eq i) s.free);
-          settled = ap (λ b. b || is_retired (freed s e) e.index) (any_pushed s.free e.index e.index ∙ ap (λ b. list_any (nat_eq e.index) s.free || b) (itself e.index) ∙ or_true (list_any (nat_eq e.index) s.free));
-        }
+        sound = sound;
+        as_many = length-set s.generations e.index (e.generation + 1);
+        kept = λ i g ne h. written_stays s.generations e.index (e.generation + 1) i g ne h;
+        others = λ i ne. any_pushed s.free e.index i ∙ ap (λ b. list_any (nat_eq i) s.free || b) (unequal i e.index ne) ∙ or_false (list_any (nat_eq i) s.free);
+        settled = ap (λ b. b || is_retired (freed s e) e.index) (any_pushed s.free e.index e.index ∙ ap (λ b. list_any (nat_eq e.index) s.free || b) (itself e.index) ∙ or_true (list_any (nat_eq e.index) s.free));
+      }
     ] refl (IsSlots-release s e v c)
   where
     itself : (i : ℕ) → nat_eq i i ≡ true
@@ -88,9 +88,9 @@ index_gone w h row v at g r is e =
 
 no_children : (f : Forest) (e : Entity) → is_some (map.get f e) ≡ false → children_of f e ≡ []
 no_children f e n = elim (map.get f e) as (λ o. is_some o ≡ false → listed o ≡ []) [
-    | None ↦ λ h. refl
-    | Some p ↦ λ h. absurd (let k : true ≡ false = h in cc)
-  ] n
+  | None ↦ λ h. refl
+  | Some p ↦ λ h. absurd (let k : true ≡ false = h in cc)
+] n
 
 -- an index other than the one that left is accounted for as before, and that one is free or retired
 accounted_gone : (w : World) (h : Home) (row : Row) → IsValid w → row_at w.tables h ≡ Some row → IsReleased w.slots (release_of w.slots row.entity) row.entity → (i : ℕ) → i < length w.slots.generations
@@ -101,13 +101,13 @@ accounted_gone w h row v at k i l =
       | true ↦ λ e.
           let s : i ≡ row.entity.index = same i row.entity.index e in
           ap (λ (n : ℕ). is_live_index (gone w h row.entity) n || is_free (release_of w.slots row.entity) n || is_retired (release_of w.slots row.entity) n) s
-            ∙ last_of_three (is_live_index (gone w h row.entity) row.entity.index) (is_free t row.entity.index) (is_retired t row.entity.index) k.settled
+          ∙ last_of_three (is_live_index (gone w h row.entity) row.entity.index) (is_free t row.entity.index) (is_retired t row.entity.index) k.settled
       | false ↦ λ e.
           let ne = apart i row.entity.index e in
           let kept : slice_index t.generations i ≡ slice_index w.slots.generations i = read t.generations i _ (k.kept i _ ne (there w.slots.generations i l)) in
           one_of _ (is_live_index w i) (is_free w.slots i) (is_retired w.slots i) (v.accounted i l)
           (λ a. first_of_three _ _ _ (ap (λ (g : ℕ). lives (without_row w.tables h) (record { index = i; generation = g })) kept
-            ∙ lives_removed w.tables h row (record { index = i; generation = slice_index w.slots.generations i }) at (λ u. ne (sym (ap (λ (x : Entity). x.index) u))) a))
+          ∙ lives_removed w.tables h row (record { index = i; generation = slice_index w.slots.generations i }) at (λ u. ne (sym (ap (λ (x : Entity). x.index) u))) a))
           (λ b. second_of_three (is_live_index (gone w h row.entity) i) _ _ (k.others i ne ∙ b))
           (λ c. third_of_three (is_live_index (gone w h row.entity) i) (is_free t i) _ (ap (λ (g : ℕ). nat_eq g 4294967295) kept ∙ c))
     ] refl
@@ -135,9 +135,9 @@ gone_valid w h row v at childless =
       rows = each_removed (IsRowOf w.schema) w.tables h row at v.rows;
       links = (
         (λ p c n.
-          let old = v.links.0 p c (cut_part w.children e p c n) in
-          let other = left p c n in
-          (lives_removed w.tables h row p at (λ s. other.0 (sym s)) old.0, lives_removed w.tables h row c at (λ s. other.1 (sym s)) old.1)),
+            let old = v.links.0 p c (cut_part w.children e p c n) in
+            let other = left p c n in
+            (lives_removed w.tables h row p at (λ s. other.0 (sym s)) old.0, lives_removed w.tables h row c at (λ s. other.1 (sym s)) old.1)),
         cut_forest w.children e v.links.1,
       );
       names = v.names;
@@ -150,9 +150,9 @@ gone_valid w h row v at childless =
 -- an entity whose list of children is empty has none
 pub childless : (f : Forest) (e : Entity) → (length (children_of f e) == 0) ≡ true → is_some (map.get f e) ≡ false
 childless f e h = elim (map.get f e) as (λ o. (length (listed o) == 0) ≡ true → is_some o ≡ false) [
-    | None ↦ λ g. refl
-    | Some p ↦ λ g. absurd (empty p.0 p.1 g)
-  ] h
+  | None ↦ λ g. refl
+  | Some p ↦ λ g. absurd (empty p.0 p.1 g)
+] h
   where
     empty : (x : Entity) (xs : List Entity) → (length (x ∷ xs) == 0) ≡ true → ⊥
     empty x xs g = grind (arith, nat_tests)
@@ -160,9 +160,9 @@ childless f e h = elim (map.get f e) as (λ o. (length (listed o) == 0) ≡ true
 -- whether it had a parent or not, a child that was unlinked is out of its list
 pub unlinked_cut : (f g : Forest) (c : Entity) (r : Result (Entity × ℕ) Refusal) → Gives r f g (unlink_of f c) → g ≡ cut f c
 unlinked_cut f g c r h = elim (parent_of f c) as (λ o. Gives r f g (unlinked f c o) → g ≡ cut_from f c o) [
-    | None ↦ λ k. none r k
-    | Some p ↦ λ k. some p r k
-  ] h
+  | None ↦ λ k. none r k
+  | Some p ↦ λ k. some p r k
+] h
   where
     none : (r : Result (Entity × ℕ) Refusal) → Gives r f g (unlinked f c None) → g ≡ f
     none (Ok p) k = absurd (not_ok (p, g) _ k)
@@ -175,9 +175,9 @@ unlinked_cut f g c r h = elim (parent_of f c) as (λ o. Gives r f g (unlinked f 
 pub despawn_keeps : DespawnKeeps
 despawn_keeps w v e valid is =
     with_row_of (IsValid v) w e _ (tt, v) is (λ h r at same made.
-      elim (is_some (map.get w.children e)) as (λ b. is_some (map.get w.children e) ≡ b → ◌≡◌ {A = Outcome (Unit {0}) World} (if b then refuse HasChildren else Ok (tt, gone w h e)) (Ok (tt, v)) → IsValid v) [
-        | true ↦ λ c g. absurd (not_ok (tt, v) _ g)
-        | false ↦ λ c g.
-            subst IsValid (ap (gone w h) same ∙ (same_world tt tt (gone w h e) v g).1)
-              (gone_valid w h r valid at (ap (λ (x : Entity). is_some (map.get w.children x)) same ∙ c))
-      ] refl made)
+    elim (is_some (map.get w.children e)) as (λ b. is_some (map.get w.children e) ≡ b → ◌≡◌ {A = Outcome (Unit {0}) World} (if b then refuse HasChildren else Ok (tt, gone w h e)) (Ok (tt, v)) → IsValid v) [
+      | true ↦ λ c g. absurd (not_ok (tt, v) _ g)
+      | false ↦ λ c g.
+          subst IsValid (ap (gone w h) same ∙ (same_world tt tt (gone w h e) v g).1)
+          (gone_valid w h r valid at (ap (λ (x : Entity). is_some (map.get w.children x)) same ∙ c))
+    ] refl made)

@@ -97,7 +97,7 @@ home_sound e (t ∷ ts) rising h is =
       | Some p ↦ λ q s.
           let u : record { mask = t.0; place = p } ≡ h = cc in
           subst (λ (g : Home). HasAt (rows_in (t ∷ ts) g.mask) g.place e) u
-            (subst (λ b. HasAt (listed (cond b (Some t.1) (find nat_cmp t.0 ts))) p e) (sym (ties_itself nat_cmp_total t.0)) (place_found e (whole t.1) p q))
+          (subst (λ b. HasAt (listed (cond b (Some t.1) (find nat_cmp t.0 ts))) p e) (sym (ties_itself nat_cmp_total t.0)) (place_found e (whole t.1) p q))
       | None ↦ λ q s.
           let below = home_sound e ts parts.1 h s in
           elim (eq_by_cmp nat_cmp h.mask t.0) as (λ b. eq_by_cmp nat_cmp h.mask t.0 ≡ b → HasAt (listed (cond b (Some t.1) (find nat_cmp h.mask ts))) h.place e) [
@@ -112,9 +112,9 @@ home_complete e (t ∷ ts) is m p g =
     elim (place_among e (whole t.1)) as (λ o. place_among e (whole t.1) ≡ o → option_or (option_map (λ (p : ℕ). record { mask = t.0; place = p }) o) (home_in e ts) ≡ None → ⊥) [
       | Some k ↦ λ q s. absurd (cc)
       | None ↦ λ q s. elim (eq_by_cmp nat_cmp m t.0) as (λ b. HasAt (listed (cond b (Some t.1) (find nat_cmp m ts))) p e → ⊥) [
-          | true ↦ λ v. place_missed e (whole t.1) q p v
-          | false ↦ λ v. home_complete e ts s m p v
-        ] g
+        | true ↦ λ v. place_missed e (whole t.1) q p v
+        | false ↦ λ v. home_complete e ts s m p v
+      ] g
     ] refl is
 
 -- the row of an entity that has a home
@@ -129,25 +129,25 @@ home_found t e h is = let k = home_sound e t.entries t.sorted h is in record { r
 -- an entity that has a row is found, and where each stands once it is found there
 pub home_is : (t : Tables) (e : Entity) (h : Home) (r : Row) → StandsOnce t → row_at t h ≡ Some r → r.entity ≡ e → home_in e t.entries ≡ Some h
 home_is t e h r once is same = elim (home_in e t.entries) as (λ o. home_in e t.entries ≡ o → o ≡ Some h) [
-    | Some g ↦ λ q. let k = home_found t e g q in ap Some (once g h k.row r k.there is (k.same ∙ sym same))
-    | None ↦ λ q. absurd (home_complete e t.entries q h.mask h.place (record { row = r; there = is; same = same }))
-  ] refl
+  | Some g ↦ λ q. let k = home_found t e g q in ap Some (once g h k.row r k.there is (k.same ∙ sym same))
+  | None ↦ λ q. absurd (home_complete e t.entries q h.mask h.place (record { row = r; there = is; same = same }))
+] refl
 
 pub home_none : (t : Tables) (e : Entity) → ((h : Home) (r : Row) → row_at t h ≡ Some r → r.entity ≡ e → ⊥) → home_in e t.entries ≡ None
 home_none t e absent = elim (home_in e t.entries) as (λ o. home_in e t.entries ≡ o → o ≡ None) [
-    | Some g ↦ λ q. let k = home_found t e g q in absurd (absent g k.row k.there k.same)
-    | None ↦ λ q. refl
-  ] refl
+  | Some g ↦ λ q. let k = home_found t e g q in absurd (absent g k.row k.there k.same)
+  | None ↦ λ q. refl
+] refl
 
 -- an entity that has a row is alive, and one that is alive has a row
 pub live_here : (t : Tables) (e : Entity) (h : Home) (r : Row) → row_at t h ≡ Some r → r.entity ≡ e → is_some (home_in e t.entries) ≡ true
 live_here t e h r is same = elim (home_in e t.entries) as (λ o. home_in e t.entries ≡ o → is_some o ≡ true) [
-    | Some g ↦ λ q. refl
-    | None ↦ λ q. absurd (home_complete e t.entries q h.mask h.place (record { row = r; there = is; same = same }))
-  ] refl
+  | Some g ↦ λ q. refl
+  | None ↦ λ q. absurd (home_complete e t.entries q h.mask h.place (record { row = r; there = is; same = same }))
+] refl
 
 pub here_live : (t : Tables) (e : Entity) → is_some (home_in e t.entries) ≡ true → (h : Home) × IsHome t e h
 here_live t e live = elim (home_in e t.entries) as (λ o. home_in e t.entries ≡ o → is_some o ≡ true → (h : Home) × IsHome t e h) [
-    | Some g ↦ λ q s. (g, home_found t e g q)
-    | None ↦ λ q s. absurd (let k : false ≡ true = s in cc)
-  ] refl live
+  | Some g ↦ λ q s. (g, home_found t e g q)
+  | None ↦ λ q s. absurd (let k : false ≡ true = s in cc)
+] refl live

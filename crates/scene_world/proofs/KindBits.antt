@@ -68,9 +68,9 @@ is_there (Some x) h = (x, refl)
 -- a value that fits a kind fits one of the schema
 pub fits_known : (schema : Kinds) (value : Value) (kind : ℕ) → fits_kind schema value kind ≡ true → kind < length schema
 fits_known schema value kind h = elim (slice_get schema kind) as (λ o. slice_get schema kind ≡ o → has_shape value (option_map (λ (k : List ℕ × Shape). k.1) o) ≡ true → kind < length schema) [
-    | None ↦ λ e g. absurd (let k : false ≡ true = g in cc)
-    | Some s ↦ λ e g. within schema kind s e
-  ] refl h
+  | None ↦ λ e g. absurd (let k : false ≡ true = g in cc)
+  | Some s ↦ λ e g. within schema kind s e
+] refl h
 
 -- the kinds of a row of a world are below 64
 pub row_kinds_low : (schema : Kinds) (mask : ℕ) (row : Row) → IsRowOf schema mask row → length schema ≤ 64 → AreKindsBelow 64 row.cells

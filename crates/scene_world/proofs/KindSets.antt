@@ -76,7 +76,7 @@ rising_keys (e ∷ es) = λ i. below_keys e.0 es i && rising_keys es i
 keys_alike : {X : Type 0} (ks : List ℕ) (es : List (ℕ × X)) → IsStrictlySortedBy nat_cmp ks → T (is_sorted nat_cmp es) → ((q : ℕ) → list_any (eq_by_cmp nat_cmp q) ks ≡ is_some (find nat_cmp q es)) → ks ≡ each (λ e. e.0) es
 keys_alike ks es h g is =
     let alike = same_entries nat_cmp nat_cmp_total nat_cmp-IsAntisymmetric (units ks) (units (each (λ e. e.0) es)) (rising_units ks h) (subst T (sym (rising_keys es)) g)
-      (λ q. found_unit q ks ∙ (ap (λ b. cond b (Some tt) None) (is q ∙ is_some-find nat_cmp q es) ∙ sym (found_unit q (each (λ e. e.0) es)))) in
+    (λ q. found_unit q ks ∙ (ap (λ b. cond b (Some tt) None) (is q ∙ is_some-find nat_cmp q es) ∙ sym (found_unit q (each (λ e. e.0) es)))) in
     sym (keys_of_units ks) ∙ (ap (λ us. each (λ e. e.0) us) alike ∙ keys_of_units (each (λ e. e.0) es))
 
 -- ---- the kind sets of the tables that have rows
@@ -157,7 +157,7 @@ sorted_masks ts sets h moved sorted =
     let distinct = IsDistinct-IsPermutation nat_eq flips (masks_seen ts) sets moved (masks_distinct ts h) in
     let rising = sorted_from_strictly_increasing sets (IsStrictlyIncreasing-from_distinct sets (IsNonDecreasingBy-from_sort (λ x. x) sets sorted) distinct) in
     keys_alike sets (tables_of ts).entries rising (tables_of ts).sorted
-      (λ q. sym (list_any-IsPermutation (eq_by_cmp nat_cmp q) (masks_seen ts) sets moved) ∙ among_seen q ts h)
+    (λ q. sym (list_any-IsPermutation (eq_by_cmp nat_cmp q) (masks_seen ts) sets moved) ∙ among_seen q ts h)
   where
     flips : (a b : ℕ) → nat_eq a b ≡ nat_eq b a
     flips a b = grind (arith, nat_tests)

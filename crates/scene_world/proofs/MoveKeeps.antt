@@ -45,23 +45,23 @@ pub record KeepsWorld (w : World) (t : Tables) : Type 0 where
 
 pub tables_valid : (w : World) (t : Tables) → IsValid w → KeepsWorld w t → IsValid (with_tables w t)
 tables_valid w t v k = record {
-    limit = v.limit;
-    generations = v.generations;
-    current = k.current;
-    once = k.once;
-    free = (v.free.0, (v.free.1.0, k.busy));
-    accounted = λ i l. one_of _ (is_live_index w i) (is_free w.slots i) (is_retired w.slots i) (v.accounted i l)
+  limit = v.limit;
+  generations = v.generations;
+  current = k.current;
+  once = k.once;
+  free = (v.free.0, (v.free.1.0, k.busy));
+  accounted = λ i l. one_of _ (is_live_index w i) (is_free w.slots i) (is_retired w.slots i) (v.accounted i l)
       (λ a. first_of_three (is_live_index (with_tables w t) i) (is_free w.slots i) (is_retired w.slots i) (k.alive (record { index = i; generation = slice_index w.slots.generations i }) a))
       (λ b. second_of_three (is_live_index (with_tables w t) i) (is_free w.slots i) (is_retired w.slots i) b)
       (λ c. third_of_three (is_live_index (with_tables w t) i) (is_free w.slots i) (is_retired w.slots i) c);
-    rows = k.rows;
-    links = (λ p c g. (k.alive p (v.links.0 p c g).0, k.alive c (v.links.0 p c g).1), v.links.1);
-    names = v.names;
-    ticks = (k.timely, v.ticks.1);
-    schema = v.schema;
-    generations_low = v.generations_low;
-    tick_low = v.tick_low;
-  }
+  rows = k.rows;
+  links = (λ p c g. (k.alive p (v.links.0 p c g).0, k.alive c (v.links.0 p c g).1), v.links.1);
+  names = v.names;
+  ticks = (k.timely, v.ticks.1);
+  schema = v.schema;
+  generations_low = v.generations_low;
+  tick_low = v.tick_low;
+}
 
 -- a row that moves: everybody lives on
 lives_moved : (t : Tables) (h : Home) (row : Row) (cells : List (ℕ × Cell)) (e : Entity) → row_at t h ≡ Some row → lives t e ≡ true → lives (moved t h row cells) e ≡ true
@@ -86,7 +86,7 @@ moved_keeps w h row cells v at fits timely =
       busy = each_added (λ m r. is_free w.slots r.entity.index ≡ false) (without_row w.tables h) new (each_removed (λ m r. is_free w.slots r.entity.index ≡ false) w.tables h row at v.free.1.1) (v.free.1.1 h row at);
       rows = each_added (IsRowOf w.schema) (without_row w.tables h) new (each_removed (IsRowOf w.schema) w.tables h row at v.rows) fits;
       timely = each_added (λ m r. list_all (λ (c : ℕ × Cell). is_timely w.tick c.1) r.cells ≡ true) (without_row w.tables h) new
-        (each_removed (λ m r. list_all (λ (c : ℕ × Cell). is_timely w.tick c.1) r.cells ≡ true) w.tables h row at v.ticks.0) timely;
+          (each_removed (λ m r. list_all (λ (c : ℕ × Cell). is_timely w.tick c.1) r.cells ≡ true) w.tables h row at v.ticks.0) timely;
       alive = λ e l. lives_moved w.tables h row cells e at l;
     })
 
@@ -95,13 +95,13 @@ pub rewritten_keeps : (w : World) (h : Home) (row new : Row) → IsValid w → r
     → IsRowOf w.schema h.mask new → list_all (λ (c : ℕ × Cell). is_timely w.tick c.1) new.cells ≡ true
     → IsValid (with_tables w (with_row_at w.tables h new))
 rewritten_keeps w h row new v at same fits timely = tables_valid w (with_row_at w.tables h new) v (record {
-    current = each_rewritten (λ m r. IsCurrent w.slots r.entity) w.tables h new v.current (subst (IsCurrent w.slots) (sym same) (v.current h row at));
-    once = once_rewritten w.tables h row new at same v.once;
-    busy = each_rewritten (λ m r. is_free w.slots r.entity.index ≡ false) w.tables h new v.free.1.1 (subst (λ (e : Entity). is_free w.slots e.index ≡ false) (sym same) (v.free.1.1 h row at));
-    rows = each_rewritten (IsRowOf w.schema) w.tables h new v.rows fits;
-    timely = each_rewritten (λ m r. list_all (λ (c : ℕ × Cell). is_timely w.tick c.1) r.cells ≡ true) w.tables h new v.ticks.0 timely;
-    alive = λ e l. lives_rewritten w.tables h row new e at same l;
-  })
+  current = each_rewritten (λ m r. IsCurrent w.slots r.entity) w.tables h new v.current (subst (IsCurrent w.slots) (sym same) (v.current h row at));
+  once = once_rewritten w.tables h row new at same v.once;
+  busy = each_rewritten (λ m r. is_free w.slots r.entity.index ≡ false) w.tables h new v.free.1.1 (subst (λ (e : Entity). is_free w.slots e.index ≡ false) (sym same) (v.free.1.1 h row at));
+  rows = each_rewritten (IsRowOf w.schema) w.tables h new v.rows fits;
+  timely = each_rewritten (λ m r. list_all (λ (c : ℕ × Cell). is_timely w.tick c.1) r.cells ≡ true) w.tables h new v.ticks.0 timely;
+  alive = λ e l. lives_rewritten w.tables h row new e at same l;
+})
 
 -- ---- insert
 
@@ -134,11 +134,11 @@ pub insert_made : (w : World) (h : Home) (row : Row) (kind : ℕ) (value : Value
 insert_made w h row kind value None e v at fits =
     let old = v.rows h row at in
     moved_keeps w h row (with_cell row.cells kind (new_cell w.tick value)) v at
-      (record {
-        kinds = record { ascending = ascending-with_cell row.cells kind (new_cell w.tick value) old.kinds.ascending; kinds = refl };
-        shapes = all-with_cell (λ (c : ℕ × Cell). fits_kind w.schema c.1.value c.0) row.cells kind (new_cell w.tick value) old.shapes fits;
-      })
-      (all-with_cell (λ (c : ℕ × Cell). is_timely w.tick c.1) row.cells kind (new_cell w.tick value) (v.ticks.0 h row at) (timely_now w.tick value w.tick (itself w.tick)))
+    (record {
+      kinds = record { ascending = ascending-with_cell row.cells kind (new_cell w.tick value) old.kinds.ascending; kinds = refl };
+      shapes = all-with_cell (λ (c : ℕ × Cell). fits_kind w.schema c.1.value c.0) row.cells kind (new_cell w.tick value) old.shapes fits;
+    })
+    (all-with_cell (λ (c : ℕ × Cell). is_timely w.tick c.1) row.cells kind (new_cell w.tick value) (v.ticks.0 h row at) (timely_now w.tick value w.tick (itself w.tick)))
   where
     itself : (n : ℕ) → nat_le n n ≡ true
     itself n = grind (arith, nat_tests)
@@ -147,19 +147,19 @@ insert_made w h row kind value (Some c) e v at fits =
     let new : Cell = record { value = value; added = c.added; changed = w.tick } in
     let was = found_passes (is_timely w.tick) row.cells kind c (v.ticks.0 h row at) e in
     rewritten_keeps w h row (row_with_cell row kind new) v at refl
-      (record {
-        kinds = record { ascending = ascending-with_cell row.cells kind new old.kinds.ascending; kinds = mask-with_cell_there row.cells kind c new old.kinds.ascending e ∙ old.kinds.kinds };
-        shapes = all-with_cell (λ (c : ℕ × Cell). fits_kind w.schema c.1.value c.0) row.cells kind new old.shapes fits;
-      })
-      (all-with_cell (λ (c : ℕ × Cell). is_timely w.tick c.1) row.cells kind new (v.ticks.0 h row at) (timely_there w.tick c value was))
+    (record {
+      kinds = record { ascending = ascending-with_cell row.cells kind new old.kinds.ascending; kinds = mask-with_cell_there row.cells kind c new old.kinds.ascending e ∙ old.kinds.kinds };
+      shapes = all-with_cell (λ (c : ℕ × Cell). fits_kind w.schema c.1.value c.0) row.cells kind new old.shapes fits;
+    })
+    (all-with_cell (λ (c : ℕ × Cell). is_timely w.tick c.1) row.cells kind new (v.ticks.0 h row at) (timely_there w.tick c value was))
 
 pub insert_keeps : InsertKeeps
 insert_keeps w v e kind value valid is =
     with_row_of (IsValid v) w e _ (tt, v) is (λ h r at same made.
-      let parts = no_fault (insert_fault w.schema kind value) _ (tt, v) made in
-      let tests = insert_tests w.schema kind value parts.0 in
-      let world = same_world tt tt _ v parts.1 in
-      subst IsValid world.1 (insert_made w h r kind value (cell_of r.cells kind) refl valid at tests.1))
+    let parts = no_fault (insert_fault w.schema kind value) _ (tt, v) made in
+    let tests = insert_tests w.schema kind value parts.0 in
+    let world = same_world tt tt _ v parts.1 in
+    subst IsValid world.1 (insert_made w h r kind value (cell_of r.cells kind) refl valid at tests.1))
 
 -- ---- remove
 
@@ -168,18 +168,18 @@ pub remove_made : (w : World) (h : Home) (row : Row) (kind : ℕ) → IsValid w 
 remove_made w h row kind v at =
     let old = v.rows h row at in
     moved_keeps w h row (without_cell row.cells kind) v at
-      (record {
-        kinds = record { ascending = ascending-without_cell row.cells kind old.kinds.ascending; kinds = refl };
-        shapes = all-without_cell (λ (c : ℕ × Cell). fits_kind w.schema c.1.value c.0) row.cells kind old.shapes;
-      })
-      (all-without_cell (λ (c : ℕ × Cell). is_timely w.tick c.1) row.cells kind (v.ticks.0 h row at))
+    (record {
+      kinds = record { ascending = ascending-without_cell row.cells kind old.kinds.ascending; kinds = refl };
+      shapes = all-without_cell (λ (c : ℕ × Cell). fits_kind w.schema c.1.value c.0) row.cells kind old.shapes;
+    })
+    (all-without_cell (λ (c : ℕ × Cell). is_timely w.tick c.1) row.cells kind (v.ticks.0 h row at))
 
 pub remove_keeps : RemoveKeeps
 remove_keeps w v e kind valid is =
     with_row_of (IsValid v) w e _ (tt, v) is (λ h r at same made.
-      let parts = no_fault (remove_fault w.schema r.cells kind) _ (tt, v) made in
-      let world = same_world tt tt _ v parts.1 in
-      subst IsValid world.1 (remove_made w h r kind valid at))
+    let parts = no_fault (remove_fault w.schema r.cells kind) _ (tt, v) made in
+    let world = same_world tt tt _ v parts.1 in
+    subst IsValid world.1 (remove_made w h r kind valid at))
 
 -- ---- raising the tick
 
@@ -202,20 +202,20 @@ all_later tick (c ∷ cs) h =
 -- a later tick keeps a world valid
 pub raised_valid : (w : World) → IsValid w → nat_eq w.tick highest_tick ≡ false → IsValid (record w { tick = w.tick + 1 })
 raised_valid w v low = record {
-    limit = v.limit;
-    generations = v.generations;
-    current = v.current;
-    once = v.once;
-    free = v.free;
-    accounted = v.accounted;
-    rows = v.rows;
-    links = v.links;
-    names = v.names;
-    ticks = (λ h r at. all_later w.tick r.cells (v.ticks.0 h r at), λ name cell at. later w.tick cell (v.ticks.1 name cell at));
-    schema = v.schema;
-    generations_low = v.generations_low;
-    tick_low = still_low w.tick v.tick_low low;
-  }
+  limit = v.limit;
+  generations = v.generations;
+  current = v.current;
+  once = v.once;
+  free = v.free;
+  accounted = v.accounted;
+  rows = v.rows;
+  links = v.links;
+  names = v.names;
+  ticks = (λ h r at. all_later w.tick r.cells (v.ticks.0 h r at), λ name cell at. later w.tick cell (v.ticks.1 name cell at));
+  schema = v.schema;
+  generations_low = v.generations_low;
+  tick_low = still_low w.tick v.tick_low low;
+}
   where
     still_low : (t : ℕ) → t ≤ highest_tick → nat_eq t highest_tick ≡ false → t + 1 ≤ highest_tick
     still_low t l n = grind (arith, nat_tests)

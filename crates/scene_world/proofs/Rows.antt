@@ -15,7 +15,6 @@ use Rattle.scene_world.specs.World.{Tables, rows_at, with_rows, row_at, with_row
 use Rattle.scene_world.specs.Valid.{EachRow, StandsOnce}
 use Rattle.scene_world.proofs.RowLists.{within, pushed, pushed_stays, pushed_last, written, written_stays, written_there, swapped, swapped_stays}
 
-
 -- what stands at a home after the rows of a kind set were written
 pub row_at-with_rows : (t : Tables) (m : ℕ) (rows : List Row) (h : Home) → row_at (with_rows t m rows) h ≡ cond (eq_by_cmp nat_cmp h.mask m) (slice_get rows h.place) (row_at t h)
 row_at-with_rows t m rows h = ap (λ (xs : List Row). slice_get xs h.place) (list_at-with_list nat_cmp_total t m rows h.mask) ∙
@@ -95,8 +94,8 @@ once_added t row once nowhere = λ a b r s p q e.
     added (a ≡ b) t row a r p
     (λ g. added (a ≡ b) t row b s q (λ k. once a b r s g k e) (λ m n k. absurd (nowhere a r g (e ∙ ap (λ x. x.entity) (sym k)))))
     (λ m n k. added (a ≡ b) t row b s q
-      (λ g. absurd (nowhere b s g (sym e ∙ ap (λ x. x.entity) (sym k))))
-      (λ m' n' k'. same_home a b (m ∙ sym m') (n ∙ sym n')))
+    (λ g. absurd (nowhere b s g (sym e ∙ ap (λ x. x.entity) (sym k))))
+    (λ m' n' k'. same_home a b (m ∙ sym m') (n ∙ sym n')))
 
 -- ---- a row taken out
 
@@ -107,8 +106,8 @@ pub removed : (P : Type 0) (t : Tables) (h : Home) (gone : Row) (g : Home) (r : 
 removed P t h gone g r at is last old =
     written_rows P t h.mask (swap_out (rows_at t h.mask) h.place) g r is
     (λ e k. swapped P (rows_at t h.mask) h.place g.place r (within (rows_at t h.mask) h.place gone at) k
-      (λ f q l m n. last e f q l m n)
-      (λ ne m n. old (λ s. ne (ap (λ x. x.place) s)) (λ u. m) (from_list t h.mask g r e n)))
+    (λ f q l m n. last e f q l m n)
+    (λ ne m n. old (λ s. ne (ap (λ x. x.place) s)) (λ u. m) (from_list t h.mask g r e n)))
     (λ ne k. old (λ s. ne (ap (λ x. x.mask) s)) (λ u. absurd (ne u)) k)
 
 pub each_removed : (P : ℕ → Row → Type 0) (t : Tables) (h : Home) (gone : Row) → row_at t h ≡ Some gone → EachRow P t → EachRow P (without_row t h)
@@ -120,28 +119,28 @@ pub once_removed : (t : Tables) (h : Home) (gone : Row) → row_at t h ≡ Some 
 once_removed t h gone at once = λ a b r s p q e.
     removed (a ≡ b) t h gone a r at p
     (λ m f i l n k. removed (a ≡ b) t h gone b s at q
-      (λ m' f' i' l' n' k'. same_home a b (m ∙ sym m') (f ∙ sym f'))
-      (λ ne n' k'.
-          let u = once (record { mask = h.mask; place = i }) b r s k k' e in
-          let v : i ≡ b.place = ap (λ x. x.place) u in
-          let w : suc b.place < length (rows_at t h.mask) = n' (ap (λ x. x.mask) (sym u)) in
-          absurd (omega arith)))
+    (λ m' f' i' l' n' k'. same_home a b (m ∙ sym m') (f ∙ sym f'))
+    (λ ne n' k'.
+    let u = once (record { mask = h.mask; place = i }) b r s k k' e in
+    let v : i ≡ b.place = ap (λ x. x.place) u in
+    let w : suc b.place < length (rows_at t h.mask) = n' (ap (λ x. x.mask) (sym u)) in
+    absurd (omega arith)))
     (λ ne n k. removed (a ≡ b) t h gone b s at q
-      (λ m' f' i' l' n' k'.
-          let u = once a (record { mask = h.mask; place = i' }) r s k k' e in
-          let v : a.place ≡ i' = ap (λ x. x.place) u in
-          let w : suc a.place < length (rows_at t h.mask) = n (ap (λ x. x.mask) u) in
-          absurd (omega arith))
-      (λ ne' n' k'. once a b r s k k' e))
+    (λ m' f' i' l' n' k'.
+    let u = once a (record { mask = h.mask; place = i' }) r s k k' e in
+    let v : a.place ≡ i' = ap (λ x. x.place) u in
+    let w : suc a.place < length (rows_at t h.mask) = n (ap (λ x. x.mask) u) in
+    absurd (omega arith))
+    (λ ne' n' k'. once a b r s k k' e))
 
 -- an entity whose row was taken out stands nowhere
 pub removed_nowhere : (t : Tables) (h : Home) (gone : Row) → row_at t h ≡ Some gone → StandsOnce t → StandsNowhere gone.entity (without_row t h)
 removed_nowhere t h gone at once = λ g r is e.
     removed ⊥ t h gone g r at is
     (λ m f q l n k.
-        let u = once (record { mask = h.mask; place = q }) h r gone k at e in
-        let v : q ≡ h.place = ap (λ x. x.place) u in
-        omega arith)
+    let u = once (record { mask = h.mask; place = q }) h r gone k at e in
+    let v : q ≡ h.place = ap (λ x. x.place) u in
+    omega arith)
     (λ ne n k. ne (once g h r gone k at e))
 
 -- another row stands somewhere after one was taken out
@@ -163,8 +162,8 @@ pub rewritten : (P : Type 0) (t : Tables) (h : Home) (row : Row) (g : Home) (r :
 rewritten P t h row g r is new old =
     written_rows P t h.mask (slice_set (rows_at t h.mask) h.place row) g r is
     (λ e k. written P (rows_at t h.mask) h.place row g.place r k
-      (λ f s. new (same_home g h e f) s)
-      (λ ne n. old (λ s. ne (ap (λ x. x.place) s)) (from_list t h.mask g r e n)))
+    (λ f s. new (same_home g h e f) s)
+    (λ ne n. old (λ s. ne (ap (λ x. x.place) s)) (from_list t h.mask g r e n)))
     (λ ne k. old (λ s. ne (ap (λ x. x.mask) s)) k)
 
 pub each_rewritten : (P : ℕ → Row → Type 0) (t : Tables) (h : Home) (row : Row) → EachRow P t → P h.mask row → EachRow P (with_row_at t h row)
@@ -176,11 +175,11 @@ pub once_rewritten : (t : Tables) (h : Home) (was row : Row) → row_at t h ≡ 
 once_rewritten t h was row at same once = λ a b r s p q e.
     rewritten (a ≡ b) t h row a r p
     (λ m k. rewritten (a ≡ b) t h row b s q
-      (λ m' k'. m ∙ sym m')
-      (λ ne g. m ∙ once h b was s at g (sym same ∙ ap (λ x. x.entity) k ∙ e)))
+    (λ m' k'. m ∙ sym m')
+    (λ ne g. m ∙ once h b was s at g (sym same ∙ ap (λ x. x.entity) k ∙ e)))
     (λ ne g. rewritten (a ≡ b) t h row b s q
-      (λ m' k'. once a h r was g at (e ∙ ap (λ x. x.entity) (sym k') ∙ same) ∙ sym m')
-      (λ ne' g'. once a b r s g g' e))
+    (λ m' k'. once a h r was g at (e ∙ ap (λ x. x.entity) (sym k') ∙ same) ∙ sym m')
+    (λ ne' g'. once a b r s g g' e))
 
 -- a row of each entity stands on
 pub rewritten_stays : (t : Tables) (h : Home) (was row : Row) (g : Home) (r : Row) → row_at t h ≡ Some was → row.entity ≡ was.entity → row_at t g ≡ Some r
@@ -195,9 +194,14 @@ rewritten_stays t h was row g r at same is =
                 let u : g ≡ h = same_home g h m n in
                 let v : was ≡ r = same_some was r (sym at ∙ ap (row_at t) (sym u) ∙ is) in
                 (row, (ap (row_at (with_row_at t h row)) u ∙ there_written t h.mask (slice_set (rows_at t h.mask) h.place row) h row refl (written_there (rows_at t h.mask) h.place row was at), same ∙ ap (λ x. x.entity) v))
-            | false ↦ λ f.
-                (r, (there_written t h.mask (slice_set (rows_at t h.mask) h.place row) g r m
-                  (written_stays (rows_at t h.mask) h.place row g.place r (apart _ h.place f) (in_list t h.mask g r m is)), refl))
+            | false ↦ λ f. (
+              r,
+              (
+                there_written t h.mask (slice_set (rows_at t h.mask) h.place row) g r m
+                    (written_stays (rows_at t h.mask) h.place row g.place r (apart _ h.place f) (in_list t h.mask g r m is)),
+                refl,
+              ),
+            )
           ] refl
       | false ↦ λ e. (r, (there_apart t h.mask (slice_set (rows_at t h.mask) h.place row) g r (apart _ h.mask e) is, refl))
     ] refl

@@ -41,17 +41,17 @@ scan_complete e (t ∷ ts) is h g =
     elim (place_among e t.rows) as (λ o. place_among e t.rows ≡ o → option_or (option_map (λ (p : ℕ). record { mask = t.mask; place = p }) o) (scan e ts) ≡ None → ⊥) [
       | Some k ↦ λ q s. absurd (cc)
       | None ↦ λ q s. elim (nat_eq h.mask t.mask) as (λ b. nat_eq h.mask t.mask ≡ b → ⊥) [
-          | true ↦ λ v. place_missed e t.rows q h.place (subst (λ rows. HasAt rows h.place e) (ap (rows_at (tables_of (t ∷ ts))) (eq_of_test h.mask t.mask v) ∙ list_at_same nat_cmp_total (tables_of ts) t.mask t.rows) g)
-          | false ↦ λ v. scan_complete e ts s h (subst (λ rows. HasAt rows h.place e) (list_at_apart nat_cmp_total nat_cmp-IsAntisymmetric (tables_of ts) t.mask h.mask t.rows (ne_of_test h.mask t.mask v)) g)
-        ] refl
+        | true ↦ λ v. place_missed e t.rows q h.place (subst (λ rows. HasAt rows h.place e) (ap (rows_at (tables_of (t ∷ ts))) (eq_of_test h.mask t.mask v) ∙ list_at_same nat_cmp_total (tables_of ts) t.mask t.rows) g)
+        | false ↦ λ v. scan_complete e ts s h (subst (λ rows. HasAt rows h.place e) (list_at_apart nat_cmp_total nat_cmp-IsAntisymmetric (tables_of ts) t.mask h.mask t.rows (ne_of_test h.mask t.mask v)) g)
+      ] refl
     ] refl is
 
 -- where kind sets are distinct and each entity stands once, a scan answers as the definition does
 pub scan_home : (e : Entity) (ts : List TableState) → AreApart ts → StandsOnce (tables_of ts) → scan e ts ≡ home_in e (tables_of ts).entries
 scan_home e ts apart once = elim (scan e ts) as (λ o. scan e ts ≡ o → o ≡ home_in e (tables_of ts).entries) [
-    | Some h ↦ λ q. let k = scan_sound e ts apart h q in sym (home_is (tables_of ts) e h k.row once k.there k.same)
-    | None ↦ λ q. sym (home_none (tables_of ts) e (λ h r is same. scan_complete e ts q h (record { row = r; there = is; same = same })))
-  ] refl
+  | Some h ↦ λ q. let k = scan_sound e ts apart h q in sym (home_is (tables_of ts) e h k.row once k.there k.same)
+  | None ↦ λ q. sym (home_none (tables_of ts) e (λ h r is same. scan_complete e ts q h (record { row = r; there = is; same = same })))
+] refl
 
 -- the home of a live entity, in a world
 home_facts : (w : World) (e : Entity) (h : Home) → Some h ≡ home_of w e → IsHomeOf w e h

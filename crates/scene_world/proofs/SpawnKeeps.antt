@@ -25,14 +25,14 @@ use Rattle.scene_world.proofs.TakenSlots.{IsTaken, taken}
 -- a valid world has sound slots
 pub slots_of : (w : World) → IsValid w → IsSlots w.slots
 slots_of w v = record {
-    some_limit = v.limit.0;
-    low_limit = v.limit.1.0;
-    few = v.limit.1.1;
-    begun = v.generations;
-    low = v.generations_low;
-    in_range = v.free.0;
-    distinct = v.free.1.0;
-  }
+  some_limit = v.limit.0;
+  low_limit = v.limit.1.0;
+  few = v.limit.1.1;
+  begun = v.generations;
+  low = v.generations_low;
+  in_range = v.free.0;
+  distinct = v.free.1.0;
+}
 
 -- nobody stands with the identity that a take gives
 pub taken_nowhere : (w : World) (s : SlotState) (e : Entity) → IsValid w → IsTaken w.slots s e → StandsNowhere e w.tables
@@ -59,30 +59,30 @@ new_accounted : (w : World) (s : SlotState) (row : Row) → IsTaken w.slots s ro
     → (is_live_index (grown w s row) i || is_free s i || is_retired s i) ≡ true
 new_accounted w s row t i e =
     let same : record { index = i; generation = slice_index s.generations i } ≡ row.entity =
-        λ j. record { index = e j; generation = (ap (slice_index s.generations) e ∙ read s.generations row.entity.index row.entity.generation t.current) j } in
+    λ j. record { index = e j; generation = (ap (slice_index s.generations) e ∙ read s.generations row.entity.index row.entity.generation t.current) j } in
     first_of_three _ _ _ (ap (lives (with_row w.tables row)) same ∙ live_here (with_row w.tables row) row.entity _ row (added_there w.tables row) refl)
 
 -- a new row of a new entity keeps a world valid
 pub grown_valid : (w : World) (s : SlotState) (row : Row) → IsValid w → IsTaken w.slots s row.entity → IsRowOf w.schema (mask_of row.cells) row
     → list_all (λ (c : ℕ × Cell). is_timely w.tick c.1) row.cells ≡ true → IsValid (grown w s row)
 grown_valid w s row v t fits timely = record {
-    limit = (t.sound.some_limit, (t.sound.low_limit, t.sound.few));
-    generations = t.sound.begun;
-    current = each_added (λ m r. IsCurrent s r.entity) w.tables row (λ h r g. t.kept r.entity.index r.entity.generation (v.current h r g)) t.current;
-    once = once_added w.tables row v.once (taken_nowhere w s row.entity v t);
-    free = (t.sound.in_range, (t.sound.distinct, each_added (λ m r. is_free s r.entity.index ≡ false) w.tables row (λ h r g. t.fewer r.entity.index (v.free.1.1 h r g)) t.busy));
-    accounted = λ i l. elim (nat_eq i row.entity.index) as (λ b. nat_eq i row.entity.index ≡ b → (is_live_index (grown w s row) i || is_free s i || is_retired s i) ≡ true) [
-      | true ↦ λ e. new_accounted w s row t i (equal i row.entity.index e)
-      | false ↦ λ e. old_accounted w s row v t i (t.older i l (unequal i row.entity.index e)) (unequal i row.entity.index e)
-    ] refl;
-    rows = each_added (IsRowOf w.schema) w.tables row v.rows fits;
-    links = (λ p c k. (lives_added w.tables row p (v.links.0 p c k).0, lives_added w.tables row c (v.links.0 p c k).1), v.links.1);
-    names = v.names;
-    ticks = (each_added (λ m r. list_all (λ (c : ℕ × Cell). is_timely w.tick c.1) r.cells ≡ true) w.tables row v.ticks.0 timely, v.ticks.1);
-    schema = v.schema;
-    generations_low = t.sound.low;
-    tick_low = v.tick_low;
-  }
+  limit = (t.sound.some_limit, (t.sound.low_limit, t.sound.few));
+  generations = t.sound.begun;
+  current = each_added (λ m r. IsCurrent s r.entity) w.tables row (λ h r g. t.kept r.entity.index r.entity.generation (v.current h r g)) t.current;
+  once = once_added w.tables row v.once (taken_nowhere w s row.entity v t);
+  free = (t.sound.in_range, (t.sound.distinct, each_added (λ m r. is_free s r.entity.index ≡ false) w.tables row (λ h r g. t.fewer r.entity.index (v.free.1.1 h r g)) t.busy));
+  accounted = λ i l. elim (nat_eq i row.entity.index) as (λ b. nat_eq i row.entity.index ≡ b → (is_live_index (grown w s row) i || is_free s i || is_retired s i) ≡ true) [
+    | true ↦ λ e. new_accounted w s row t i (equal i row.entity.index e)
+    | false ↦ λ e. old_accounted w s row v t i (t.older i l (unequal i row.entity.index e)) (unequal i row.entity.index e)
+  ] refl;
+  rows = each_added (IsRowOf w.schema) w.tables row v.rows fits;
+  links = (λ p c k. (lives_added w.tables row p (v.links.0 p c k).0, lives_added w.tables row c (v.links.0 p c k).1), v.links.1);
+  names = v.names;
+  ticks = (each_added (λ m r. list_all (λ (c : ℕ × Cell). is_timely w.tick c.1) r.cells ≡ true) w.tables row v.ticks.0 timely, v.ticks.1);
+  schema = v.schema;
+  generations_low = t.sound.low;
+  tick_low = v.tick_low;
+}
   where
     equal : (a b : ℕ) → nat_eq a b ≡ true → a ≡ b
     equal a b h = grind (arith, nat_tests)
@@ -104,9 +104,9 @@ pub spawned_valid : (w : World) (given : List (ℕ × Value)) (cells : List (ℕ
 spawned_valid w given cells s e v fits made took =
     let tests = spawn_tests w.schema given fits in
     subst (λ (cs : List (ℕ × Cell)). IsValid (grown w s (record { entity = e; cells = cs }))) (sym made)
-      (grown_valid w s (record { entity = e; cells = new_cells w.tick given }) v (taken w.slots s e (slots_of w v) took)
-        (record { kinds = record { ascending = new_ascending w.tick given; kinds = refl }; shapes = new_shapes w.schema w.tick given tests.2 })
-        (new_timely w.tick given))
+    (grown_valid w s (record { entity = e; cells = new_cells w.tick given }) v (taken w.slots s e (slots_of w v) took)
+    (record { kinds = record { ascending = new_ascending w.tick given; kinds = refl }; shapes = new_shapes w.schema w.tick given tests.2 })
+    (new_timely w.tick given))
 
 pub spawn_keeps : SpawnKeeps
 spawn_keeps w v cells e valid is =

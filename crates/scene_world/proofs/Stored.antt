@@ -192,12 +192,12 @@ none_there mask ts (Some i) e = tt
 
 pub no_rows : (t : Tables) (mask : ℕ) → rows_at t mask ≡ [] → option_map whole (map.get t mask) ≡ None
 no_rows t mask e = elim (map.get t mask) as (λ o. listed o ≡ [] → option_map whole o ≡ None) [
-    | None ↦ λ h. refl
-    | Some p ↦ λ h. absurd (let k : p.0 ∷ p.1 ≡ [] = h in cc)
-  ] e
+  | None ↦ λ h. refl
+  | Some p ↦ λ h. absurd (let k : p.0 ∷ p.1 ≡ [] = h in cc)
+] e
 
 pub some_rows : (t : Tables) (mask : ℕ) (rows : List Row) → rows_at t mask ≡ rows → (rows ≡ [] → ⊥) → Some rows ≡ option_map whole (map.get t mask)
 some_rows t mask rows e ne = elim (map.get t mask) as (λ o. listed o ≡ rows → Some rows ≡ option_map whole o) [
-    | None ↦ λ h. absurd (ne (sym h))
-    | Some p ↦ λ h. ap Some (sym h)
-  ] e
+  | None ↦ λ h. absurd (ne (sym h))
+  | Some p ↦ λ h. ap Some (sym h)
+] e

@@ -69,25 +69,25 @@ pub taken : (s t : SlotState) (e : Entity) → IsSlots s → take_of s ≡ Ok (e
 taken s t e v h =
     let u = CanUntake-take s t e v h in
     let rest = take_cases s (λ (e : Entity) (t : SlotState). ((i g : ℕ) → slice_get s.generations i ≡ Some g → slice_get t.generations i ≡ Some g)
-          × ((i : ℕ) → i < length t.generations → (i ≡ e.index → ⊥) → i < length s.generations)
-          × ((i : ℕ) → is_free s i ≡ false → is_free t i ≡ false)
-          × ((i : ℕ) → (i ≡ e.index → ⊥) → is_free s i ≡ true → is_free t i ≡ true)
-          × ((is_free s e.index ≡ true) ⊎ (slice_get s.generations e.index ≡ None)))
-        (λ i q. (
-          (λ k g f. f),
-          (λ k l ne. l),
-          (λ k f. not_or (list_any (nat_eq k) (front s.free)) (nat_eq k i) (sym (free_before s i k q) ∙ f)),
-          (λ k ne f. or_else (list_any (nat_eq k) (front s.free)) (nat_eq k i) (sym (free_before s i k q) ∙ f) (differ k i ne)),
-          inl (free_before s i i q ∙ ap (λ b. list_any (nat_eq i) (front s.free) || b) (same_itself i) ∙ or_right (list_any (nat_eq i) (front s.free))),
-        ))
-        (λ none l. (
-          (λ k g f. pushed_stays s.generations 1 k g f),
-          (λ k m ne. let n : k < length (s.generations ++ 1 ∷ []) = m in omega (arith, length-append s.generations (1 ∷ []))),
-          (λ k f. f),
-          (λ k ne f. f),
-          inr (none_past s.generations),
-        ))
-        e t h in
+    × ((i : ℕ) → i < length t.generations → (i ≡ e.index → ⊥) → i < length s.generations)
+    × ((i : ℕ) → is_free s i ≡ false → is_free t i ≡ false)
+    × ((i : ℕ) → (i ≡ e.index → ⊥) → is_free s i ≡ true → is_free t i ≡ true)
+    × ((is_free s e.index ≡ true) ⊎ (slice_get s.generations e.index ≡ None)))
+    (λ i q. (
+      (λ k g f. f),
+      (λ k l ne. l),
+      (λ k f. not_or (list_any (nat_eq k) (front s.free)) (nat_eq k i) (sym (free_before s i k q) ∙ f)),
+      (λ k ne f. or_else (list_any (nat_eq k) (front s.free)) (nat_eq k i) (sym (free_before s i k q) ∙ f) (differ k i ne)),
+      inl (free_before s i i q ∙ ap (λ b. list_any (nat_eq i) (front s.free) || b) (same_itself i) ∙ or_right (list_any (nat_eq i) (front s.free))),
+    ))
+    (λ none l. (
+      (λ k g f. pushed_stays s.generations 1 k g f),
+      (λ k m ne. let n : k < length (s.generations ++ 1 ∷ []) = m in omega (arith, length-append s.generations (1 ∷ []))),
+      (λ k f. f),
+      (λ k ne f. f),
+      inr (none_past s.generations),
+    ))
+    e t h in
     record {
       sound = IsSlots-take s t e v h;
       current = u.current;

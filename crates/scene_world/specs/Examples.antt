@@ -205,12 +205,12 @@ ResourcesKeepAdded =
 abbrev pub RefusalsOfTheWorld : Type 0
 RefusalsOfTheWorld =
     let lines : List Line =
-        one spawn_tag ∷ one spawn_tag ∷ one (λ w. quiet (set_parent w (ent 1 1) (ent 0 1)))
-        ∷ one (λ w. quiet (despawn w (ent 0 1))) ∷ one (λ w. quiet (remove w (ent 1 1) 0))
-        ∷ one (λ w. quiet (remove_parent w (ent 1 1))) ∷ one (λ w. quiet (remove_parent w (ent 1 1)))
-        ∷ one (λ w. quiet (despawn w (ent 0 1))) ∷ [] in
+    one spawn_tag ∷ one spawn_tag ∷ one (λ w. quiet (set_parent w (ent 1 1) (ent 0 1)))
+    ∷ one (λ w. quiet (despawn w (ent 0 1))) ∷ one (λ w. quiet (remove w (ent 1 1) 0))
+    ∷ one (λ w. quiet (remove_parent w (ent 1 1))) ∷ one (λ w. quiet (remove_parent w (ent 1 1)))
+    ∷ one (λ w. quiet (despawn w (ent 0 1))) ∷ [] in
     (replies (lines ++ one spawn_tag ∷ []) fresh
-        ≡ told (ent 0 1 ∷ []) ∷ told (ent 1 1 ∷ []) ∷ told [] ∷ refused HasChildren ∷ refused NotPresent ∷ told [] ∷ refused NoParent ∷ told [] ∷ told (ent 0 2 ∷ []) ∷ [])
+    ≡ told (ent 0 1 ∷ []) ∷ told (ent 1 1 ∷ []) ∷ told [] ∷ refused HasChildren ∷ refused NotPresent ∷ told [] ∷ refused NoParent ∷ told [] ∷ told (ent 0 2 ∷ []) ∷ [])
     × (cell_at (ends lines fresh).now (ent 0 1) 1 ≡ Err (refusal_of NoSuchEntity))
     × (cell_at (ends lines fresh).now (ent 1 1) 1 ≡ Ok (cell value.Tag 2 2))
 

@@ -15,4 +15,3 @@ pub fn worked_examples_hold()
     ensures refusals { RefusalsOfTheWorld }
     ensures spawn_refusals { RefusalsOfSpawn }
 {}
-

@@ -75,7 +75,11 @@ pub(crate) fn insert_fault(schema: &Schema, kind: u8, value: &Value) -> Option<F
 
 /// The cells of a new row, ascending by kind, each with both ticks now.
 #[tactic(auto, using(crate::proofs::Onto::steps))]
-pub(crate) fn new_cells(alloc: Global, tick: u64, given: Vec<(u8, Value)>) -> Result<Cells, AllocError>
+pub(crate) fn new_cells(
+    alloc: Global,
+    tick: u64,
+    given: Vec<(u8, Value)>,
+) -> Result<Cells, AllocError>
     ensures { IfOk result (λ cells. cells ≡ new_cells tick given.items) }
 {
     let mut given = given;

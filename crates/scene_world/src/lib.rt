@@ -17,9 +17,14 @@ mod kind_sets;
 mod laws;
 mod moves;
 mod tables;
+#[cfg(test)]
+mod tests;
 mod world;
 
 pub use examples::worked_examples_hold;
 pub use home::Home;
-pub use laws::{despawning_keeps_worlds_valid, inserting_keeps_worlds_valid, raising_keeps_worlds_valid, removing_keeps_worlds_valid, spawning_keeps_worlds_valid};
+pub use laws::{
+    despawning_keeps_worlds_valid, inserting_keeps_worlds_valid, raising_keeps_worlds_valid,
+    removing_keeps_worlds_valid, spawning_keeps_worlds_valid,
+};
 pub use world::World;

@@ -7,13 +7,22 @@ ghost use Rattle.scene_world.specs.Commands.{moved, inserted};
 ghost use Rattle.scene_world.specs.Stored.{tables_of, AreApart};
 
 use crate::home::Home;
-use crate::tables::{added_there, cells_there, put_row, room_for, table_there, take_row, write_cell};
+use crate::tables::{
+    added_there, cells_there, put_row, room_for, table_there, take_row, write_cell,
+};
 use scene_kinds::{Cell, Row, Value};
 use scene_table::Table;
 use std::alloc::{AllocError, Global};
 
 /// Moves the row at a home to the table of a kind set, with one more cell.
-pub(crate) fn move_with(alloc: Global, tables: &mut Vec<Table>, home: Home, to: u64, kind: u8, cell: Cell) -> Result<(), AllocError>
+pub(crate) fn move_with(
+    alloc: Global,
+    tables: &mut Vec<Table>,
+    home: Home,
+    to: u64,
+    kind: u8,
+    cell: Cell,
+) -> Result<(), AllocError>
     requires within { home.place < length (rows_at (tables_of tables.old.items) home.mask) }
     requires kinds { (row : Row) → row_at (tables_of tables.old.items) home ≡ Some row → to ≡ mask_of (with_cell row.cells kind cell) }
     ensures ok { OnOk result ((row : Row) → row_at (tables_of tables.old.items) home ≡ Some row → tables_of tables.new.items ≡ moved (tables_of tables.old.items) home row (with_cell row.cells kind cell)) }
@@ -32,7 +41,13 @@ pub(crate) fn move_with(alloc: Global, tables: &mut Vec<Table>, home: Home, to: 
 }
 
 /// Moves the row at a home to the table of a kind set, without the cell of a kind.
-pub(crate) fn move_without(alloc: Global, tables: &mut Vec<Table>, home: Home, to: u64, kind: u8) -> Result<(), AllocError>
+pub(crate) fn move_without(
+    alloc: Global,
+    tables: &mut Vec<Table>,
+    home: Home,
+    to: u64,
+    kind: u8,
+) -> Result<(), AllocError>
     requires within { home.place < length (rows_at (tables_of tables.old.items) home.mask) }
     requires kinds { (row : Row) → row_at (tables_of tables.old.items) home ≡ Some row → to ≡ mask_of (without_cell row.cells kind) }
     ensures ok { OnOk result ((row : Row) → row_at (tables_of tables.old.items) home ≡ Some row → tables_of tables.new.items ≡ moved (tables_of tables.old.items) home row (without_cell row.cells kind)) }
@@ -50,7 +65,14 @@ pub(crate) fn move_without(alloc: Global, tables: &mut Vec<Table>, home: Home, t
 }
 
 /// Inserts a component into the row at a home: in its place where the kind is there, else by a move.
-pub(crate) fn insert_at(alloc: Global, tables: &mut Vec<Table>, home: Home, tick: u64, kind: u8, value: Value) -> Result<(), AllocError>
+pub(crate) fn insert_at(
+    alloc: Global,
+    tables: &mut Vec<Table>,
+    home: Home,
+    tick: u64,
+    kind: u8,
+    value: Value,
+) -> Result<(), AllocError>
     requires within { home.place < length (rows_at (tables_of tables.old.items) home.mask) }
     requires kinds { (row : Row) → row_at (tables_of tables.old.items) home ≡ Some row → HasKinds home.mask row × AreKindsBelow 64 row.cells }
     requires low { kind < 64 }
@@ -62,19 +84,38 @@ pub(crate) fn insert_at(alloc: Global, tables: &mut Vec<Table>, home: Home, tick
         Some(added) => {
             let changed = tick;
             let at = table_there(tables.as_slice(), home.mask);
-            let _old = write_cell(tables, at, home, kind, Cell { value, added, changed });
+            let _old = write_cell(
+                tables,
+                at,
+                home,
+                kind,
+                Cell {
+                    value,
+                    added,
+                    changed,
+                },
+            );
             Ok(())
         }
         None => {
             let to = home.mask + (1u64 << kind);
-            let cell = Cell { value, added: tick, changed: tick };
+            let cell = Cell {
+                value,
+                added: tick,
+                changed: tick,
+            };
             move_with(alloc, tables, home, to, kind, cell)
         }
     }
 }
 
 /// Removes the component of a kind that is there from the row at a home, by a move.
-pub(crate) fn remove_at(alloc: Global, tables: &mut Vec<Table>, home: Home, kind: u8) -> Result<(), AllocError>
+pub(crate) fn remove_at(
+    alloc: Global,
+    tables: &mut Vec<Table>,
+    home: Home,
+    kind: u8,
+) -> Result<(), AllocError>
     requires within { home.place < length (rows_at (tables_of tables.old.items) home.mask) }
     requires kinds { (row : Row) → row_at (tables_of tables.old.items) home ≡ Some row → HasKinds home.mask row × IsSome (cell_of row.cells kind) }
     requires low { kind < 64 }

@@ -74,7 +74,11 @@ fn make_room(tables: &mut Vec<Table>, at: usize, mask: u64) -> Result<(), AllocE
 
 /// The index of the table of a kind set, in which there is room for one more row then. Nothing that is seen
 /// changes, whether it succeeds or not.
-pub(crate) fn room_for(alloc: Global, tables: &mut Vec<Table>, mask: u64) -> Result<usize, AllocError>
+pub(crate) fn room_for(
+    alloc: Global,
+    tables: &mut Vec<Table>,
+    mask: u64,
+) -> Result<usize, AllocError>
     ensures seen { tables_of tables.new.items ≡ tables_of tables.old.items }
     ensures apart { AreApart tables.old.items → AreApart tables.new.items }
     ensures room { IfOk result (HasRoomAt tables.new.items mask) }
@@ -120,7 +124,13 @@ pub(crate) fn table_there(tables: &[Table], mask: u64) -> usize
 }
 
 /// Puts a cell in place of that of a kind in the row at a home, by the index of its table. It takes no memory.
-pub(crate) fn write_cell(tables: &mut Vec<Table>, at: usize, home: Home, kind: u8, cell: Cell) -> Cell
+pub(crate) fn write_cell(
+    tables: &mut Vec<Table>,
+    at: usize,
+    home: Home,
+    kind: u8,
+    cell: Cell,
+) -> Cell
     requires stands { StandsAt tables.old.items home.mask at }
     requires within { home.place < length (rows_at (tables_of tables.old.items) home.mask) }
     requires there { IsSome (cell_at (rows_at (tables_of tables.old.items) home.mask) home.place kind) }

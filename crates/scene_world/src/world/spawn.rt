@@ -18,7 +18,13 @@ use std::alloc::Global;
 
 /// Takes a slot for a new entity, and puts its row last in the table of its kind set. All growth comes before
 /// the first change that is seen.
-fn spawn_row(alloc: Global, tables: &mut Vec<Table>, slots: &mut Slots, mask: u64, cells: Cells) -> Result<Entity, Refusal>
+fn spawn_row(
+    alloc: Global,
+    tables: &mut Vec<Table>,
+    slots: &mut Slots,
+    mask: u64,
+    cells: Cells,
+) -> Result<Entity, Refusal>
     requires mask { mask ≡ mask_of cells }
     requires ascending { IsAscending cells }
     ensures made { IfOk result (λ e. take_of slots.old ≡ Ok (e, slots.new)) }

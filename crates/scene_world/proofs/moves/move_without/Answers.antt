@@ -5,6 +5,6 @@ use Rattle.scene_world.proofs.moves.move_without.Goals as goal
 
 pub put_row-requires-clause-fits : goal.put_row-requires-clause-fits
 put_row-requires-clause-fits c = record {
-    ascending = subst IsAscending (sym c.remove-cell.ensures.rest) (ascending-without_cell c.take_row-row.result.cells c.args.kind c.take_row-row.ensures.fits.ascending);
-    kinds = refl;
-  }
+  ascending = subst IsAscending (sym c.remove-cell.ensures.rest) (ascending-without_cell c.take_row-row.result.cells c.args.kind c.take_row-row.ensures.fits.ascending);
+  kinds = refl;
+}

@@ -26,7 +26,7 @@ returns-in_ok-push-in-None-clause-stands c =
     let n : c.len-at.result ≡ length c.args.tables.now.items = grind (arith, common_steps, c.len-at.ensures) in
     let none = none_found c.args.mask c.args.tables.now.items (sym c.in-None.is ∙ c.find_table.ensures ∙ ap (λ ts. position_from (λ (t : TableState). nat_eq t.mask c.args.mask) 0 ts) c.as_slice.ensures.value) in
     subst (λ i. StandsAt c.push.new.self.items c.args.mask i) (sym n)
-      (subst (λ ts. StandsAt ts c.args.mask (length c.args.tables.now.items)) (sym c.in_ok-push-in-None.ensures.items) (new_table c.args.mask c.args.tables.now.items c.new.result none c.new.ensures.mask))
+    (subst (λ ts. StandsAt ts c.args.mask (length c.args.tables.now.items)) (sym c.in_ok-push-in-None.ensures.items) (new_table c.args.mask c.args.tables.now.items c.new.result none c.new.ensures.mask))
 
 pub returns-in_ok-push-in-None-clause-keeps : goal.returns-in_ok-push-in-None-clause-keeps
 returns-in_ok-push-in-None-clause-keeps c = λ m i h. subst (λ ts. StandsAt ts m i) (sym c.in_ok-push-in-None.ensures.items) (stands_appended c.args.tables.now.items c.new.result m i h)

@@ -14,7 +14,7 @@ pub returns-else-is_empty-clause-rows : goal.returns-else-is_empty-clause-rows
 returns-else-is_empty-clause-rows c =
     let rows = rows_there c.args.tables.now c.args.mask c.in_ok-at.at c.index-tables-at.result c.in_ok-at.ensures.some c.index-tables-at.is in
     some_rows (tables_of c.args.tables.now) c.args.mask c.index-tables-at.result.rows rows
-      (λ e. let k : true ≡ false = sym (c.is_empty.ensures.1 e) ∙ c.if-is_empty.false in absurd (cc))
+    (λ e. let k : true ≡ false = sym (c.is_empty.ensures.1 e) ∙ c.if-is_empty.false in absurd (cc))
 
 pub returns-else-is_empty-clause-mask : goal.returns-else-is_empty-clause-mask
 returns-else-is_empty-clause-mask c =

@@ -12,5 +12,5 @@ returns-clause-new c =
     let at : IsPlaceOf items c.args.kind c.in-Some.at = subst (λ (l : List (ℕ × Cell)). IsPlaceOf l c.args.kind c.in-Some.at) c.as_slice.ensures.value c.in-Some.ensures.some in
     let up : IsAscending items = subst IsAscending (sym c.self.view_is) c.requires.ascending in
     (λ i. slice_set items c.in-Some.at (ap (λ (x : ℕ × Cell). x.0) c.index_mut.ensures.value i, c.replace.ensures.after i))
-        ∙ put_at_place items c.args.kind c.in-Some.at c.args.cell d up at.within (at.key d)
-        ∙ ap (λ (l : List (ℕ × Cell)). with_cell l c.args.kind c.args.cell) c.self.view_is
+    ∙ put_at_place items c.args.kind c.in-Some.at c.args.cell d up at.within (at.key d)
+    ∙ ap (λ (l : List (ℕ × Cell)). with_cell l c.args.kind c.args.cell) c.self.view_is

@@ -24,5 +24,5 @@ invariant_of-self-2 c =
     record {
       apart = made.apart c.self.invariant.apart;
       valid = subst (λ (t : Tables). IsValid (with_tables old t)) (sym (made.ok home.row home.there))
-        (insert_made old c.in-Some.home home.row c.args.kind c.args.value (cell_of home.row.cells c.args.kind) refl c.self.invariant.valid home.there tests.1);
+          (insert_made old c.in-Some.home home.row c.args.kind c.args.value (cell_of home.row.cells c.args.kind) refl c.self.invariant.valid home.there tests.1);
     }

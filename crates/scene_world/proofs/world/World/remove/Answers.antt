@@ -13,9 +13,11 @@ use Rattle.scene_world.proofs.world.World.remove.Goals as goal
 pub remove_at-requires-clause-kinds : goal.remove_at-requires-clause-kinds
 remove_at-requires-clause-kinds c = λ row at.
     let w = c.self.inside in
-    let fits = c.self.invariant.valid.rows c.in-Some.home row at in
-    (fits.kinds, some_mapped shown c.cell_there.result _ c.if-is_none.ensures
-      (c.cell_there.ensures ∙ ap (λ (l : List TableState). cell_at (rows_at (tables_of l) c.in-Some.home.mask) c.in-Some.home.place c.args.kind) c.as_slice.ensures.value ∙ cell_at_row (tables_of w.tables.items) c.in-Some.home row c.args.kind at))
+    let fits = c.self.invariant.valid.rows c.in-Some.home row at in (
+      fits.kinds,
+      some_mapped shown c.cell_there.result _ c.if-is_none.ensures
+          (c.cell_there.ensures ∙ ap (λ (l : List TableState). cell_at (rows_at (tables_of l) c.in-Some.home.mask) c.in-Some.home.place c.args.kind) c.as_slice.ensures.value ∙ cell_at_row (tables_of w.tables.items) c.in-Some.home row c.args.kind at),
+    )
 
 pub invariant_of-self-2 : goal.invariant_of-self-2
 invariant_of-self-2 c =
