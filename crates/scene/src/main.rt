@@ -7,24 +7,40 @@
 mod asked;
 
 use crate::asked::{Asked, read_words};
-use scene_app::run_script;
+use scene_app::{AppFault, run_script};
+use std::io::ErrorKind;
 use std::process::ExitCode;
 use std::{env, io};
 
+/// The words of the command line, the program's own name first.
+fn words_given(rt: &HostRuntime) -> io::Result<Vec<String>> {
+    Ok(env::args(rt)?.collect(rt.alloc())?)
+}
+
+fn end_bad_command_line(rt: &HostRuntime) -> io::Result<ExitCode> {
+    eprintln!(rt; "scene: bad command line")?;
+    Ok(ExitCode::from(2))
+}
+
+fn end_by_fault(rt: &HostRuntime, fault: AppFault) -> io::Result<ExitCode> {
+    eprintln!(rt; "scene: {fault}")?;
+    Ok(ExitCode::from(3))
+}
+
 fn run(rt: &HostRuntime) -> io::Result<ExitCode> {
-    let words: Vec<String> = env::args(rt)?.collect(rt.alloc())?;
-    match read_words(words.as_slice()) {
-        Asked::Nothing => {
-            eprintln!(rt; "scene: bad command line")?;
-            Ok(ExitCode::from(2))
+    let words = match words_given(rt) {
+        Ok(words) => words,
+        Err(error) if error.kind() == ErrorKind::OutOfMemory => {
+            return end_by_fault(rt, AppFault::NoMemory);
         }
+        Err(_) => return end_bad_command_line(rt),
+    };
+    match read_words(words.as_slice()) {
+        Asked::Nothing => end_bad_command_line(rt),
         Asked::Run => match run_script(rt.alloc(), &mut rt.stdin(), &mut rt.stdout()) {
             Ok(end) if end.bad_lines == 0 => Ok(ExitCode::SUCCESS),
             Ok(_) => Ok(ExitCode::from(1)),
-            Err(fault) => {
-                eprintln!(rt; "scene: {fault}")?;
-                Ok(ExitCode::from(3))
-            }
+            Err(fault) => end_by_fault(rt, fault),
         },
     }
 }

@@ -38,4 +38,6 @@ pub use word::{cut, words};
 pub use writing::{WriteFault, write_out};
 
 #[cfg(test)]
+mod run_tests;
+#[cfg(test)]
 mod tests;

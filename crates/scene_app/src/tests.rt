@@ -87,11 +87,21 @@ fn a_failed_call_is_a_fault_and_an_interrupted_one_is_made_again(
 
 /// Takes two bytes a call, and at one call fails or takes none.
 #[derive(Drop)]
-struct Slow {
-    taken: Vec<u8>,
-    calls: u32,
+pub(crate) struct Slow {
+    pub(crate) taken: Vec<u8>,
+    pub(crate) calls: u32,
     stops_at: u32,
     fails: bool,
+}
+
+/// A writer that stops at one call, from 1, or at none for 0.
+pub(crate) fn slow_writer(alloc: Global, stops_at: u32, fails: bool) -> Slow {
+    Slow {
+        taken: Vec::new(alloc),
+        calls: 0,
+        stops_at,
+        fails,
+    }
 }
 
 impl Write for Slow {
@@ -118,12 +128,7 @@ fn writes_a_prefix_where_a_write_stops(rt: HostRuntime) -> Result<(), Fail> {
     let text = b"done 0v1\n";
     for stops_at in 1u32..=6 {
         for fails in [false, true] {
-            let mut writer = Slow {
-                taken: Vec::new(rt.alloc()),
-                calls: 0,
-                stops_at,
-                fails,
-            };
+            let mut writer = slow_writer(rt.alloc(), stops_at, fails);
             let answer = write_out(&mut writer, text);
             assert_eq!(rt; answer.is_ok(), stops_at == 6, "call {stops_at}");
             let length = text.len().min(2 * (stops_at as usize - 1));
@@ -240,7 +245,7 @@ fn targets_are_entities_or_numbers_of_spawns(rt: HostRuntime) -> Result<(), Fail
 }
 
 /// A schema with a kind of each shape: A Int, P Vec3, T Tag, X Text, Y Link.
-fn kinds(alloc: Global) -> Result<Schema, AllocError> {
+pub(crate) fn kinds(alloc: Global) -> Result<Schema, AllocError> {
     let mut schema = Schema::new(alloc);
     for (name, shape) in [
         ("A", "Int"),

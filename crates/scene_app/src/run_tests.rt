@@ -1,0 +1,351 @@
+use super::*;
+use crate::tests::{kinds, slow_writer};
+use std::io;
+use std::io::{ErrorKind, Read};
+use std::test::Fail;
+
+const SCRIPT: &str = "kind A Int\nspawn A=5\nundo\nredo\nshow\n";
+
+const OUTPUT: &str =
+    "ok\ndone 0v1\nundone\nredone\ntick 1\ngens 1\nfree\ntable A\nrow 0v1 A=5@1/1\n";
+
+/// Gives a script, `step` bytes a call, and fails at one call.
+#[derive(Drop)]
+struct Parts<'a> {
+    rest: &'a [u8],
+    step: usize,
+    calls: u32,
+    fails_at: u32,
+    kind: ErrorKind,
+}
+
+impl<'a> Read for Parts<'a> {
+    fn read(&mut self, buf: &mut [u8]) -> io::Result<usize> {
+        self.calls = self.calls.saturating_add(1);
+        if self.calls == self.fails_at {
+            return Err(io::Error::from(self.kind));
+        }
+        let n = self.rest.len().min(self.step).min(buf.len());
+        buf[..n].copy_from_slice(&self.rest[..n]);
+        self.rest = &self.rest[n..];
+        Ok(n)
+    }
+}
+
+fn parts_of<'a>(script: &'a str, step: usize) -> Parts<'a> {
+    Parts {
+        rest: script.as_bytes(),
+        step,
+        calls: 0,
+        fails_at: 0,
+        kind: ErrorKind::Other,
+    }
+}
+
+#[test]
+fn a_run_writes_the_answers_and_counts_bad_lines(rt: HostRuntime) -> Result<(), Fail> {
+    let alloc = rt.alloc();
+    let cases = [
+        (SCRIPT, OUTPUT, 0),
+        ("", "", 0),
+        (
+            "bogus\nundo\nshow",
+            "bad line\nrefused 15 NothingToUndo\ntick 0\ngens\nfree\n",
+            1,
+        ),
+        (
+            "show\nshow x\nkind A Int\n",
+            "tick 0\ngens\nfree\nbad line\nbad line\n",
+            2,
+        ),
+    ];
+    for (script, output, bad_lines) in cases {
+        for step in [1, 3, 1000] {
+            let mut writer = slow_writer(alloc, 0, true);
+            let end = run_script(alloc, &mut parts_of(script, step), &mut writer);
+            assert_eq!(rt; end, Ok(RunEnd { bad_lines }), "{script}");
+            assert_eq!(rt; writer.taken.as_slice(), output.as_bytes(), "{script}");
+        }
+    }
+    Ok(())
+}
+
+#[test]
+fn rows_and_free_list_come_back_at_undo(rt: HostRuntime) -> Result<(), Fail> {
+    let alloc = rt.alloc();
+    let cases = [
+        (
+            "kind A Int\nspawn A=0\nspawn A=1\nspawn A=2\ndespawn 0v1\nshow\nundo\nshow\n",
+            "ok\ndone 0v1\ndone 1v1\ndone 2v1\ndone\n\
+             tick 4\ngens 2 1 1\nfree 0\ntable A\nrow 2v1 A=2@3/3\nrow 1v1 A=1@2/2\n\
+             undone\n\
+             tick 3\ngens 1 1 1\nfree\ntable A\nrow 0v1 A=0@1/1\nrow 1v1 A=1@2/2\nrow 2v1 A=2@3/3\n",
+        ),
+        (
+            "kind A Int\nkind T Tag\nspawn A=0\nspawn A=1\nspawn A=2\ninsert 1v1 T\nremove 1v1 T\n\
+             show\nundo\nundo\nshow\n",
+            "ok\nok\ndone 0v1\ndone 1v1\ndone 2v1\ndone\ndone\n\
+             tick 5\ngens 1 1 1\nfree\ntable A\nrow 0v1 A=0@1/1\nrow 2v1 A=2@3/3\nrow 1v1 A=1@2/2\n\
+             undone\nundone\n\
+             tick 3\ngens 1 1 1\nfree\ntable A\nrow 0v1 A=0@1/1\nrow 1v1 A=1@2/2\nrow 2v1 A=2@3/3\n",
+        ),
+        (
+            "kind A Int\nkind T Tag\nspawn A=5\ninsert 0v1 T\nget 0v1\ninsert 0v1 A=5\nget 0v1\n\
+             remove 0v1 A\nget 0v1\nundo\nget 0v1\ndespawn 0v1\nget 0v1\nundo\nget 0v1\n",
+            "ok\nok\ndone 0v1\ndone\nrow 0v1 A=5@1/1 T@2/2\ndone\nrow 0v1 A=5@1/3 T@2/2\n\
+             done\nrow 0v1 T@2/2\nundone\nrow 0v1 A=5@1/3 T@2/2\ndone\nrefused 1 NoSuchEntity\n\
+             undone\nrow 0v1 A=5@1/3 T@2/2\n",
+        ),
+        (
+            "kind A Int\nspawn A=1\nundo\ndespawn 0v1\nredo\nundo\nspawn\nredo\nundo\nundo\n",
+            "ok\ndone 0v1\nundone\nrefused 1 NoSuchEntity at 0.0.0\nredone\nundone\ndone 0v1\n\
+             refused 16 NothingToRedo\nundone\nrefused 15 NothingToUndo\n",
+        ),
+    ];
+    for (script, output) in cases {
+        let mut out = String::new(alloc);
+        let bad = play_script(alloc, script.as_bytes(), &mut out)?;
+        assert_eq!(rt; out.as_str(), output, "{script}");
+        assert_eq!(rt; bad, 0, "{script}");
+    }
+    Ok(())
+}
+
+#[test]
+fn a_failed_read_writes_nothing(rt: HostRuntime) -> Result<(), Fail> {
+    let alloc = rt.alloc();
+    for fails_at in 1..=8 {
+        let mut reader = parts_of(SCRIPT, 6);
+        reader.fails_at = fails_at;
+        let mut writer = slow_writer(alloc, 0, true);
+        let end = run_script(alloc, &mut reader, &mut writer);
+        if fails_at < 8 {
+            assert_eq!(rt; end, Err(AppFault::ReadFault), "call {fails_at}");
+            assert_eq!(rt; writer.calls, 0, "call {fails_at}");
+        } else {
+            assert_eq!(rt; end, Ok(RunEnd { bad_lines: 0 }), "call {fails_at}");
+            assert_eq!(rt;
+                writer.taken.as_slice(),
+                OUTPUT.as_bytes(),
+                "call {fails_at}"
+            );
+        }
+    }
+    Ok(())
+}
+
+#[test]
+fn an_interrupted_read_is_made_again(rt: HostRuntime) -> Result<(), Fail> {
+    let alloc = rt.alloc();
+    for fails_at in 1..=7 {
+        let mut reader = parts_of(SCRIPT, 6);
+        reader.fails_at = fails_at;
+        reader.kind = ErrorKind::Interrupted;
+        let mut writer = slow_writer(alloc, 0, true);
+        let end = run_script(alloc, &mut reader, &mut writer);
+        assert_eq!(rt; end, Ok(RunEnd { bad_lines: 0 }), "call {fails_at}");
+        assert_eq!(rt; reader.calls, 8, "call {fails_at}");
+        assert_eq!(rt;
+            writer.taken.as_slice(),
+            OUTPUT.as_bytes(),
+            "call {fails_at}"
+        );
+    }
+    Ok(())
+}
+
+#[test]
+fn a_stopped_write_leaves_a_prefix_of_the_output(rt: HostRuntime) -> Result<(), Fail> {
+    let alloc = rt.alloc();
+    let calls = OUTPUT.len().div_ceil(2);
+    for before in 0..=calls {
+        for fails in [false, true] {
+            let mut writer = slow_writer(alloc, before as u32 + 1, fails);
+            let end = run_script(alloc, &mut parts_of(SCRIPT, 6), &mut writer);
+            let wanted = if before < calls {
+                Err(AppFault::WriteFault)
+            } else {
+                Ok(RunEnd { bad_lines: 0 })
+            };
+            assert_eq!(rt; end, wanted, "after {before} calls");
+            let length = OUTPUT.len().min(2 * before);
+            assert_eq!(rt;
+                writer.taken.as_slice(),
+                &OUTPUT.as_bytes()[..length],
+                "after {before} calls"
+            );
+        }
+    }
+    Ok(())
+}
+
+#[test]
+fn lines_are_bytes_up_to_a_line_feed(rt: HostRuntime) -> Result<(), Fail> {
+    let alloc = rt.alloc();
+    let empty = "tick 0\ngens\nfree\n";
+    let cases = [
+        (&b""[..], "", 0),
+        (&b"\n\r\n   \n  \r\n"[..], "", 0),
+        (&b"# show\n   #x y\n#\n#\0\n# \xc3\xa9\n"[..], "", 0),
+        (&b"show"[..], empty, 0),
+        (&b"show\n"[..], empty, 0),
+        (&b"show\r\n"[..], empty, 0),
+        (&b"   show  "[..], empty, 0),
+        (&b"kind   X  Tag \r\n"[..], "ok\n", 0),
+        (&b"show\r"[..], "bad line\n", 1),
+        (&b"show\r\r\n"[..], "bad line\n", 1),
+        (&b"\r"[..], "bad line\n", 1),
+        (&b"\tshow\n"[..], "bad line\n", 1),
+        (&b"show # x\n"[..], "bad line\n", 1),
+        (&b"\0\n"[..], "bad line\n", 1),
+        (&b"show\0\n"[..], "bad line\n", 1),
+        (&b"#\xff\n"[..], "bad line\n", 1),
+        (&b"# \xc3\n\xa9\n"[..], "bad line\nbad line\n", 2),
+        (&b"\xff\nshow\n"[..], "bad line\ntick 0\ngens\nfree\n", 1),
+        (
+            &b"kind X Text\nspawn X=a\0\nget 0v1\n"[..],
+            "ok\ndone 0v1\nrow 0v1 X=\"a\\u0000\"@1/1\n",
+            0,
+        ),
+    ];
+    for (script, output, lines) in cases {
+        let mut out = String::new(alloc);
+        let bad = play_script(alloc, script, &mut out)?;
+        assert_eq!(rt; out.as_str(), output, "{script:?}");
+        assert_eq!(rt; bad, lines, "{script:?}");
+    }
+    Ok(())
+}
+
+#[test]
+fn the_setup_ends_at_the_first_other_line(rt: HostRuntime) -> Result<(), Fail> {
+    let alloc = rt.alloc();
+    let cases = [
+        (
+            "kind A Int\n\n# c\nbogus\nspawn Z\nkind A Tag\nkind 9 Tag\nkind B Int\nshow\nkind C Tag\nslots 3\n",
+            "ok\nbad line\nbad line\nrefused 31 KindTaken\nrefused 30 BadName\nok\n\
+             tick 0\ngens\nfree\nbad line\nbad line\n",
+            4,
+        ),
+        (
+            "undo\nkind A Int\n",
+            "refused 15 NothingToUndo\nbad line\n",
+            1,
+        ),
+        (
+            "slots 0\nslots 1048577\nslots 01\nslots +1\nslots -1\nslots\nslots 1 2\n",
+            "bad line\nbad line\nbad line\nbad line\nbad line\nbad line\nbad line\n",
+            7,
+        ),
+        (
+            "slots 1048576\nslots 1\nslots 0\nspawn\nspawn\n",
+            "ok\nok\nbad line\ndone 0v1\nrefused 11 EntitiesFull at 0.0.0\n",
+            1,
+        ),
+        (
+            "slots 1\nslots 2\nspawn\nspawn\n",
+            "ok\nok\ndone 0v1\ndone 1v1\n",
+            0,
+        ),
+    ];
+    for (script, output, lines) in cases {
+        let mut out = String::new(alloc);
+        let bad = play_script(alloc, script.as_bytes(), &mut out)?;
+        assert_eq!(rt; out.as_str(), output, "{script}");
+        assert_eq!(rt; bad, lines, "{script}");
+    }
+    Ok(())
+}
+
+#[test]
+fn slot_limits_are_from_1_to_1048576(rt: HostRuntime) -> Result<(), Fail> {
+    let cases = [
+        (0, None),
+        (1, Some(1)),
+        (1_048_576, Some(1_048_576)),
+        (1_048_577, None),
+        (u32::MAX, None),
+    ];
+    for (slots, wanted) in cases {
+        let found = match SlotLimit::new(slots) {
+            Some(limit) => Some(limit.get()),
+            None => None,
+        };
+        assert_eq!(rt; found, wanted, "{slots}");
+    }
+    assert_eq!(rt; SlotLimit::most().get(), 1_048_576);
+    Ok(())
+}
+
+#[test]
+fn refusals_are_printed_and_change_nothing(rt: HostRuntime) -> Result<(), Fail> {
+    let alloc = rt.alloc();
+    let cases = [
+        (
+            "kind A Int\nspawn A=1\ndespawn 0v1\nspawn A=2\nget 0v1\nget 0v2\n\
+             despawn 0v1\ninsert 0v1 A=3\nremove 0v1 A\nget 0v2\n",
+            "ok\ndone 0v1\ndone\ndone 0v2\nrefused 1 NoSuchEntity\nrow 0v2 A=2@3/3\n\
+             refused 1 NoSuchEntity at 0.0.0\nrefused 1 NoSuchEntity at 0.0.0\n\
+             refused 1 NoSuchEntity at 0.0.0\nrow 0v2 A=2@3/3\n",
+            0,
+        ),
+        (
+            "slots 1\nspawn\nspawn\nshow\ndespawn 0v1\nspawn\n",
+            "ok\ndone 0v1\nrefused 11 EntitiesFull at 0.0.0\n\
+             tick 1\ngens 1\nfree\ntable -\nrow 0v1\ndone\ndone 0v2\n",
+            0,
+        ),
+        (
+            "kind A Int\ninsert +0 A=1\ndespawn +0\nremove +0 A\nget +0\nshow\n",
+            "ok\nrefused 12 BadLocal at 0.0.0\nrefused 12 BadLocal at 0.0.0\n\
+             refused 12 BadLocal at 0.0.0\nbad line\ntick 0\ngens\nfree\n",
+            1,
+        ),
+        (
+            "kind A Int\nspawn A=1 A=2\nspawn\nremove 0v1 A\nshow\n",
+            "ok\nrefused 6 DuplicateKind at 0.0.0\ndone 0v1\nrefused 3 NotPresent at 0.0.0\n\
+             tick 1\ngens 1\nfree\ntable -\nrow 0v1\n",
+            0,
+        ),
+    ];
+    for (script, output, lines) in cases {
+        let mut out = String::new(alloc);
+        let bad = play_script(alloc, script.as_bytes(), &mut out)?;
+        assert_eq!(rt; out.as_str(), output, "{script}");
+        assert_eq!(rt; bad, lines, "{script}");
+    }
+    Ok(())
+}
+
+#[test]
+fn lines_of_no_form_are_bad(rt: HostRuntime) -> Result<(), Fail> {
+    let alloc = rt.alloc();
+    let schema = kinds(alloc)?;
+    let others = [
+        "show x",
+        "undo 1",
+        "redo redo",
+        "Show",
+        "get",
+        "get 0v1 0v1",
+        "get +0",
+        "spawn B=1",
+        "spawn A=1 B",
+        "insert 0v1",
+        "insert A=1 0v1",
+        "insert 0v1 A=1 T",
+        "despawn",
+        "despawn 0v1 1v1",
+        "remove 0v1",
+        "remove 0v1 A=1",
+        "remove 0v1 B",
+        "kind B",
+        "kind B Float",
+        "kind B Int Int",
+    ];
+    for line in others {
+        let read = read_line(alloc, &schema, line.as_bytes())?;
+        assert!(rt; matches!(&read, Line::Bad), "{line}");
+    }
+    Ok(())
+}
