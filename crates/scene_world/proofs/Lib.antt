@@ -1,5 +1,6 @@
 pub mod Bounds
 pub mod Copies
+pub mod DespawnEach
 pub mod DespawnKeeps
 pub mod Homes
 pub mod KindBits

@@ -1,9 +1,9 @@
 -- Laws of the commands: an accepted one keeps a valid world valid.
-use Rattle.std.specs.Prelude.{◌≡◌, ℕ, List, Ok}
+use Rattle.std.specs.Prelude.{◌≡◌, ℕ, true, List, Ok}
 use Rattle.scene_kinds.specs.declared.entity.Entity.{Entity}
 use Rattle.scene_kinds.specs.declared.value.Value.{Value}
-use Rattle.scene_world.specs.World.{World, new_world}
-use Rattle.scene_world.specs.Commands.{raise_tick, spawn, despawn, insert, remove}
+use Rattle.scene_world.specs.World.{World, is_live}
+use Rattle.scene_world.specs.Commands.{raise_tick, spawn, despawn, despawn_recursive, insert, remove}
 use Rattle.scene_world.specs.Valid.{IsValid}
 
 abbrev pub RaiseKeeps : Type 0
@@ -14,6 +14,13 @@ SpawnKeeps = (w v : World) (cells : List (ℕ × Value)) (e : Entity) → IsVali
 
 abbrev pub DespawnKeeps : Type 0
 DespawnKeeps = (w v : World) (e : Entity) → IsValid w → despawn w e ≡ Ok (tt, v) → IsValid v
+
+abbrev pub DespawnRecursiveKeeps : Type 0
+DespawnRecursiveKeeps = (w v : World) (e : Entity) → IsValid w → despawn_recursive w e ≡ Ok (tt, v) → IsValid v
+
+-- a recursive despawn is accepted or refused as a whole
+abbrev pub DespawnRecursiveIsWhole : Type 0
+DespawnRecursiveIsWhole = (w : World) (e : Entity) → IsValid w → is_live w e ≡ true → (v : World) × (despawn_recursive w e ≡ Ok (tt, v))
 
 abbrev pub InsertKeeps : Type 0
 InsertKeeps = (w v : World) (e : Entity) (kind : ℕ) (value : Value) → IsValid w → insert w e kind value ≡ Ok (tt, v) → IsValid v

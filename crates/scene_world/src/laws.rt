@@ -1,6 +1,6 @@
 //! Laws of the commands: an accepted one keeps a valid world valid. Every `World` is valid by its type; these say so of
 //! the definitions.
-ghost use Rattle.scene_world.specs.Laws.{RaiseKeeps, SpawnKeeps, DespawnKeeps, InsertKeeps, RemoveKeeps};
+ghost use Rattle.scene_world.specs.Laws.{RaiseKeeps, SpawnKeeps, DespawnKeeps, DespawnRecursiveKeeps, DespawnRecursiveIsWhole, InsertKeeps, RemoveKeeps};
 
 /// A law: raising the tick keeps a valid world valid.
 pub fn raising_keeps_worlds_valid()
@@ -15,6 +15,16 @@ pub fn spawning_keeps_worlds_valid()
 /// A law: an accepted despawn keeps a valid world valid.
 pub fn despawning_keeps_worlds_valid()
     ensures { DespawnKeeps }
+{}
+
+/// A law: an accepted recursive despawn keeps a valid world valid.
+pub fn recursive_despawn_keeps_worlds_valid()
+    ensures { DespawnRecursiveKeeps }
+{}
+
+/// A law: in a valid world a recursive despawn of a live entity is accepted; no despawn on the way is refused.
+pub fn recursive_despawn_is_never_refused_midway()
+    ensures { DespawnRecursiveIsWhole }
 {}
 
 /// A law: an accepted insert, in its place or by a move, keeps a valid world valid.
