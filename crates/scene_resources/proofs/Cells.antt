@@ -1,9 +1,13 @@
 -- Laws of named cells, and of the map that is seen as them.
 use Rattle.std.proofs.Common.{◌≡◌, ℕ, Bool, true, false, cond, List, [], ◌∷◌, length, refl, ap, sym, ◌∙◌, arith, Option, Some, None, Ok, String, string_bytes}
 use Rattle.std.specs.declared.alloc.Global.{Global}
+use Rattle.std.specs.BTreeMap.{BTreeMap, UpdatesBy}
+use Rattle.std.specs.Cmp.{eq_by_cmp_equiv}
 use Rattle.std.specs.List.{AllZip}
 use Rattle.std.specs.Map.{lookup}
 use Rattle.std.specs.Ordering.{eq_by_cmp, is_eq}
+use Rattle.std.specs.String.{string_cmp}
+use Rattle.std.proofs.lemmas.Map.Text.{btree_map_updates_text, is_eq-slice_cmp}
 use Rattle.scene_kinds.specs.declared.cell.Cell.{Cell}
 use Rattle.scene_kinds.specs.declared.value.Value.{Value}
 use Rattle.scene_kinds.specs.Map as map
@@ -64,6 +68,18 @@ take_restored r s name cell h = by_cell (cell_of r name) refl
 pub cell_of-named_cells : (es : List (String Global × Cell)) (q : List ℕ) → cell_of (named_cells es) q ≡ lookup (λ k. is_eq (name_cmp q (string_bytes k))) es
 cell_of-named_cells [] q = refl
 cell_of-named_cells (e ∷ es) q = get-insert name_cmp_total (named_cells es) (string_bytes e.0) e.1 q ∙ ap (cond (is_name q (string_bytes e.0)) (Some e.1)) (cell_of-named_cells es q)
+
+-- what a search in a map finds, as the cell of the map that it is seen as
+pub found_cell : (es : List (String Global × Cell)) (r : NamedCells) (name : List ℕ) (o : Option Cell) → named_cells es ≡ r → o ≡ lookup (λ k. is_eq (name_cmp name (string_bytes k))) es → o ≡ cell_of r name
+found_cell es r name o seen h = h ∙ sym (cell_of-named_cells es name) ∙ ap (λ r. cell_of r name) seen
+
+-- a map in which one name was set, or taken out
+pub cells_updated : (m n : BTreeMap (String Global) Cell) (r : NamedCells) (name : List ℕ) (cell : Option Cell) → named_cells m.entries ≡ r
+    → UpdatesBy string_cmp (λ k. name_cmp name (string_bytes k)) m n cell → named_cells n.entries ≡ restore_of r name cell
+cells_updated m n r name cell seen h = same_map name_cmp_total name_cmp_exact _ _ (λ q.
+    cell_of-named_cells n.entries q ∙ btree_map_updates_text name m n cell h q
+    ∙ ap (λ b. cond b cell (lookup (λ k. is_eq (name_cmp q (string_bytes k))) m.entries)) (sym (is_eq-slice_cmp name q) ∙ (eq_by_cmp_equiv name_cmp_total).symm name q)
+    ∙ ap (cond (is_name q name) cell) (found_cell m.entries r q _ seen refl) ∙ sym (cell_of-restore_of r name cell q))
 
 -- entries that are clones of each other are the same cells
 pub cells_clone : (D : Cell → Cell → Type 0) → ((x y : Cell) → D x y → y ≡ x) → (es fs : List (String Global × Cell))

@@ -1,9 +1,10 @@
 //! Resources: cells by name.
-ghost use Rattle.std.specs.Prelude.{◌≡◌, ◌↔◌, IfOk, IsTrue, option_copied};
+ghost use Rattle.std.specs.Prelude.{◌≡◌, ◌↔◌, IfOk, OnOk, OnErr, IsOk, IsSome, IsTrue, Some, None, option_copied};
+ghost use Rattle.scene_kinds.specs.Answers.{Gives};
 ghost use Rattle.scene_kinds.specs.Map as map;
-ghost use Rattle.scene_resources.specs.Resources.{cell_of};
+ghost use Rattle.scene_resources.specs.Resources.{cell_of, names_of, put_of, take_of, restore_of};
 
-use scene_kinds::Cell;
+use scene_kinds::{Cell, Fault, Refusal, Value};
 use std::alloc::{AllocError, Global};
 use std::collections::BTreeMap;
 use std::marker::Model;
@@ -12,6 +13,7 @@ use std::marker::Model;
 /// resources"). Contracts see the cell of each name.
 #[derive(Drop)]
 pub struct Resources {
+    alloc: Global,
     cells: BTreeMap<String, Cell>,
 }
 
@@ -36,6 +38,7 @@ impl Resources {
         ensures { result ≡ map.empty }
     {
         Resources {
+            alloc,
             cells: BTreeMap::new(alloc),
         }
     }
@@ -54,11 +57,89 @@ impl Resources {
         self.cells.get(name)
     }
 
+    /// Puts a cell at a name, and answers the one that stood there.
+    fn set(&mut self, name: &str, cell: Cell) -> Result<Option<Cell>, AllocError>
+        ensures old { IfOk result (λ old. old ≡ cell_of self.old name.now) }
+        ensures done { OnOk result (self.new ≡ restore_of self.old name.now (Some cell)) }
+        ensures full { OnErr result (self.new ≡ self.old) }
+        ensures there { IsSome (cell_of self.old name.now) → IsOk result }
+    {
+        match self.cells.get_mut(name) {
+            Some(old) => Ok(Some(std::mem::replace(old, cell))),
+            None => {
+                let key = String::from_str(self.alloc, name)?;
+                Ok(self.cells.insert(key, cell)?)
+            }
+        }
+    }
+
+    /// Puts a value at a name at a tick, and answers the cell that stood there (docs/MODEL.md, "The rule of
+    /// resources"): where one did, it keeps the tick at which it was added, and the value may have another shape.
+    /// Any text will do as a name; which names are good is the caller's to ask.
+    ///
+    /// An error only where there was no resource of that name and no memory was found: then the resources are as
+    /// they were, and the value is dropped. A put over a cell that is there takes no memory.
+    pub fn put(&mut self, name: &str, value: Value, tick: u64) -> Result<Option<Cell>, AllocError>
+        ensures old { IfOk result (λ old. old ≡ cell_of self.old name.now) }
+        ensures done { OnOk result (self.new ≡ put_of self.old name.now value tick) }
+        ensures full { OnErr result (self.new ≡ self.old) }
+        ensures there { IsSome (cell_of self.old name.now) → IsOk result }
+    {
+        let added = match self.get(name) {
+            Some(cell) => cell.added,
+            None => tick,
+        };
+        self.set(
+            name,
+            Cell {
+                value,
+                added,
+                changed: tick,
+            },
+        )
+    }
+
+    /// Takes the resource of a name away, and answers its cell (docs/MODEL.md, "The rule of resources"). It takes
+    /// no memory.
+    ///
+    /// Refused: `NoSuchResource` where there is none of that name; then nothing changes.
+    pub fn take(&mut self, name: &str) -> Result<Cell, Refusal>
+        ensures { Gives result self.old self.new (take_of self.old name.now) }
+    {
+        let Some(cell) = self.cells.remove(name) else {
+            return Err(Refusal::from(Fault::NoSuchResource));
+        };
+        Ok(cell)
+    }
+
+    /// Gives a name the cell that it is to have, or takes its resource away where that is `None`. With the cell
+    /// that a `put` answered, or that a `take` did, the resources are as they were before that call.
+    ///
+    /// An error only where there is a cell to put, no resource of that name, and no memory was found: then the
+    /// resources are as they were, and the cell is dropped. In all other cases it takes no memory.
+    pub fn restore(&mut self, name: &str, cell: Option<Cell>) -> Result<(), AllocError>
+        ensures done { OnOk result (self.new ≡ restore_of self.old name.now cell) }
+        ensures full { OnErr result (self.new ≡ self.old) }
+        ensures there { IsSome (cell_of self.old name.now) → IsOk result }
+        ensures gone { cell ≡ None → IsOk result }
+    {
+        match cell {
+            Some(cell) => {
+                self.set(name, cell)?;
+            }
+            None => {
+                self.cells.remove(name);
+            }
+        }
+        Ok(())
+    }
+
     /// Equal resources, or an error where no memory was found.
     pub fn try_clone(&self) -> Result<Resources, AllocError>
         ensures { IfOk result (λ copy. copy ≡ self.now) }
     {
         Ok(Resources {
+            alloc: self.alloc,
             cells: self.cells.clone()?,
         })
     }
