@@ -144,16 +144,16 @@ abbrev pub Prints : (old new : List ℕ) → ℕ → Printed → Type 0
 Prints old new bad p = (new ≡ old ++ p.text) × (bad ≡ p.bad)
 
 -- the answer of a declaration, and the kinds after it
-abbrev pub kind_text : Outcome ℕ Kinds → List ℕ
-kind_text (Ok p) = codes "ok\n"
-kind_text (Err r) = refused_text r
+abbrev pub declaration_text : Outcome ℕ Kinds → List ℕ
+declaration_text (Ok p) = codes "ok\n"
+declaration_text (Err r) = refused_text r
 
 abbrev pub kinds_after : Kinds → Outcome ℕ Kinds → Kinds
 kinds_after kinds (Ok p) = p.1
 kinds_after kinds (Err r) = kinds
 
 abbrev pub declared_text : Kinds → List ℕ → Shape → List ℕ
-declared_text kinds name shape = kind_text (with_kind kinds name shape)
+declared_text kinds name shape = declaration_text (with_kind kinds name shape)
 
 abbrev pub after_kind : Kinds → List ℕ → Shape → Kinds
 after_kind kinds name shape = kinds_after kinds (with_kind kinds name shape)

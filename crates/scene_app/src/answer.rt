@@ -24,7 +24,7 @@ fn write_refused(out: &mut String, refusal: Refusal) -> Result<(), AllocError>
 }
 
 /// Adds a refusal of the machine; want of memory is no answer, and ends the run.
-pub(crate) fn write_answer(out: &mut String, refusal: Refusal) -> Result<(), AllocError>
+pub(crate) fn answer_refused(out: &mut String, refusal: Refusal) -> Result<(), AllocError>
     ensures text { OnOk result (string_bytes out.new ≡ string_bytes out.old ++ refused_text refusal) }
     ensures memory { OnOk result (refusal ≢ refusal_of NoMemory) }
 {
@@ -54,7 +54,7 @@ fn answer_command(out: &mut String, machine: &mut Saved, command: Command) -> Re
 {
     match machine.submit(command) {
         Ok(made) => write_made(out, made),
-        Err(refusal) => write_answer(out, refusal),
+        Err(refusal) => answer_refused(out, refusal),
     }
 }
 
@@ -65,7 +65,7 @@ fn answer_undo(out: &mut String, machine: &mut Saved) -> Result<(), AllocError>
 {
     match machine.undo() {
         Ok(()) => out.push_str("undone\n"),
-        Err(refusal) => write_answer(out, refusal),
+        Err(refusal) => answer_refused(out, refusal),
     }
 }
 
@@ -76,7 +76,7 @@ fn answer_redo(out: &mut String, machine: &mut Saved) -> Result<(), AllocError>
 {
     match machine.redo() {
         Ok(()) => out.push_str("redone\n"),
-        Err(refusal) => write_answer(out, refusal),
+        Err(refusal) => answer_refused(out, refusal),
     }
 }
 

@@ -4,10 +4,11 @@ ghost use Rattle.std.specs.Str.Lines.{lines};
 ghost use Rattle.scene_world.specs.Machine.{opening};
 ghost use Rattle.scene_app.specs.Play.{Prints, run_from, printed, declared_text, after_kind};
 
-use crate::answer::{answer, write_answer};
+use crate::answer::{answer, answer_refused};
 use crate::line::first_line;
 use crate::saved::Saved;
-use crate::script_line::{Line, SlotLimit, read_line};
+use crate::script_line::{Line, read_line};
+use crate::slot_limit::SlotLimit;
 use scene_kinds::{Schema, Shape};
 use scene_world::World;
 use std::alloc::{AllocError, Global};
@@ -61,7 +62,7 @@ fn declare(
     let name = String::from_str(alloc, name)?;
     match schema.add(name, shape) {
         Ok(_) => out.push_str("ok\n"),
-        Err(refusal) => write_answer(out, refusal),
+        Err(refusal) => answer_refused(out, refusal),
     }
 }
 

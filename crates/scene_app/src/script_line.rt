@@ -1,60 +1,15 @@
 //! What a line of a script says.
-ghost use Rattle.std.specs.Prelude.{◌≡◌, ◌≤◌, IfOk, map};
-ghost use Rattle.scene_app.specs.Script.{limit_of, line_in, line_of_words, named_line, kind_line, slots_line, cells_in, spawn_line, insert_line, despawn_line, remove_line, get_line, lone};
+ghost use Rattle.std.specs.Prelude.{◌≡◌, IfOk, map};
+ghost use Rattle.scene_app.specs.Script.{line_in, line_of_words, named_line, kind_line, slots_line, cells_in, spawn_line, insert_line, despawn_line, remove_line, get_line, lone};
 
 use crate::cell_word::{read_cell, read_shape};
 use crate::command::{Command, Given};
 use crate::number::{read_count, read_entity};
+use crate::slot_limit::SlotLimit;
 use crate::target::read_target;
 use crate::word::words;
 use scene_kinds::{Entity, Schema, Shape, Text};
 use std::alloc::{AllocError, Global};
-use std::marker::Model;
-
-/// A slot limit, from 1 to 1,048,576.
-#[derive(Drop)]
-pub struct SlotLimit {
-    slots: u32,
-}
-
-impl Model for SlotLimit {
-    ghost use Rattle.std.specs.Prelude.{ℕ, ◌≤◌};
-
-    ghost Value = { ℕ };
-
-    ghost view = { λ l. l.slots };
-
-    ghost invariant = { λ l. (1 ≤ l.slots) × (l.slots ≤ 1048576) };
-}
-
-impl SlotLimit {
-    /// The greatest limit, which holds where a script gives none.
-    pub fn most() -> Self
-        ensures { result ≡ 1048576 }
-    {
-        SlotLimit { slots: 1_048_576 }
-    }
-
-    /// The limit of a number, or `None` only where it is 0 or above 1,048,576.
-    pub fn new(slots: u32) -> Option<Self>
-        ensures { result ≡ limit_of slots }
-    {
-        if 0 < slots && slots <= 1_048_576 {
-            Some(SlotLimit { slots })
-        } else {
-            None
-        }
-    }
-
-    /// The limit as a number.
-    pub fn get(&self) -> u32
-        ensures slots { result ≡ self.now }
-        ensures least { 1 ≤ result }
-        ensures most { result ≤ 1048576 }
-    {
-        self.slots
-    }
-}
 
 /// The meaning of a line (docs/SCRIPTS.md, "Lines").
 #[derive(Drop)]
