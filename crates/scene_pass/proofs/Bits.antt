@@ -1,0 +1,49 @@
+-- What the tests of kind sets by their bits say of each kind.
+use Rattle.std.proofs.Common.{◌≡◌, ◌<◌, ℕ, true, ◌&&◌, nat_eq, min, ap, sym, ◌∙◌, arith}
+use Rattle.std.specs.Prelude.{IsTrue, ◌↔◌, bit_and}
+use Rattle.std.specs.Int.{bit_at}
+use Rattle.std.specs.Int.Bits.{and_zero_r}
+use Rattle.std.proofs.lemmas.Bool.{and_parts}
+use Rattle.std.proofs.lemmas.Bool.Decides.{nat_tests}
+use Rattle.std.proofs.lemmas.Nat.Bits.{bit_at_and, bit_at-zero, bit_at-lt, same_from_bits}
+use Rattle.scene_pass.specs.declared.filter.Filter.{Filter}
+use Rattle.scene_pass.specs.Filter.{HasKind, is_match, SaysEachKind}
+
+-- two tests of numbers that hold
+both_equal : (a b c d : ℕ) → a ≡ b → c ≡ d → (nat_eq a b && nat_eq c d) ≡ true
+both_equal a b c d p q = grind (arith, nat_tests)
+
+equal_of : (a b : ℕ) → nat_eq a b ≡ true → a ≡ b
+equal_of a b t = grind (arith, nat_tests)
+
+-- a filter that asks for nothing matches every kind set
+pub nothing_asked : (f : Filter) → f.need ≡ 0 → f.without ≡ 0 → (mask : ℕ) → is_match f mask ≡ true
+nothing_asked f need without mask =
+    both_equal _ _ _ _ (ap (bit_and mask) need ∙ (and_zero_r mask ∙ sym need)) (ap (bit_and mask) without ∙ and_zero_r mask)
+
+-- a bit that is in both is in each, and one that is in each is in both
+all_bits : (mask need kind : ℕ) → bit_and mask need ≡ need → HasKind need kind → HasKind mask kind
+all_bits mask need kind e h = omega (arith, bit_at_and mask need kind, ap (λ n. bit_at n kind) e, bit_at-lt mask kind)
+
+no_bits : (mask without kind : ℕ) → bit_and mask without ≡ 0 → HasKind without kind → HasKind mask kind → ⊥
+no_bits mask without kind e h g = omega (arith, bit_at_and mask without kind, ap (λ n. bit_at n kind) e, bit_at-zero kind)
+
+bits_in : (a b : ℕ) → a < 2 → b < 2 → (b ≡ 1 → a ≡ 1) → min a b ≡ b
+bits_in a b p q h = grind arith
+
+bits_apart : (a b : ℕ) → a < 2 → b < 2 → (b ≡ 1 → a ≡ 1 → ⊥) → min a b ≡ 0
+bits_apart a b p q h = grind arith
+
+-- a filter matches just where it says so of each kind
+pub each_kind : (f : Filter) (mask : ℕ) → IsTrue (is_match f mask) ↔ SaysEachKind f mask
+each_kind f mask = (says, holds)
+  where
+    says : IsTrue (is_match f mask) → SaysEachKind f mask
+    says t kind =
+        let parts = and_parts _ _ t in
+        (all_bits mask f.need kind (equal_of _ _ parts.0), no_bits mask f.without kind (equal_of _ _ parts.1))
+
+    holds : SaysEachKind f mask → IsTrue (is_match f mask)
+    holds s = both_equal _ _ _ _
+        (same_from_bits (bit_and mask f.need) f.need (λ k. bit_at_and mask f.need k ∙ bits_in _ _ (bit_at-lt mask k) (bit_at-lt f.need k) (s k).0))
+        (same_from_bits (bit_and mask f.without) 0 (λ k. bit_at_and mask f.without k ∙ (bits_apart _ _ (bit_at-lt mask k) (bit_at-lt f.without k) (s k).1 ∙ sym (bit_at-zero k))))

@@ -1,0 +1,7 @@
+use Rattle.std.proofs.Common.{◌≡◌, ◌++◌, drop}
+use Rattle.std.specs.List.{flat_map}
+use Rattle.scene_pass.specs.Pass.{is_since, names_in, cells_where}
+use Rattle.scene_pass.proofs.cells.cells_since.Given as goal
+
+abbrev pub invariant-tables : goal.invariant-tables
+invariant-tables l = l.names.items ++ flat_map (names_in (is_since l.since)) (flat_map (λ t. t.now.rows) (drop l.table-index l.table-items)) ≡ cells_where (is_since l.since) l.world l.fn.filter

@@ -1,0 +1,7 @@
+use Rattle.std.proofs.Common.{◌≡◌, ◌++◌, drop}
+use Rattle.std.specs.List.{flat_map}
+use Rattle.scene_pass.specs.Pass.{is_since, names_in}
+use Rattle.scene_pass.proofs.cells.push_names_of_rows.Given as goal
+
+abbrev pub invariant-rows : goal.invariant-rows
+invariant-rows l = l.names.items ++ flat_map (names_in (is_since l.since)) (drop l.row-index l.rows) ≡ l.initial.names.items ++ flat_map (names_in (is_since l.since)) l.rows

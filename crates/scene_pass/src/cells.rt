@@ -1,0 +1,107 @@
+//! The cells of matching rows that were added or changed after a tick.
+ghost use Rattle.std.specs.Prelude.{◌≡◌, ◌++◌, IfOk, OnOk};
+ghost use Rattle.std.specs.List.{flat_map};
+ghost use Rattle.scene_pass.specs.Pass.{is_since, names_in, cells_where, changed_since, added_since};
+
+use crate::cell_name::CellName;
+use crate::filter::Filter;
+use crate::tables::matching_tables;
+use scene_kinds::{Cell, Row};
+use scene_world::World;
+use std::alloc::{AllocError, Global};
+
+/// Which cells are listed: those that were added, or changed, after a tick.
+#[derive(Clone, Copy)]
+enum Since {
+    Added(u64),
+    Changed(u64),
+}
+
+impl Since {
+    /// Whether a cell is listed. One of the very tick isn't.
+    fn lists(self, cell: &Cell) -> bool
+        ensures { result ≡ is_since self cell.now }
+    {
+        match self {
+            Since::Added(tick) => cell.added > tick,
+            Since::Changed(tick) => cell.changed > tick,
+        }
+    }
+}
+
+/// Adds the names of a row's cells that are listed, by kind.
+fn push_names(names: &mut Vec<CellName>, row: &Row, since: Since) -> Result<(), AllocError>
+    ensures { OnOk result (names.new.items ≡ names.old.items ++ names_in (is_since since) row.now) }
+{
+    'cells: for (kind, cell) in row.cells.as_slice() {
+        if since.lists(cell) {
+            names.push(CellName {
+                entity: row.entity,
+                kind: *kind,
+            })?;
+        }
+    }
+    Ok(())
+}
+
+/// Adds the names of the cells of rows that are listed.
+fn push_names_of_rows(
+    names: &mut Vec<CellName>,
+    rows: &[Row],
+    since: Since,
+) -> Result<(), AllocError>
+    ensures { OnOk result (names.new.items ≡ names.old.items ++ flat_map (names_in (is_since since)) rows.now) }
+{
+    'rows: for row in rows {
+        push_names(names, row, since)?;
+    }
+    Ok(())
+}
+
+/// The cells of matching rows that are listed.
+fn cells_since(
+    alloc: Global,
+    world: &World,
+    filter: Filter,
+    since: Since,
+) -> Result<Vec<CellName>, AllocError>
+    ensures { IfOk result (λ names. names.items ≡ cells_where (is_since since) world.now filter) }
+{
+    let tables = matching_tables(alloc, world, filter)?;
+    let mut names = Vec::new(alloc);
+    'tables: for table in &tables {
+        push_names_of_rows(&mut names, table.rows(), since)?;
+    }
+    Ok(names)
+}
+
+/// The cells of the matching rows that were changed after a tick, by row, then by kind (docs/MODEL.md, "The rule of
+/// queries"). A cell whose changed tick is `tick` itself isn't listed; one that was added after it is.
+///
+/// An error only where no memory was found. It costs the number of kind sets times its logarithm, a walk over the
+/// kind sets for each matching one, and the cells of the matching rows; the rows of other kind sets aren't read.
+pub fn changed_since(
+    alloc: Global,
+    world: &World,
+    filter: Filter,
+    tick: u64,
+) -> Result<Vec<CellName>, AllocError>
+    ensures { IfOk result (λ names. names.items ≡ changed_since world.now filter tick) }
+{
+    cells_since(alloc, world, filter, Since::Changed(tick))
+}
+
+/// The cells of the matching rows that were added after a tick, by row, then by kind (docs/MODEL.md, "The rule of
+/// queries"). A cell whose added tick is `tick` itself isn't listed.
+///
+/// An error only where no memory was found. It costs what `changed_since` costs.
+pub fn added_since(
+    alloc: Global,
+    world: &World,
+    filter: Filter,
+    tick: u64,
+) -> Result<Vec<CellName>, AllocError>
+    ensures { IfOk result (λ names. names.items ≡ added_since world.now filter tick) }
+{
+    cells_since(alloc, world, filter, Since::Added(tick))
+}

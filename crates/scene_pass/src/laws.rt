@@ -1,0 +1,31 @@
+//! What users of passes rely on, as contracts of functions without a body.
+ghost use Rattle.std.specs.Prelude.{◌≡◌, ◌↔◌, IsTrue, ℕ, [], ◌∷◌};
+ghost use Rattle.scene_pass.specs.declared.filter.Filter.{Filter};
+ghost use Rattle.scene_pass.specs.Filter.{is_match, SaysEachKind};
+ghost use Rattle.scene_pass.specs.Pass.{matching, changed_since, added_since};
+ghost use Rattle.scene_pass.specs.Examples.{three_tables, ent, name, filter};
+
+/// A law: a filter matches a kind set just where the set has each kind of `need` and no kind of `without`.
+#[tactic(auto, using(crate::proofs::Bits::each_kind))]
+pub fn filters_say_each_kind()
+    ensures { (f : Filter) (mask : ℕ) → IsTrue (is_match f mask) ↔ SaysEachKind f mask }
+{}
+
+/// Worked examples. In `three_tables` the entity 2 has kind 0 alone, added at tick 3 and changed at 6; the entity 3 has
+/// kind 1 alone, of tick 4; and the entities 1 and 0, in this order, have both: all of tick 2, and kind 0 of tick 1 with
+/// kind 1 of tick 5.
+pub fn worked_passes()
+    ensures all { matching three_tables (filter 0 0) ≡ ent 2 ∷ ent 3 ∷ ent 1 ∷ ent 0 ∷ [] }
+    ensures need { matching three_tables (filter 1 0) ≡ ent 2 ∷ ent 1 ∷ ent 0 ∷ [] }
+    ensures need_both { matching three_tables (filter 3 0) ≡ ent 1 ∷ ent 0 ∷ [] }
+    ensures without { matching three_tables (filter 0 1) ≡ ent 3 ∷ [] }
+    ensures need_without { matching three_tables (filter 1 2) ≡ ent 2 ∷ [] }
+    ensures never { matching three_tables (filter 2 2) ≡ [] }
+    ensures kind_without_rows { matching three_tables (filter 4 0) ≡ [] }
+    ensures changed_last { changed_since three_tables (filter 0 0) 5 ≡ name 2 0 ∷ [] }
+    ensures changed { changed_since three_tables (filter 0 0) 3 ≡ name 2 0 ∷ name 3 1 ∷ name 0 1 ∷ [] }
+    ensures changed_filtered { changed_since three_tables (filter 3 0) 1 ≡ name 1 0 ∷ name 1 1 ∷ name 0 1 ∷ [] }
+    ensures changed_now { changed_since three_tables (filter 0 0) 6 ≡ [] }
+    ensures added { added_since three_tables (filter 0 0) 3 ≡ name 3 1 ∷ name 0 1 ∷ [] }
+    ensures added_at_all { added_since three_tables (filter 0 0) 0 ≡ name 2 0 ∷ name 3 1 ∷ name 1 0 ∷ name 1 1 ∷ name 0 0 ∷ name 0 1 ∷ [] }
+{}

@@ -1,0 +1,25 @@
+//! Passes over a world: calls that read the rows of the archetypes that a filter matches, and change nothing.
+//!
+//! A `Filter` says which kind sets match. `matching` lists the entities of the matching rows; `changed_since` and
+//! `added_since` list the cells of those rows that were changed or added after a tick. Rows come by ascending kind
+//! set, and in a table by place; the cells of a row by kind.
+//!
+//! `specs/Filter.antt` says what a filter matches and `specs/Pass.antt` what each pass lists.
+//! `filters_say_each_kind` has the meaning of a filter kind by kind, and `worked_passes` has the definitions compute
+//! the passes over a small world.
+#![tactic(auto)]
+
+mod cell_name;
+mod cells;
+mod entities;
+mod filter;
+mod laws;
+mod tables;
+#[cfg(test)]
+mod tests;
+
+pub use cell_name::CellName;
+pub use cells::{added_since, changed_since};
+pub use entities::matching;
+pub use filter::Filter;
+pub use laws::{filters_say_each_kind, worked_passes};
