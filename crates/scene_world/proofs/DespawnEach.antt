@@ -72,33 +72,6 @@ all_go w (e ∷ es) c =
     let f = first_goes w e es c in
     let r = all_go f.0 es f.1.1 in (r.0, (ap (λ o. and_then o (λ a v. despawn_each es v)) f.1.0 ∙ r.1.0, r.1.1))
 
--- ---- a loop over the list
-
--- between `old` and `now` the first i of the list went, and the others can go
-pub record IsUnderWay (old now : World) (es : List Entity) (i : ℕ) : Type 0 where
-  pub can : CanGo now (drop i es)
-  pub left : despawn_each (drop i es) now ≡ despawn_each es old
-
-pub under_way : (w : World) (es : List Entity) → CanGo w es → IsUnderWay w w es 0
-under_way w es c = record { can = c; left = refl }
-
--- the next is never refused, and then one more went
-pub next_goes : (old now v : World) (es : List Entity) (i : ℕ) (e : Entity) (r : Result (Unit {0}) Refusal) → i < length es → e ≡ get_or es i e → IsUnderWay old now es i → Gives r now v (despawn now e)
-    → (r ≡ Ok tt) × IsUnderWay old v es (i + 1)
-next_goes old now v es i e r l at u g =
-    let rest : drop i es ≡ e ∷ drop (i + 1) es = drop_more es i e l ∙ ap (λ x. x ∷ drop (i + 1) es) (sym at) in
-    let f = first_goes now e (drop (i + 1) es) (subst (CanGo now) rest u.can) in
-    let left : despawn_each (drop (i + 1) es) f.0 ≡ despawn_each es old = sym (ap (λ o. and_then o (λ a v. despawn_each (drop (i + 1) es) v)) f.1.0) ∙ ap (λ xs. despawn_each xs now) (sym rest) ∙ u.left in
-    given r g f.0 f.1.0 (record { can = f.1.1; left = left })
-  where
-    given : (r : Result (Unit {0}) Refusal) → Gives r now v (despawn now e) → (x : World) → despawn now e ≡ Ok (tt, x) → IsUnderWay old x es (i + 1) → (r ≡ Ok tt) × IsUnderWay old v es (i + 1)
-    given (Ok a) k x is next = (refl, subst (λ z. IsUnderWay old z es (i + 1)) (same_world tt a x v (sym is ∙ k)).1 next)
-    given (Err y) k x is next = absurd (not_ok _ y (sym k.1 ∙ is))
-
--- at the end all went
-pub all_went : (old now : World) (es : List Entity) (i : ℕ) → length es ≤ i → IsUnderWay old now es i → despawn_each es old ≡ Ok (tt, now)
-all_went old now es i l u = sym u.left ∙ ap (λ xs. despawn_each xs now) (drop_all i es l)
-
 -- ---- the subtree of an entity
 
 -- a live entity and those below it can go, each after its descendants
@@ -122,3 +95,34 @@ recursive_keeps w v e valid is =
     with_row_of (IsValid v) w e _ (tt, v) is (λ h row at same made.
     let r = all_go w (post w.children e) (subtree_can_go w e valid (live_here w.tables e h row at same)) in
     subst IsValid (same_world tt tt r.0 v (sym r.1.0 ∙ made)).1 r.1.1)
+
+-- ---- a loop over the order
+
+-- between `old` and `now` the first i of the list went, and the others can go
+pub record IsUnderWay (old now : World) (es : List Entity) (i : ℕ) : Type 0 where
+  pub can : CanGo now (drop i es)
+  pub left : despawn_each (drop i es) now ≡ despawn_each es old
+
+-- the next is never refused, and then one more went
+pub next_goes : (old now v : World) (es : List Entity) (i : ℕ) (d : Entity) (r : Result (Unit {0}) Refusal) → i < length es → IsUnderWay old now es i → Gives r now v (despawn now (get_or es i d))
+    → (r ≡ Ok tt) × IsUnderWay old v es (i + 1)
+next_goes old now v es i d r l u g =
+    let e = get_or es i d in
+    let rest = drop (i + 1) es in
+    let split : drop i es ≡ e ∷ rest = drop_more es i d l in
+    let f = first_goes now e rest (subst (CanGo now) split u.can) in
+    let left : despawn_each rest f.0 ≡ despawn_each es old = sym (ap (λ o. and_then o (λ a v. despawn_each rest v)) f.1.0) ∙ ap (λ xs. despawn_each xs now) (sym split) ∙ u.left in
+    given r g f.0 f.1.0 (record { can = f.1.1; left = left })
+  where
+    given : (r : Result (Unit {0}) Refusal) → Gives r now v (despawn now (get_or es i d)) → (x : World) → despawn now (get_or es i d) ≡ Ok (tt, x) → IsUnderWay old x es (i + 1) → (r ≡ Ok tt) × IsUnderWay old v es (i + 1)
+    given (Ok a) k x is next = (refl, subst (λ z. IsUnderWay old z es (i + 1)) (same_world tt a x v (sym is ∙ k)).1 next)
+    given (Err y) k x is next = absurd (not_ok _ y (sym k.1 ∙ is))
+
+-- before the first
+pub none_went : (w : World) (e : Entity) (es : List Entity) → IsValid w → is_live w e ≡ true → es ≡ post w.children e → IsUnderWay w w es 0
+none_went w e es v l is = record { can = subst (CanGo w) (sym is) (subtree_can_go w e v l); left = refl }
+
+-- after the last
+pub all_went : (old now : World) (e : Entity) (es : List Entity) (i : ℕ) → is_live old e ≡ true → es ≡ post old.children e → length es ≤ i → IsUnderWay old now es i → despawn_recursive old e ≡ Ok (tt, now)
+all_went old now e es i live is l u =
+    recursive_each old e live ∙ ap (λ xs. despawn_each xs old) (sym is) ∙ sym u.left ∙ ap (λ xs. despawn_each xs now) (drop_all i es l)
