@@ -5,11 +5,14 @@ pub mod DespawnKeeps
 pub mod Homes
 pub mod KindBits
 pub mod KindSets
+pub mod LinkKeeps
 pub mod Lives
 pub mod MoveKeeps
 pub mod NewCells
 pub mod Onto
 pub mod Outcomes
+pub mod Parts
+pub mod ResourceKeeps
 pub mod RowLists
 pub mod Rows
 pub mod Scans

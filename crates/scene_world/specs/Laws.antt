@@ -3,7 +3,7 @@ use Rattle.std.specs.Prelude.{◌≡◌, ℕ, true, List, Ok}
 use Rattle.scene_kinds.specs.declared.entity.Entity.{Entity}
 use Rattle.scene_kinds.specs.declared.value.Value.{Value}
 use Rattle.scene_world.specs.World.{World, is_live}
-use Rattle.scene_world.specs.Commands.{raise_tick, spawn, despawn, despawn_recursive, insert, remove}
+use Rattle.scene_world.specs.Commands.{raise_tick, spawn, despawn, despawn_recursive, insert, remove, set_parent, remove_parent, put_resource, remove_resource}
 use Rattle.scene_world.specs.Valid.{IsValid}
 
 abbrev pub RaiseKeeps : Type 0
@@ -27,3 +27,15 @@ InsertKeeps = (w v : World) (e : Entity) (kind : ℕ) (value : Value) → IsVali
 
 abbrev pub RemoveKeeps : Type 0
 RemoveKeeps = (w v : World) (e : Entity) (kind : ℕ) → IsValid w → remove w e kind ≡ Ok (tt, v) → IsValid v
+
+abbrev pub SetParentKeeps : Type 0
+SetParentKeeps = (w v : World) (child parent : Entity) → IsValid w → set_parent w child parent ≡ Ok (tt, v) → IsValid v
+
+abbrev pub RemoveParentKeeps : Type 0
+RemoveParentKeeps = (w v : World) (child : Entity) → IsValid w → remove_parent w child ≡ Ok (tt, v) → IsValid v
+
+abbrev pub PutResourceKeeps : Type 0
+PutResourceKeeps = (w v : World) (name : List ℕ) (value : Value) → IsValid w → put_resource w name value ≡ Ok (tt, v) → IsValid v
+
+abbrev pub RemoveResourceKeeps : Type 0
+RemoveResourceKeeps = (w v : World) (name : List ℕ) → IsValid w → remove_resource w name ≡ Ok (tt, v) → IsValid v

@@ -1,6 +1,6 @@
 //! Laws of the commands: an accepted one keeps a valid world valid. Every `World` is valid by its type; these say so of
 //! the definitions.
-ghost use Rattle.scene_world.specs.Laws.{RaiseKeeps, SpawnKeeps, DespawnKeeps, DespawnRecursiveKeeps, DespawnRecursiveIsWhole, InsertKeeps, RemoveKeeps};
+ghost use Rattle.scene_world.specs.Laws.{RaiseKeeps, SpawnKeeps, DespawnKeeps, DespawnRecursiveKeeps, DespawnRecursiveIsWhole, InsertKeeps, RemoveKeeps, SetParentKeeps, RemoveParentKeeps, PutResourceKeeps, RemoveResourceKeeps};
 
 /// A law: raising the tick keeps a valid world valid.
 pub fn raising_keeps_worlds_valid()
@@ -35,4 +35,24 @@ pub fn inserting_keeps_worlds_valid()
 /// A law: an accepted remove keeps a valid world valid.
 pub fn removing_keeps_worlds_valid()
     ensures { RemoveKeeps }
+{}
+
+/// A law: an accepted change of a parent keeps a valid world valid.
+pub fn setting_parents_keeps_worlds_valid()
+    ensures { SetParentKeeps }
+{}
+
+/// A law: an accepted removal of a parent keeps a valid world valid.
+pub fn removing_parents_keeps_worlds_valid()
+    ensures { RemoveParentKeeps }
+{}
+
+/// A law: an accepted put of a resource keeps a valid world valid.
+pub fn putting_resources_keeps_worlds_valid()
+    ensures { PutResourceKeeps }
+{}
+
+/// A law: an accepted removal of a resource keeps a valid world valid.
+pub fn removing_resources_keeps_worlds_valid()
+    ensures { RemoveResourceKeeps }
 {}

@@ -1,0 +1,73 @@
+-- An accepted change of a parent keeps a valid world valid.
+use Rattle.std.proofs.Common.{◌≡◌, ℕ, true, false, ◌&&◌, subst, Some, None, Ok}
+use Rattle.scene_kinds.specs.declared.entity.Entity.{Entity}
+use Rattle.scene_kinds.specs.Entity.{is_same}
+use Rattle.scene_links.specs.Forest.{Forest, IsForest, AllLinked, holds, ancestors, parent_of, cut, cut_from, joined, link_of, unlinked, unlink_of}
+use Rattle.scene_links.proofs.Cuts.{cut_forest, linked-cut, parent_gone}
+use Rattle.scene_links.proofs.Joins.{linked-joined, linked_forest}
+use Rattle.scene_world.specs.World.{World, is_live}
+use Rattle.scene_world.specs.Commands.{lifted, with_children}
+use Rattle.scene_world.specs.Valid.{IsValid}
+use Rattle.scene_world.specs.Laws.{SetParentKeeps, RemoveParentKeeps}
+use Rattle.scene_world.proofs.Outcomes.{not_ok, same_world}
+use Rattle.scene_world.proofs.Parts.{asked, allowed, both_pass, lifted_part, done_part}
+
+-- other links keep a valid world valid, where they are a forest of live entities
+pub links_valid : (w : World) (f : Forest) → IsValid w → AllLinked (λ e. is_live w e ≡ true) f → IsForest f → IsValid (with_children w f)
+links_valid w f v live forest = record {
+  limit = v.limit;
+  generations = v.generations;
+  current = v.current;
+  once = v.once;
+  free = v.free;
+  accounted = v.accounted;
+  rows = v.rows;
+  links = (live, forest);
+  names = v.names;
+  ticks = v.ticks;
+  schema = v.schema;
+  generations_low = v.generations_low;
+  tick_low = v.tick_low;
+}
+
+-- a child leaves its parent's list
+pub cut_valid : (w : World) (c : Entity) → IsValid w → IsValid (with_children w (cut w.children c))
+cut_valid w c v = links_valid w (cut w.children c) v (linked-cut (λ e. is_live w e ≡ true) w.children c v.links.0) (cut_forest w.children c v.links.1)
+
+-- a live child goes last in the list of a live parent that isn't below it
+pub joined_valid : (w : World) (c p : Entity) → IsValid w → is_live w c ≡ true → is_live w p ≡ true → is_same c p ≡ false → holds c (ancestors w.children p) ≡ false
+    → IsValid (with_children w (joined (cut w.children c) c p))
+joined_valid w c p v child parent ne up =
+    let f = w.children in
+    links_valid w (joined (cut f c) c p) v
+    (linked-joined (λ e. is_live w e ≡ true) (cut f c) c p (cut_forest f c v.links.1) (parent_gone f c v.links.1) parent child (linked-cut (λ e. is_live w e ≡ true) f c v.links.0))
+    (linked_forest f c p v.links.1 ne up)
+
+-- the links after a link that wasn't refused
+pub linked_valid : (w : World) (c p : Entity) (g : Forest) → IsValid w → is_live w c ≡ true → is_live w p ≡ true → link_of w.children c p ≡ Ok (tt, g) → IsValid (with_children w g)
+linked_valid w c p g v child parent made =
+    let other = asked (is_same c p) _ _ (tt, g) made in
+    let above = asked (holds c (ancestors w.children p)) _ _ (tt, g) other.1 in
+    subst (λ f. IsValid (with_children w f)) (same_world tt tt _ g above.1).1 (joined_valid w c p v child parent other.0 above.0)
+
+-- the links after an unlink that wasn't refused
+pub unlinked_valid : (w : World) (c : Entity) (l : Entity × ℕ) (g : Forest) → IsValid w → unlink_of w.children c ≡ Ok (l, g) → IsValid (with_children w g)
+unlinked_valid w c l g v made =
+    elim (parent_of w.children c) as (λ o. IsValid (with_children w (cut_from w.children c o)) → unlinked w.children c o ≡ Ok (l, g) → IsValid (with_children w g)) [
+      | None ↦ λ k h. absurd (not_ok (l, g) _ h)
+      | Some p ↦ λ k h. subst (λ f. IsValid (with_children w f)) (same_world _ l _ g h).1 k
+    ] (cut_valid w c v) made
+
+pub set_parent_keeps : SetParentKeeps
+set_parent_keeps w v c p valid is =
+    let live = allowed (is_live w c && is_live w p) _ _ (tt, v) is in
+    let both = both_pass (is_live w c) (is_live w p) live.0 in
+    let made = lifted_part (link_of w.children c p) (with_children w) tt v live.1 in
+    subst IsValid made.1.1 (linked_valid w c p made.0 valid both.0 both.1 made.1.0)
+
+pub remove_parent_keeps : RemoveParentKeeps
+remove_parent_keeps w v c valid is =
+    let live = allowed (is_live w c) _ _ (tt, v) is in
+    let told = done_part (lifted (unlink_of w.children c) (with_children w)) v live.1 in
+    let made = lifted_part (unlink_of w.children c) (with_children w) told.0 v told.1 in
+    subst IsValid made.1.1 (unlinked_valid w c told.0 made.0 valid made.1.0)
