@@ -1,4 +1,5 @@
 pub mod Bounds
+pub mod CommandKeeps
 pub mod Copies
 pub mod DespawnEach
 pub mod DespawnKeeps

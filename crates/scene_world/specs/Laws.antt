@@ -1,9 +1,12 @@
--- Laws of the commands: an accepted one keeps a valid world valid.
-use Rattle.std.specs.Prelude.{◌≡◌, ℕ, true, List, Ok}
+-- Laws of the commands: an accepted one keeps a valid world valid, and a refused one leaves it as it was.
+use Rattle.std.specs.Prelude.{◌≡◌, ℕ, true, List, Option, Ok, Err}
 use Rattle.scene_kinds.specs.declared.entity.Entity.{Entity}
+use Rattle.scene_kinds.specs.declared.refusal.Refusal.{Refusal}
 use Rattle.scene_kinds.specs.declared.value.Value.{Value}
+use Rattle.scene_kinds.specs.Answers.{Answers}
 use Rattle.scene_world.specs.World.{World, is_live}
 use Rattle.scene_world.specs.Commands.{raise_tick, spawn, despawn, despawn_recursive, insert, remove, set_parent, remove_parent, put_resource, remove_resource}
+use Rattle.scene_world.specs.Perform.{Command, perform}
 use Rattle.scene_world.specs.Valid.{IsValid}
 
 abbrev pub RaiseKeeps : Type 0
@@ -39,3 +42,11 @@ PutResourceKeeps = (w v : World) (name : List ℕ) (value : Value) → IsValid w
 
 abbrev pub RemoveResourceKeeps : Type 0
 RemoveResourceKeeps = (w v : World) (name : List ℕ) → IsValid w → remove_resource w name ≡ Ok (tt, v) → IsValid v
+
+-- whichever of the nine it is
+abbrev pub CommandsKeep : Type 0
+CommandsKeep = (w v : World) (c : Command) (a : Option Entity) → IsValid w → perform w c ≡ Ok (a, v) → IsValid v
+
+-- a call that answers a refusal, the command's or that no memory was found, leaves the world as it was
+abbrev pub RefusalsChangeNothing : Type 0
+RefusalsChangeNothing = (w v : World) (c : Command) (r : Refusal) → Answers (Err r) w v (perform w c) → v ≡ w

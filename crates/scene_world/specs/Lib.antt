@@ -1,5 +1,6 @@
 pub mod World
 pub mod Commands
+pub mod Perform
 pub mod Machine
 pub mod Examples
 pub mod Valid

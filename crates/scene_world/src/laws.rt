@@ -1,6 +1,6 @@
-//! Laws of the commands: an accepted one keeps a valid world valid. Every `World` is valid by its type; these say so of
-//! the definitions.
-ghost use Rattle.scene_world.specs.Laws.{RaiseKeeps, SpawnKeeps, DespawnKeeps, DespawnRecursiveKeeps, DespawnRecursiveIsWhole, InsertKeeps, RemoveKeeps, SetParentKeeps, RemoveParentKeeps, PutResourceKeeps, RemoveResourceKeeps};
+//! Laws of the commands: an accepted one keeps a valid world valid, and a refused one leaves it as it was. Every `World`
+//! is valid by its type; these say so of the definitions.
+ghost use Rattle.scene_world.specs.Laws.{RaiseKeeps, CommandsKeep, RefusalsChangeNothing, SpawnKeeps, DespawnKeeps, DespawnRecursiveKeeps, DespawnRecursiveIsWhole, InsertKeeps, RemoveKeeps, SetParentKeeps, RemoveParentKeeps, PutResourceKeeps, RemoveResourceKeeps};
 
 /// A law: raising the tick keeps a valid world valid.
 pub fn raising_keeps_worlds_valid()
@@ -55,4 +55,11 @@ pub fn putting_resources_keeps_worlds_valid()
 /// A law: an accepted removal of a resource keeps a valid world valid.
 pub fn removing_resources_keeps_worlds_valid()
     ensures { RemoveResourceKeeps }
+{}
+
+/// A law of all nine commands: an accepted one keeps a valid world valid, and a call that meets its contract and
+/// answers a refusal leaves the world as it was.
+pub fn commands_keep_worlds_valid()
+    ensures accepted { CommandsKeep }
+    ensures refused { RefusalsChangeNothing }
 {}

@@ -24,7 +24,7 @@ mod world;
 pub use examples::worked_examples_hold;
 pub use home::Home;
 pub use laws::{
-    despawning_keeps_worlds_valid, inserting_keeps_worlds_valid,
+    commands_keep_worlds_valid, despawning_keeps_worlds_valid, inserting_keeps_worlds_valid,
     putting_resources_keeps_worlds_valid, raising_keeps_worlds_valid,
     recursive_despawn_is_never_refused_midway, recursive_despawn_keeps_worlds_valid,
     removing_keeps_worlds_valid, removing_parents_keeps_worlds_valid,

@@ -1,0 +1,31 @@
+-- Each of the nine commands, where it is accepted, keeps a valid world valid.
+use Rattle.std.proofs.Common.{◌≡◌, Option, Ok}
+use Rattle.std.specs.Prelude.{Err}
+use Rattle.scene_kinds.specs.Answers.{Outcome}
+use Rattle.scene_world.specs.World.{World}
+use Rattle.scene_world.specs.Commands.{spawn, despawn, despawn_recursive, insert, remove, set_parent, remove_parent, put_resource, remove_resource}
+use Rattle.scene_world.specs.Perform.{Command, Spawn, Despawn, DespawnRecursive, Insert, Remove, SetParent, RemoveParent, PutResource, RemoveResource, answering}
+use Rattle.scene_world.specs.Laws.{CommandsKeep}
+use Rattle.scene_world.proofs.Outcomes.{not_ok, same_world}
+use Rattle.scene_world.proofs.SpawnKeeps.{spawn_keeps}
+use Rattle.scene_world.proofs.DespawnKeeps.{despawn_keeps}
+use Rattle.scene_world.proofs.DespawnEach.{recursive_keeps}
+use Rattle.scene_world.proofs.MoveKeeps.{insert_keeps, remove_keeps}
+use Rattle.scene_world.proofs.LinkKeeps.{set_parent_keeps, remove_parent_keeps}
+use Rattle.scene_world.proofs.ResourceKeeps.{put_resource_keeps, remove_resource_keeps}
+
+-- what an outcome answered before its answer became another one
+answered : {A B W : Type 0} (f : A → B) (o : Outcome A W) (b : B) (v : W) → answering f o ≡ Ok (b, v) → (a : A) × (o ≡ Ok (a, v))
+answered f (Ok p) b v h = (p.0, λ i. Ok (p.0, (same_world (f p.0) b p.1 v h).1 i))
+answered f (Err r) b v h = absurd (not_ok (b, v) r h)
+
+pub commands_keep : CommandsKeep
+commands_keep w v (Spawn cells) a valid is = let k = answered _ (spawn w cells) a v is in spawn_keeps w v cells k.0 valid k.1
+commands_keep w v (Despawn e) a valid is = despawn_keeps w v e valid (answered _ (despawn w e) a v is).1
+commands_keep w v (DespawnRecursive e) a valid is = recursive_keeps w v e valid (answered _ (despawn_recursive w e) a v is).1
+commands_keep w v (Insert e kind value) a valid is = insert_keeps w v e kind value valid (answered _ (insert w e kind value) a v is).1
+commands_keep w v (Remove e kind) a valid is = remove_keeps w v e kind valid (answered _ (remove w e kind) a v is).1
+commands_keep w v (SetParent c p) a valid is = set_parent_keeps w v c p valid (answered _ (set_parent w c p) a v is).1
+commands_keep w v (RemoveParent c) a valid is = remove_parent_keeps w v c valid (answered _ (remove_parent w c) a v is).1
+commands_keep w v (PutResource name value) a valid is = put_resource_keeps w v name value valid (answered _ (put_resource w name value) a v is).1
+commands_keep w v (RemoveResource name) a valid is = remove_resource_keeps w v name valid (answered _ (remove_resource w name) a v is).1
