@@ -8,6 +8,7 @@ ghost use Rattle.scene_world.specs.Stored.{IsHomeOf};
 ghost use Rattle.scene_world.specs.Valid.{IsValid};
 
 mod despawn;
+mod despawn_recursive;
 mod insert;
 mod remove;
 mod spawn;
