@@ -1,6 +1,9 @@
 -- An accepted change of a parent keeps a valid world valid.
-use Rattle.std.proofs.Common.{◌≡◌, ℕ, true, false, ◌&&◌, subst, Some, None, Ok}
+use Rattle.std.proofs.Common.{◌≡◌, ℕ, true, false, ◌&&◌, subst, sym, Some, None, Ok}
+use Rattle.std.specs.Prelude.{Result, Err}
 use Rattle.scene_kinds.specs.declared.entity.Entity.{Entity}
+use Rattle.scene_kinds.specs.declared.refusal.Refusal.{Refusal}
+use Rattle.scene_kinds.specs.Answers.{Answers}
 use Rattle.scene_kinds.specs.Entity.{is_same}
 use Rattle.scene_links.specs.Forest.{Forest, IsForest, AllLinked, holds, ancestors, parent_of, cut, cut_from, joined, link_of, unlinked, unlink_of}
 use Rattle.scene_links.proofs.Cuts.{cut_forest, linked-cut, parent_gone}
@@ -49,6 +52,11 @@ linked_valid w c p g v child parent made =
     let other = asked (is_same c p) _ _ (tt, g) made in
     let above = asked (holds c (ancestors w.children p)) _ _ (tt, g) other.1 in
     subst (λ f. IsValid (with_children w f)) (same_world tt tt _ g above.1).1 (joined_valid w c p v child parent other.0 above.0)
+
+-- the links after a call of link, also where it was refused
+pub link_answered : (w : World) (c p : Entity) (g : Forest) (r : Result (Unit {0}) Refusal) → IsValid w → is_live w c ≡ true → is_live w p ≡ true → Answers r w.children g (link_of w.children c p) → IsValid (with_children w g)
+link_answered w c p g (Ok a) v child parent k = linked_valid w c p g v child parent k
+link_answered w c p g (Err r) v child parent k = subst (λ f. IsValid (with_children w f)) (sym k.0) v
 
 -- the links after an unlink that wasn't refused
 pub unlinked_valid : (w : World) (c : Entity) (l : Entity × ℕ) (g : Forest) → IsValid w → unlink_of w.children c ≡ Ok (l, g) → IsValid (with_children w g)

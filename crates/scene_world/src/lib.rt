@@ -5,8 +5,8 @@
 //! redo do to whole saved worlds. `worked_examples_hold` has those definitions compute short scripts.
 //!
 //! `World` keeps a table for each kind set; all growth comes before the first change, so that a refusal leaves
-//! the world as it was. Bodies stand here for spawning, despawning, inserting and removing; the definitions of
-//! the other commands wait for theirs.
+//! the world as it was. Bodies stand here for all commands but the recursive despawn, whose
+//! definition waits for its own.
 #![tactic(auto)]
 
 mod clones;

@@ -282,3 +282,27 @@ fn readers_tell_the_live_from_the_dead(rt: HostRuntime) -> Result<(), Fail> {
     }
     Ok(())
 }
+
+#[test]
+fn parents_are_set_and_removed(rt: HostRuntime) -> Result<(), Fail> {
+    let mut world = reused(rt.alloc())?;
+    let parent = world.spawn(cells_of(rt.alloc(), &[])?)?;
+    world.set_parent(NEW, parent)?;
+    assert_eq!(rt; world.links().parent_of(NEW), Some(parent));
+    world.remove_parent(NEW)?;
+    assert!(rt; world.links().is_empty());
+    Ok(())
+}
+
+#[test]
+fn resources_are_put_and_removed(rt: HostRuntime) -> Result<(), Fail> {
+    let mut world = World::new(rt.alloc(), kinds(rt.alloc())?, 1);
+    world.put_resource("left", Value::Int(7))?;
+    world.raise_tick()?;
+    world.put_resource("left", Value::Tag)?;
+    let left = world.resources().get("left");
+    assert_eq!(rt; left.map(|cell| (cell.added, cell.changed)), Some((0, 1)));
+    world.remove_resource("left")?;
+    assert!(rt; world.resources().is_empty());
+    Ok(())
+}

@@ -10,7 +10,11 @@ ghost use Rattle.scene_world.specs.Valid.{IsValid};
 mod despawn;
 mod despawn_recursive;
 mod insert;
+mod put_resource;
 mod remove;
+mod remove_parent;
+mod remove_resource;
+mod set_parent;
 mod spawn;
 
 use crate::clones::clone_tables;
