@@ -2,7 +2,7 @@
 use crate::{CellName, Filter, added_since, changed_since, matching};
 use scene_kinds::{Entity, Refusal, Schema, Shape, Value};
 use scene_world::World;
-use std::alloc::Global;
+use std::alloc::{AllocError, Global};
 use std::test::Fail;
 
 /// The first entity of an index.
@@ -54,18 +54,16 @@ fn three_tables(alloc: Global) -> Result<World, Refusal> {
 }
 
 /// The indices of entities.
-fn indices(alloc: Global, entities: &[Entity]) -> Result<Vec<u32>, Fail> {
-    Ok(entities.iter().map(|entity| entity.index).collect(alloc)?)
+fn indices(alloc: Global, entities: &[Entity]) -> Result<Vec<u32>, AllocError> {
+    entities.iter().map(|entity| entity.index).collect(alloc)
 }
 
-/// The indices and kinds of cells.
-fn places(alloc: Global, names: &[CellName]) -> Result<Vec<(u32, u8)>, Fail> {
-    Ok(
-        names
-            .iter()
-            .map(|name| (name.entity.index, name.kind))
-            .collect(alloc)?,
-    )
+/// The indices of entities, each with a kind.
+fn places(alloc: Global, names: &[CellName]) -> Result<Vec<(u32, u8)>, AllocError> {
+    names
+        .iter()
+        .map(|name| (name.entity.index, name.kind))
+        .collect(alloc)
 }
 
 #[test]
@@ -83,24 +81,17 @@ fn matching_rows_by_kind_set_then_place(rt: HostRuntime) -> Result<(), Fail> {
     ];
     for (need, without, want) in cases {
         let found = matching(alloc, &world, Filter { need, without })?;
-        let found = indices(alloc, found.as_slice())?;
-        assert_eq!(rt; found.as_slice(), want, "{need} {without}");
+        let indices = indices(alloc, found.as_slice())?;
+        assert_eq!(rt; indices.as_slice(), want, "{need} {without}");
     }
-    assert_eq!(rt;
-        Filter::all(),
-        Filter {
-            need: 0,
-            without: 0
-        }
-    );
     Ok(())
 }
 
 #[test]
-fn cells_above_a_tick_by_row_then_kind(rt: HostRuntime) -> Result<(), Fail> {
+fn changed_cells_by_row_then_kind(rt: HostRuntime) -> Result<(), Fail> {
     let alloc = rt.alloc();
     let world = three_tables(alloc)?;
-    let changed: [(u64, u64, &[(u32, u8)]); 6] = [
+    let cases: [(u64, u64, &[(u32, u8)]); 6] = [
         (6, 0, &[]),
         (5, 0, &[(2, 0)]),
         (4, 0, &[(2, 0), (0, 1)]),
@@ -108,22 +99,28 @@ fn cells_above_a_tick_by_row_then_kind(rt: HostRuntime) -> Result<(), Fail> {
         (3, 3, &[(0, 1)]),
         (1, 3, &[(1, 0), (1, 1), (0, 1)]),
     ];
-    for (tick, need, want) in changed {
-        let filter = Filter { need, without: 0 };
-        let found = changed_since(alloc, &world, filter, tick)?;
-        let found = places(alloc, found.as_slice())?;
-        assert_eq!(rt; found.as_slice(), want, "{tick} {need}");
+    for (tick, need, want) in cases {
+        let found = changed_since(alloc, &world, Filter { need, without: 0 }, tick)?;
+        let places = places(alloc, found.as_slice())?;
+        assert_eq!(rt; places.as_slice(), want, "{tick} {need}");
     }
-    let added: [(u64, &[(u32, u8)]); 4] = [
+    Ok(())
+}
+
+#[test]
+fn added_cells_by_row_then_kind(rt: HostRuntime) -> Result<(), Fail> {
+    let alloc = rt.alloc();
+    let world = three_tables(alloc)?;
+    let cases: [(u64, &[(u32, u8)]); 4] = [
         (5, &[]),
         (4, &[(0, 1)]),
         (3, &[(3, 1), (0, 1)]),
         (0, &[(2, 0), (3, 1), (1, 0), (1, 1), (0, 0), (0, 1)]),
     ];
-    for (tick, want) in added {
+    for (tick, want) in cases {
         let found = added_since(alloc, &world, Filter::all(), tick)?;
-        let found = places(alloc, found.as_slice())?;
-        assert_eq!(rt; found.as_slice(), want, "{tick}");
+        let places = places(alloc, found.as_slice())?;
+        assert_eq!(rt; places.as_slice(), want, "{tick}");
     }
     Ok(())
 }
