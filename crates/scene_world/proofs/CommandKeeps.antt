@@ -1,10 +1,9 @@
 -- Each of the nine commands, where it is accepted, keeps a valid world valid.
-use Rattle.std.proofs.Common.{◌≡◌, Option, Ok}
+use Rattle.std.proofs.Common.{◌≡◌, Ok}
 use Rattle.std.specs.Prelude.{Err}
 use Rattle.scene_kinds.specs.Answers.{Outcome}
-use Rattle.scene_world.specs.World.{World}
 use Rattle.scene_world.specs.Commands.{spawn, despawn, despawn_recursive, insert, remove, set_parent, remove_parent, put_resource, remove_resource}
-use Rattle.scene_world.specs.Perform.{Command, Spawn, Despawn, DespawnRecursive, Insert, Remove, SetParent, RemoveParent, PutResource, RemoveResource, answering}
+use Rattle.scene_world.specs.Perform.{Spawn, Despawn, DespawnRecursive, Insert, Remove, SetParent, RemoveParent, PutResource, RemoveResource, answering}
 use Rattle.scene_world.specs.Laws.{CommandsKeep}
 use Rattle.scene_world.proofs.Outcomes.{not_ok, same_world}
 use Rattle.scene_world.proofs.SpawnKeeps.{spawn_keeps}
