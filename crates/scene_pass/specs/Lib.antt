@@ -1,3 +1,5 @@
 pub mod Examples
 pub mod Filter
+pub mod Listed
 pub mod Pass
+pub mod Since

@@ -7,8 +7,6 @@ use Rattle.scene_kinds.specs.declared.cells.Row.{Row}
 use Rattle.scene_world.specs.World.{World, rows_at, kind_sets}
 use Rattle.scene_pass.specs.declared.filter.Filter.{Filter}
 use Rattle.scene_pass.specs.declared.cell_name.CellName.{CellName}
-use Rattle.scene_pass.specs.declared.cells.Since.{Since}
-use Rattle.scene_pass.specs.declared.cells.Since.TheVariants.{Added, Changed}
 use Rattle.scene_pass.specs.Filter.{is_match}
 
 -- the rows of a kind set where the filter matches it
@@ -38,8 +36,3 @@ changed_since w f tick = cells_where (λ cell. nat_lt tick cell.changed) w f
 -- those that were added after a tick
 abbrev pub added_since : World → Filter → ℕ → List CellName
 added_since w f tick = cells_where (λ cell. nat_lt tick cell.added) w f
-
--- how the code tells the two apart
-abbrev pub is_since : Since → Cell → Bool
-is_since (Added tick) cell = nat_lt tick cell.added
-is_since (Changed tick) cell = nat_lt tick cell.changed

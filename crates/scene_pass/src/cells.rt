@@ -1,7 +1,8 @@
 //! The cells of matching rows that were added or changed after a tick.
 ghost use Rattle.std.specs.Prelude.{◌≡◌, ◌++◌, IfOk, OnOk};
 ghost use Rattle.std.specs.List.{flat_map};
-ghost use Rattle.scene_pass.specs.Pass.{is_since, names_in, cells_where, changed_since, added_since};
+ghost use Rattle.scene_pass.specs.Pass.{names_in, cells_where, changed_since, added_since};
+ghost use Rattle.scene_pass.specs.Since.{is_since};
 
 use crate::cell_name::CellName;
 use crate::filter::Filter;

@@ -1,7 +1,13 @@
 //! What users of passes rely on, as contracts of functions without a body.
-ghost use Rattle.std.specs.Prelude.{◌≡◌, ◌↔◌, IsTrue, ℕ, [], ◌∷◌};
+ghost use Rattle.std.specs.Prelude.{◌≡◌, ◌↔◌, IsTrue, ℕ, ◌<◌, [], ◌∷◌};
+ghost use Rattle.std.specs.List.{Contains};
+ghost use Rattle.scene_kinds.specs.declared.entity.Entity.{Entity};
+ghost use Rattle.scene_world.specs.World.{World};
+ghost use Rattle.scene_world.specs.Valid.{IsValid};
+ghost use Rattle.scene_pass.specs.declared.cell_name.CellName.{CellName};
 ghost use Rattle.scene_pass.specs.declared.filter.Filter.{Filter};
 ghost use Rattle.scene_pass.specs.Filter.{is_match, SaysEachKind};
+ghost use Rattle.scene_pass.specs.Listed.{Matches, IsCellWhere};
 ghost use Rattle.scene_pass.specs.Pass.{matching, changed_since, added_since};
 ghost use Rattle.scene_pass.specs.Examples.{three_tables, ent, name, filter};
 
@@ -9,6 +15,17 @@ ghost use Rattle.scene_pass.specs.Examples.{three_tables, ent, name, filter};
 #[tactic(auto, using(crate::proofs::Bits::each_kind))]
 pub fn filters_say_each_kind()
     ensures { (f : Filter) (mask : ℕ) → IsTrue (is_match f mask) ↔ SaysEachKind f mask }
+{}
+
+/// A law: in a valid world the passes list just what they are for. An entity is listed where it is alive and its kind set
+/// matches, and a cell where its entity is listed and the cell's tick is above the given one.
+pub fn passes_list_just_what_matches()
+    ensures matching { (w : World) (f : Filter) (e : Entity) → IsValid w
+        → Contains (matching w f) e ↔ Matches w f e }
+    ensures changed { (w : World) (f : Filter) (tick : ℕ) (n : CellName) → IsValid w
+        → Contains (changed_since w f tick) n ↔ IsCellWhere (λ cell. tick < cell.changed) w f n }
+    ensures added { (w : World) (f : Filter) (tick : ℕ) (n : CellName) → IsValid w
+        → Contains (added_since w f tick) n ↔ IsCellWhere (λ cell. tick < cell.added) w f n }
 {}
 
 /// Worked examples. In `three_tables` the entity 2 has kind 0 alone, added at tick 3 and changed at 6; the entity 3 has

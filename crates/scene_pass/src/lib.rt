@@ -4,9 +4,9 @@
 //! `added_since` list the cells of those rows that were changed or added after a tick. Rows come by ascending kind
 //! set, and in a table by place; the cells of a row by kind.
 //!
-//! `specs/Filter.antt` says what a filter matches and `specs/Pass.antt` what each pass lists.
-//! `filters_say_each_kind` has the meaning of a filter kind by kind, and `worked_passes` has the definitions compute
-//! the passes over a small world.
+//! `specs/Filter.antt` says what a filter matches and `specs/Pass.antt` what each pass lists. `worked_passes` has
+//! those definitions compute the passes over a small world. Of the laws, `filters_say_each_kind` has the meaning of a
+//! filter kind by kind, and `passes_list_just_what_matches` that of the lists in the words of a world's readers.
 #![tactic(auto)]
 
 mod cell_name;
@@ -22,4 +22,4 @@ pub use cell_name::CellName;
 pub use cells::{added_since, changed_since};
 pub use entities::matching;
 pub use filter::Filter;
-pub use laws::{filters_say_each_kind, worked_passes};
+pub use laws::{filters_say_each_kind, passes_list_just_what_matches, worked_passes};

@@ -8,7 +8,7 @@ use scene_table::Table;
 use scene_world::World;
 use std::alloc::{AllocError, Global};
 
-/// The table of a kind set where the filter matches it. Only then it costs a walk over the kind sets.
+/// The table of a kind set, if the filter matches it. It is looked up only then, by a walk over the kind sets.
 fn matching_table(world: &World, filter: Filter, mask: u64) -> Option<&Table>
     ensures { unwrap_or (option_map (λ table. table.now.rows) result) [] ≡ rows_in world.now filter mask }
 {

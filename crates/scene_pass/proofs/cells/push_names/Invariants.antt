@@ -1,5 +1,6 @@
 use Rattle.std.proofs.Common.{◌≡◌, ◌++◌, drop}
-use Rattle.scene_pass.specs.Pass.{is_since, names_in}
+use Rattle.scene_pass.specs.Pass.{names_in}
+use Rattle.scene_pass.specs.Since.{is_since}
 use Rattle.scene_pass.proofs.cells.push_names.Given as goal
 
 abbrev pub invariant-cells : goal.invariant-cells

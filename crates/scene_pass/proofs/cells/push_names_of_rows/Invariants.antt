@@ -1,6 +1,7 @@
 use Rattle.std.proofs.Common.{◌≡◌, ◌++◌, drop}
 use Rattle.std.specs.List.{flat_map}
-use Rattle.scene_pass.specs.Pass.{is_since, names_in}
+use Rattle.scene_pass.specs.Pass.{names_in}
+use Rattle.scene_pass.specs.Since.{is_since}
 use Rattle.scene_pass.proofs.cells.push_names_of_rows.Given as goal
 
 abbrev pub invariant-rows : goal.invariant-rows
