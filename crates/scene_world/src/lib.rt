@@ -5,8 +5,8 @@
 //! redo do to whole saved worlds. `worked_examples_hold` has those definitions compute short scripts.
 //!
 //! `World` keeps a table for each kind set; all growth comes before the first change, so that a refusal leaves
-//! the world as it was. Bodies stand here for all commands but the recursive despawn, whose
-//! definition waits for its own.
+//! the world as it was. `laws` says of all nine commands that an accepted one keeps a valid world valid and a refused
+//! one changes nothing.
 #![tactic(auto)]
 
 mod clones;
@@ -19,6 +19,8 @@ mod moves;
 mod tables;
 #[cfg(test)]
 mod tests;
+#[cfg(test)]
+mod tree_tests;
 mod world;
 
 pub use examples::worked_examples_hold;
