@@ -2,6 +2,7 @@
 use Rattle.std.proofs.Common.{◌≡◌, ℕ, ◌+◌, ◌<◌, ◌≤◌, Bool, true, false, ◌||◌, nat_eq, List, [], ◌∷◌, ◌++◌, length, refl, ap, subst, sym, ◌∙◌, arith, Option, Some, None, Ok, set, slice_get, slice_index, length-set, if◌then◌else◌}
 use Rattle.std.specs.Prelude.{Result, Err, is_some, ◌==◌}
 use Rattle.std.specs.List.{list_all, list_any}
+use Rattle.std.proofs.lemmas.Bool.{or_right}
 use Rattle.std.proofs.lemmas.Bool.Decides.{nat_tests}
 use Rattle.scene_kinds.specs.declared.entity.Entity.{Entity}
 use Rattle.scene_kinds.specs.declared.cell.Cell.{Cell}
@@ -25,7 +26,7 @@ use Rattle.scene_world.proofs.RowLists.{written_stays}
 use Rattle.scene_world.proofs.Rows.{each_removed, once_removed, removed_nowhere}
 use Rattle.scene_world.proofs.Lives.{lives, lives_removed, read, there, one_of, first_of_three, second_of_three, third_of_three, last_of_three}
 use Rattle.scene_world.proofs.SpawnKeeps.{slots_of}
-use Rattle.scene_world.proofs.TakenSlots.{any_pushed}
+use Rattle.scene_world.proofs.TakenSlots.{any_pushed, differ, or_false}
 
 -- what a release leaves, as a world sees it
 pub record IsReleased (s t : SlotState) (e : Entity) : Type 0 where
@@ -37,20 +38,6 @@ pub record IsReleased (s t : SlotState) (e : Entity) : Type 0 where
   -- the index is free now, or retired
   pub settled : (is_free t e.index || is_retired t e.index) ≡ true
 
-unequal : (a b : ℕ) → (a ≡ b → ⊥) → nat_eq a b ≡ false
-unequal a b ne = elim (nat_eq a b) as (λ r. nat_eq a b ≡ r → r ≡ false) [ true ↦ λ e. absurd (ne (test a b e)) | false ↦ λ e. refl ] refl
-  where
-    test : (a b : ℕ) → nat_eq a b ≡ true → a ≡ b
-    test a b e = grind (arith, nat_tests)
-
-or_false : (b : Bool) → (b || false) ≡ b
-or_false true = refl
-or_false false = refl
-
-or_true : (b : Bool) → (b || true) ≡ true
-or_true true = refl
-or_true false = refl
-
 pub released : (s : SlotState) (e : Entity) → IsSlots s → CanRelease s e → IsReleased s (release_of s e) e
 released s e v c =
     elim (retires e) as (λ b. retires e ≡ b → IsSlots (if b then s else freed s e) → IsReleased s (if b then s else freed s e) e) [
@@ -59,14 +46,14 @@ released s e v c =
         as_many = refl;
         kept = λ i g ne h. h;
         others = λ i ne. refl;
-        settled = ap (λ b. is_free s e.index || b) (ap (λ (g : ℕ). nat_eq g 4294967295) (read s.generations e.index e.generation c.current) ∙ r) ∙ or_true (is_free s e.index);
+        settled = ap (λ b. is_free s e.index || b) (ap (λ (g : ℕ). nat_eq g 4294967295) (read s.generations e.index e.generation c.current) ∙ r) ∙ or_right (is_free s e.index) true refl;
       }
       | false ↦ λ r sound. record {
         sound = sound;
         as_many = length-set s.generations e.index (e.generation + 1);
         kept = λ i g ne h. written_stays s.generations e.index (e.generation + 1) i g ne h;
-        others = λ i ne. any_pushed s.free e.index i ∙ ap (λ b. list_any (nat_eq i) s.free || b) (unequal i e.index ne) ∙ or_false (list_any (nat_eq i) s.free);
-        settled = ap (λ b. b || is_retired (freed s e) e.index) (any_pushed s.free e.index e.index ∙ ap (λ b. list_any (nat_eq e.index) s.free || b) (itself e.index) ∙ or_true (list_any (nat_eq e.index) s.free));
+        others = λ i ne. any_pushed s.free e.index i ∙ ap (λ b. list_any (nat_eq i) s.free || b) (differ i e.index ne) ∙ or_false (list_any (nat_eq i) s.free);
+        settled = ap (λ b. b || is_retired (freed s e) e.index) (any_pushed s.free e.index e.index ∙ ap (λ b. list_any (nat_eq e.index) s.free || b) (itself e.index) ∙ or_right (list_any (nat_eq e.index) s.free) true refl);
       }
     ] refl (IsSlots-release s e v c)
   where

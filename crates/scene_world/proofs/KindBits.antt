@@ -3,6 +3,7 @@ use Rattle.std.proofs.Common.{◌≡◌, ℕ, zero, suc, ◌+◌, ◌-◌, ◌*�
 use Rattle.std.specs.Prelude.{slice_get, slice_index_or, option_map, IsSome, is_some}
 use Rattle.std.specs.Option.{option_flatten}
 use Rattle.std.specs.List.{list_all}
+use Rattle.std.proofs.lemmas.Bool.{and_parts}
 use Rattle.std.proofs.lemmas.Bool.Decides.{nat_tests}
 use Rattle.std.proofs.lemmas.Nat.{one_shl}
 use Rattle.scene_kinds.specs.declared.cell.Cell.{Cell}
@@ -76,17 +77,13 @@ fits_known schema value kind h = elim (slice_get schema kind) as (λ o. slice_ge
 pub row_kinds_low : (schema : Kinds) (mask : ℕ) (row : Row) → IsRowOf schema mask row → length schema ≤ 64 → AreKindsBelow 64 row.cells
 row_kinds_low schema mask row fits l = low_kinds row.cells fits.shapes
   where
-    split : (a b : Bool) → (a && b) ≡ true → (a ≡ true) × (b ≡ true)
-    split true b h = (refl, h)
-    split false b h = absurd (let k : false ≡ true = h in cc)
-
     low : (k n : ℕ) → k < n → n ≤ 64 → nat_lt k 64 ≡ true
     low k n h l = grind (arith, nat_tests)
 
     low_kinds : (cells : List (ℕ × Cell)) → list_all (λ (c : ℕ × Cell). fits_kind schema c.1.value c.0) cells ≡ true → AreKindsBelow 64 cells
     low_kinds [] h = refl
     low_kinds (c ∷ cs) h =
-        let parts = split (fits_kind schema c.1.value c.0) _ h in
+        let parts = and_parts (fits_kind schema c.1.value c.0) _ h in
         ap (λ b. b && list_all (λ (c : ℕ × Cell). nat_lt c.0 64) cs) (low c.0 (length schema) (fits_known schema c.1.value c.0 parts.0) l) ∙ low_kinds cs parts.1
 
 -- an option that was mapped to another is there where that one is

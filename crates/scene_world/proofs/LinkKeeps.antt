@@ -1,6 +1,7 @@
 -- An accepted change of a parent keeps a valid world valid.
 use Rattle.std.proofs.Common.{◌≡◌, ℕ, true, false, ◌&&◌, subst, sym, Some, None, Ok}
 use Rattle.std.specs.Prelude.{Result, Err}
+use Rattle.std.proofs.lemmas.Bool.{and_parts}
 use Rattle.scene_kinds.specs.declared.entity.Entity.{Entity}
 use Rattle.scene_kinds.specs.declared.refusal.Refusal.{Refusal}
 use Rattle.scene_kinds.specs.Answers.{Answers}
@@ -13,7 +14,7 @@ use Rattle.scene_world.specs.Commands.{lifted, with_children}
 use Rattle.scene_world.specs.Valid.{IsValid}
 use Rattle.scene_world.specs.Laws.{SetParentKeeps, RemoveParentKeeps}
 use Rattle.scene_world.proofs.Outcomes.{not_ok, same_world}
-use Rattle.scene_world.proofs.Parts.{asked, allowed, both_pass, lifted_part, done_part}
+use Rattle.scene_world.proofs.Parts.{asked, allowed, lifted_part, done_part}
 
 -- other links keep a valid world valid, where they are a forest of live entities
 pub links_valid : (w : World) (f : Forest) → IsValid w → AllLinked (λ e. is_live w e ≡ true) f → IsForest f → IsValid (with_children w f)
@@ -69,7 +70,7 @@ unlinked_valid w c l g v made =
 pub set_parent_keeps : SetParentKeeps
 set_parent_keeps w v c p valid is =
     let live = allowed (is_live w c && is_live w p) _ _ (tt, v) is in
-    let both = both_pass (is_live w c) (is_live w p) live.0 in
+    let both = and_parts (is_live w c) (is_live w p) live.0 in
     let made = lifted_part (link_of w.children c p) (with_children w) tt v live.1 in
     subst IsValid made.1.1 (linked_valid w c p made.0 valid both.0 both.1 made.1.0)
 

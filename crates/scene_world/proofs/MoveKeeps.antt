@@ -3,6 +3,7 @@ use Rattle.std.proofs.Common.{◌≡◌, ℕ, ◌+◌, ◌<◌, ◌≤◌, Bool,
 use Rattle.std.specs.Prelude.{Result, Err, nat_le, is_some}
 use Rattle.std.specs.List.{list_all}
 use Rattle.std.specs.Ordering.{nat_cmp, eq_by_cmp}
+use Rattle.std.proofs.lemmas.Bool.{and_parts}
 use Rattle.std.proofs.lemmas.Bool.Decides.{nat_tests}
 use Rattle.scene_kinds.specs.declared.entity.Entity.{Entity}
 use Rattle.scene_kinds.specs.declared.cell.Cell.{Cell}
@@ -106,12 +107,8 @@ rewritten_keeps w h row new v at same fits timely = tables_valid w (with_row_at 
 -- ---- insert
 
 timely_there : (tick : ℕ) (c : Cell) (value : Value) → is_timely tick c ≡ true → is_timely tick (record { value = value; added = c.added; changed = tick }) ≡ true
-timely_there tick c value h = timely_now tick value c.added (within _ _ _ (parts _ _ h).0 (parts _ _ h).1)
+timely_there tick c value h = timely_now tick value c.added (within _ _ _ (and_parts _ _ h).0 (and_parts _ _ h).1)
   where
-    parts : (a b : Bool) → (a && b) ≡ true → (a ≡ true) × (b ≡ true)
-    parts true b h = (refl, h)
-    parts false b h = absurd (let k : false ≡ true = h in cc)
-
     within : (a b c : ℕ) → nat_le a b ≡ true → nat_le b c ≡ true → nat_le a c ≡ true
     within a b c h k = grind (arith, nat_tests)
 
@@ -120,13 +117,9 @@ found_passes : (p : Cell → Bool) (cells : List (ℕ × Cell)) (kind : ℕ) (c 
 found_passes p [] kind c all there = absurd (let k : None ≡ Some c = there in cc)
 found_passes p (e ∷ es) kind c all there =
     elim (eq_by_cmp nat_cmp kind e.0) as (λ b. (if b then Some e.1 else cell_of es kind) ≡ Some c → p c ≡ true) [
-      | true ↦ λ g. ap p (sym (let k : e.1 ≡ c = cc in k)) ∙ (split (p e.1) _ all).0
-      | false ↦ λ g. found_passes p es kind c (split (p e.1) _ all).1 g
+      | true ↦ λ g. ap p (sym (let k : e.1 ≡ c = cc in k)) ∙ (and_parts (p e.1) _ all).0
+      | false ↦ λ g. found_passes p es kind c (and_parts (p e.1) _ all).1 g
     ] there
-  where
-    split : (a b : Bool) → (a && b) ≡ true → (a ≡ true) × (b ≡ true)
-    split true b h = (refl, h)
-    split false b h = absurd (let k : false ≡ true = h in cc)
 
 -- the world that an insert leaves
 pub insert_made : (w : World) (h : Home) (row : Row) (kind : ℕ) (value : Value) (o : Option Cell) → cell_of row.cells kind ≡ o → IsValid w → row_at w.tables h ≡ Some row
@@ -192,12 +185,8 @@ later tick c h = timely_later c.added c.changed tick h
 all_later : (tick : ℕ) (cells : List (ℕ × Cell)) → list_all (λ (c : ℕ × Cell). is_timely tick c.1) cells ≡ true → list_all (λ (c : ℕ × Cell). is_timely (tick + 1) c.1) cells ≡ true
 all_later tick [] h = refl
 all_later tick (c ∷ cs) h =
-    let k = split (is_timely tick c.1) _ h in
+    let k = and_parts (is_timely tick c.1) _ h in
     ap (λ b. b && list_all (λ (c : ℕ × Cell). is_timely (tick + 1) c.1) cs) (later tick c.1 k.0) ∙ all_later tick cs k.1
-  where
-    split : (a b : Bool) → (a && b) ≡ true → (a ≡ true) × (b ≡ true)
-    split true b h = (refl, h)
-    split false b h = absurd (let k : false ≡ true = h in cc)
 
 -- a later tick keeps a world valid
 pub raised_valid : (w : World) → IsValid w → nat_eq w.tick highest_tick ≡ false → IsValid (record w { tick = w.tick + 1 })

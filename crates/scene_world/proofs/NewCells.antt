@@ -2,6 +2,7 @@
 use Rattle.std.proofs.Common.{◌≡◌, ℕ, ◌≤◌, length, nat_lt, Bool, true, false, not, ◌||◌, ◌&&◌, List, [], ◌∷◌, refl, ap, sym, ◌∙◌, arith, Option, Some, None, if◌then◌else◌}
 use Rattle.std.specs.Prelude.{nat_le}
 use Rattle.std.specs.List.{list_all, list_any}
+use Rattle.std.proofs.lemmas.Bool.{or_parts}
 use Rattle.std.proofs.lemmas.Bool.Decides.{nat_tests}
 use Rattle.scene_kinds.specs.declared.cell.Cell.{Cell}
 use Rattle.scene_kinds.specs.declared.value.Value.{Value}
@@ -18,10 +19,6 @@ pub new_ascending : (tick : ℕ) (cells : List (ℕ × Value)) → IsAscending (
 new_ascending tick [] = tt
 new_ascending tick (c ∷ cs) = ascending-with_cell (new_cells tick cs) c.0 (new_cell tick c.1) (new_ascending tick cs)
 
-neither : (a b : Bool) → (a || b) ≡ false → (a ≡ false) × (b ≡ false)
-neither true b h = absurd (let k : true ≡ false = h in cc)
-neither false b h = (refl, h)
-
 yes : (b : Bool) → not b ≡ false → b ≡ true
 yes true h = refl
 yes false h = absurd (let k : true ≡ false = h in cc)
@@ -30,7 +27,7 @@ pub new_shapes : (schema : Kinds) (tick : ℕ) (cells : List (ℕ × Value)) →
     → list_all (λ (c : ℕ × Cell). fits_kind schema c.1.value c.0) (new_cells tick cells) ≡ true
 new_shapes schema tick [] h = refl
 new_shapes schema tick (c ∷ cs) h =
-    let parts = neither (not (fits_kind schema c.1 c.0)) (list_any (λ (c : ℕ × Value). not (fits_kind schema c.1 c.0)) cs) h in
+    let parts = or_parts (not (fits_kind schema c.1 c.0)) (list_any (λ (c : ℕ × Value). not (fits_kind schema c.1 c.0)) cs) h in
     all-with_cell (λ (c : ℕ × Cell). fits_kind schema c.1.value c.0) (new_cells tick cs) c.0 (new_cell tick c.1) (new_shapes schema tick cs parts.1) (yes _ parts.0)
 
 -- a cell that is written now is timely
@@ -71,5 +68,5 @@ known_low schema kind h l = low kind (length schema) (yes (nat_lt kind (length s
 pub new_kinds_low : (schema : Kinds) (tick : ℕ) (cells : List (ℕ × Value)) → list_any (λ c. is_unknown schema c.0) cells ≡ false → length schema ≤ 64 → AreKindsBelow 64 (new_cells tick cells)
 new_kinds_low schema tick [] h l = refl
 new_kinds_low schema tick (c ∷ cs) h l =
-    let parts = neither (is_unknown schema c.0) (list_any (λ (c : ℕ × Value). is_unknown schema c.0) cs) h in
+    let parts = or_parts (is_unknown schema c.0) (list_any (λ (c : ℕ × Value). is_unknown schema c.0) cs) h in
     all-with_cell (λ (c : ℕ × Cell). nat_lt c.0 64) (new_cells tick cs) c.0 (new_cell tick c.1) (new_kinds_low schema tick cs parts.1 l) (known_low schema c.0 parts.0 l)

@@ -26,8 +26,3 @@ lifted_part (Err r) into a v h = absurd (not_ok (a, v) r h)
 pub done_part : {A W : Type 0} (o : Outcome A W) (v : W) → done o ≡ Ok (tt, v) → (a : A) × (o ≡ Ok (a, v))
 done_part (Ok p) v h = (p.0, λ i. Ok (p.0, (same_world tt tt p.1 v h).1 i))
 done_part (Err r) v h = absurd (not_ok (tt, v) r h)
-
--- both of two tests passed
-pub both_pass : (a b : Bool) → (a && b) ≡ true → (a ≡ true) × (b ≡ true)
-both_pass true b h = (refl, h)
-both_pass false b h = absurd (let k : false ≡ true = h in cc)

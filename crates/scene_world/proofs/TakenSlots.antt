@@ -1,6 +1,7 @@
 -- What a take of a slot leaves, as a world sees it.
 use Rattle.std.proofs.Common.{◌≡◌, ℕ, zero, suc, ◌+◌, ◌<◌, ◌≤◌, Bool, true, false, ◌||◌, nat_eq, List, [], ◌∷◌, ◌++◌, length, refl, ap, subst, sym, ◌∙◌, arith, Option, Some, None, Ok, length-append, slice_get, slice_index, ◌⊎◌, inl, inr}
 use Rattle.std.specs.List.{list_any}
+use Rattle.std.proofs.lemmas.Bool.{or_parts, or_right}
 use Rattle.std.proofs.lemmas.Bool.Decides.{nat_tests}
 use Rattle.scene_kinds.specs.declared.entity.Entity.{Entity}
 use Rattle.scene_alloc.specs.Ends.{last, front}
@@ -23,30 +24,22 @@ pub record IsTaken (s t : SlotState) (e : Entity) : Type 0 where
   -- the entity's index was free, or no slot yet
   pub unused : (is_free s e.index ≡ true) ⊎ (slice_get s.generations e.index ≡ None)
 
+pub or_false : (b : Bool) → (b || false) ≡ b
+or_false true = refl
+or_false false = refl
+
 -- a number among a list with one more
 pub any_pushed : (xs : List ℕ) (x i : ℕ) → list_any (nat_eq i) (xs ++ x ∷ []) ≡ (list_any (nat_eq i) xs || nat_eq i x)
 any_pushed [] x i = or_false (nat_eq i x)
-  where
-    or_false : (b : Bool) → (b || false) ≡ b
-    or_false true = refl
-    or_false false = refl
 any_pushed (y ∷ ys) x i = ap (λ b. nat_eq i y || b) (any_pushed ys x i) ∙ assoc (nat_eq i y) (list_any (nat_eq i) ys) (nat_eq i x)
   where
     assoc : (a b c : Bool) → (a || (b || c)) ≡ ((a || b) || c)
     assoc true b c = refl
     assoc false b c = refl
 
-not_or : (a b : Bool) → (a || b) ≡ false → a ≡ false
-not_or true b h = h
-not_or false b h = refl
-
 or_else : (a b : Bool) → (a || b) ≡ true → b ≡ false → a ≡ true
 or_else true b h e = refl
 or_else false b h e = absurd (let k : true ≡ false = sym h ∙ e in cc)
-
-or_right : (a : Bool) → (a || true) ≡ true
-or_right true = refl
-or_right false = refl
 
 same_itself : (i : ℕ) → nat_eq i i ≡ true
 same_itself i = grind (arith, nat_tests)
@@ -76,9 +69,9 @@ taken s t e v h =
     (λ i q. (
       (λ k g f. f),
       (λ k l ne. l),
-      (λ k f. not_or (list_any (nat_eq k) (front s.free)) (nat_eq k i) (sym (free_before s i k q) ∙ f)),
+      (λ k f. (or_parts (list_any (nat_eq k) (front s.free)) (nat_eq k i) (sym (free_before s i k q) ∙ f)).0),
       (λ k ne f. or_else (list_any (nat_eq k) (front s.free)) (nat_eq k i) (sym (free_before s i k q) ∙ f) (differ k i ne)),
-      inl (free_before s i i q ∙ ap (λ b. list_any (nat_eq i) (front s.free) || b) (same_itself i) ∙ or_right (list_any (nat_eq i) (front s.free))),
+      inl (free_before s i i q ∙ ap (λ b. list_any (nat_eq i) (front s.free) || b) (same_itself i) ∙ or_right (list_any (nat_eq i) (front s.free)) true refl),
     ))
     (λ none l. (
       (λ k g f. pushed_stays s.generations 1 k g f),
