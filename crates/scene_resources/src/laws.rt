@@ -1,6 +1,7 @@
 //! What users of resources rely on, as contracts of functions without a body.
 ghost use Rattle.std.specs.Ordering.{eq_by_cmp};
-ghost use Rattle.std.specs.Prelude.{◌≡◌, ℕ, Option, Some, None, Ok, List, [], ◌∷◌, codes, cond};
+ghost use Rattle.std.specs.List.Sorted.{IsStrictlySortedBy};
+ghost use Rattle.std.specs.Prelude.{◌≡◌, ◌↔◌, ℕ, Option, Some, None, Ok, List, [], ◌∷◌, Contains, IsSome, codes, cond, map as each};
 ghost use Rattle.scene_kinds.specs.Answers.{refuse};
 ghost use Rattle.scene_kinds.specs.declared.fault.Fault.TheVariants.{NoSuchResource};
 ghost use Rattle.scene_kinds.specs.Map as map;
@@ -33,4 +34,12 @@ pub fn restored_comes_back()
         → restore_of (put_of r name value tick) name (cell_of r name) ≡ r }
     ensures taken { (r s : NamedCells) (name : List ℕ) (cell : Cell)
         → take_of r name ≡ Ok (cell, s) → restore_of s name (Some cell) ≡ r }
+{}
+
+/// The names: each is below those after it, by their bytes; a name is among them just where it has a cell; and
+/// the cells of the names, one after another, are all cells.
+pub fn names_are_whole()
+    ensures ascending { (r : NamedCells) → IsStrictlySortedBy name_cmp (names_of r) }
+    ensures whole { (r : NamedCells) (name : List ℕ) → Contains (names_of r) name ↔ IsSome (cell_of r name) }
+    ensures cells { (r : NamedCells) → each (λ name. cell_of r name) (names_of r) ≡ each (λ e. Some e.1) r.entries }
 {}

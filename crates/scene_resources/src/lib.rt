@@ -5,7 +5,14 @@
 //!
 //! A put keeps the tick at which a cell was added, and sets the tick at which it was changed; the new value may
 //! have another shape. The cell that a put or a take found there, given back by a restore, brings back the
-//! resources from before: that is what `laws` says, beside the calls.
+//! resources from before.
+//!
+//! Of the calls that change resources, only one that adds a name takes memory, and where none is found the
+//! resources are as they were. A call on a name costs a search, by the logarithm of how many names there are.
+//!
+//! `laws` has what users rely on beside the calls: that cells which are given back bring back the resources from
+//! before, and that the names ascend and are whole, so that asking `get` for each one that `names` gives meets
+//! every cell once.
 #![tactic(auto)]
 
 mod laws;
@@ -13,5 +20,5 @@ mod resources;
 #[cfg(test)]
 mod tests;
 
-pub use laws::{restored_comes_back, worked_resources};
+pub use laws::{names_are_whole, restored_comes_back, worked_resources};
 pub use resources::Resources;

@@ -1,5 +1,5 @@
 //! Resources: cells by name.
-ghost use Rattle.std.specs.Prelude.{◌≡◌, ◌↔◌, IfOk, OnOk, OnErr, IsOk, IsSome, IsTrue, Some, None, option_copied};
+ghost use Rattle.std.specs.Prelude.{◌≡◌, ◌↔◌, IfOk, OnOk, OnErr, IsOk, IsSome, IsTrue, Some, None, map as each, option_copied, string_bytes};
 ghost use Rattle.scene_kinds.specs.Answers.{Gives};
 ghost use Rattle.scene_kinds.specs.Map as map;
 ghost use Rattle.scene_resources.specs.Resources.{cell_of, names_of, put_of, take_of, restore_of};
@@ -57,6 +57,17 @@ impl Resources {
         self.cells.get(name)
     }
 
+    /// The names, ascending by their bytes, or an error where no memory was found. It costs a copy of each name.
+    pub fn names(&self) -> Result<Vec<String>, AllocError>
+        ensures { IfOk result (λ names. each (λ name. string_bytes name) names.items ≡ names_of self.now) }
+    {
+        let mut names = Vec::new(self.alloc);
+        for name in self.cells.keys() {
+            names.push(name.clone()?)?;
+        }
+        Ok(names)
+    }
+
     /// Puts a cell at a name, and answers the one that stood there.
     fn set(&mut self, name: &str, cell: Cell) -> Result<Option<Cell>, AllocError>
         ensures old { IfOk result (λ old. old ≡ cell_of self.old name.now) }
@@ -73,12 +84,13 @@ impl Resources {
         }
     }
 
-    /// Puts a value at a name at a tick, and answers the cell that stood there (docs/MODEL.md, "The rule of
-    /// resources"): where one did, it keeps the tick at which it was added, and the value may have another shape.
-    /// Any text will do as a name; which names are good is the caller's to ask.
+    /// Puts a value at a name, at a tick, and answers the cell that stood there (docs/MODEL.md, "The rule of
+    /// resources"). A new name gets a cell of that tick; a name that is there keeps the tick at which it was added
+    /// and gets this one as that of its change, and the value may have another shape. Any text will do as a name:
+    /// which names are good is for the caller to ask.
     ///
-    /// An error only where there was no resource of that name and no memory was found: then the resources are as
-    /// they were, and the value is dropped. A put over a cell that is there takes no memory.
+    /// An error only where the name is new and no memory was found: then the resources are as they were, and the
+    /// value is dropped. A put at a name that is there writes in place and takes no memory.
     pub fn put(&mut self, name: &str, value: Value, tick: u64) -> Result<Option<Cell>, AllocError>
         ensures old { IfOk result (λ old. old ≡ cell_of self.old name.now) }
         ensures done { OnOk result (self.new ≡ put_of self.old name.now value tick) }
@@ -112,11 +124,12 @@ impl Resources {
         Ok(cell)
     }
 
-    /// Gives a name the cell that it is to have, or takes its resource away where that is `None`. With the cell
-    /// that a `put` answered, or that a `take` did, the resources are as they were before that call.
+    /// Gives a name this very cell, ticks and all, or takes its resource away where that is `None`. What a `put`
+    /// or a `take` answered, given back so, brings back the resources from before that call (`restored_comes_back`).
     ///
-    /// An error only where there is a cell to put, no resource of that name, and no memory was found: then the
-    /// resources are as they were, and the cell is dropped. In all other cases it takes no memory.
+    /// An error only where there is a cell to give, the name isn't there, and no memory was found: then the
+    /// resources are as they were, and the cell is dropped. A cell for a name that is there takes no memory, and
+    /// neither does `None`.
     pub fn restore(&mut self, name: &str, cell: Option<Cell>) -> Result<(), AllocError>
         ensures done { OnOk result (self.new ≡ restore_of self.old name.now cell) }
         ensures full { OnErr result (self.new ≡ self.old) }
