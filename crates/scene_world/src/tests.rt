@@ -145,6 +145,15 @@ fn play(rt: &impl Abort, alloc: Global, world: &mut World, line: &Line<'_>) -> R
     Ok(())
 }
 
+/// Plays lines on a new world of at most 4 slots.
+fn play_all(rt: &impl Abort, alloc: Global, script: &[Line<'_>]) -> Result<(), Fail> {
+    let mut world = World::new(alloc, kinds(alloc)?, 4);
+    for line in script {
+        play(rt, alloc, &mut world, line)?;
+    }
+    Ok(())
+}
+
 #[test]
 fn refused_spawns_leave_the_world(rt: HostRuntime) -> Result<(), Fail> {
     use Command::Spawn;
@@ -184,9 +193,9 @@ fn refused_spawns_leave_the_world(rt: HostRuntime) -> Result<(), Fail> {
 
 #[test]
 fn rows_move_with_their_ticks(rt: HostRuntime) -> Result<(), Fail> {
-    use Command::{Despawn, Insert, RaiseTick, Remove, Spawn};
-    use Given::{Number, Tag, Text};
-    let script: [Line<'_>; 14] = [
+    use Command::{Insert, RaiseTick, Remove, Spawn};
+    use Given::{Number, Text};
+    let script: [Line<'_>; 6] = [
         (
             Spawn(&[(0, Number(10))]),
             Ok(Some(OLD)),
@@ -217,28 +226,39 @@ fn rows_move_with_their_ticks(rt: HostRuntime) -> Result<(), Fail> {
             Ok(None),
             "1 [1, 1] [] | 1: (1v1 0:11@0/0) | 4: (0v1 2:left@1/1)",
         ),
+    ];
+    play_all(&rt, rt.alloc(), &script)
+}
+
+#[test]
+fn refused_moves_leave_the_row(rt: HostRuntime) -> Result<(), Fail> {
+    use Command::{Despawn, Insert, Remove, Spawn};
+    use Given::{Number, Tag, Text};
+    let script: [Line<'_>; 10] = [
+        (Spawn(&[]), Ok(Some(OLD)), "0 [1] [] | 0: (0v1)"),
+        (
+            Insert(OLD, 2, Text("left")),
+            Ok(None),
+            "0 [1] [] | 4: (0v1 2:left@0/0)",
+        ),
         (Remove(OLD, 0), Err(Fault::NotPresent), ""),
         (Remove(OLD, 3), Err(Fault::NoSuchKind), ""),
         (Insert(OLD, 0, Tag), Err(Fault::WrongShape), ""),
         (
             Insert(OLD, 0, Number(12)),
             Ok(None),
-            "1 [1, 1] [] | 1: (1v1 0:11@0/0) | 5: (0v1 0:12@1/1 2:left@1/1)",
+            "0 [1] [] | 5: (0v1 0:12@0/0 2:left@0/0)",
         ),
-        (Despawn(OLD), Ok(None), "1 [2, 1] [0] | 1: (1v1 0:11@0/0)"),
+        (Despawn(OLD), Ok(None), "0 [2] [0]"),
         (Despawn(OLD), Err(Fault::NoSuchEntity), ""),
         (
             Spawn(&[(1, Tag), (0, Number(13))]),
             Ok(Some(NEW)),
-            "1 [2, 1] [] | 1: (1v1 0:11@0/0) | 3: (0v2 0:13@1/1 1:tag@1/1)",
+            "0 [2] [] | 3: (0v2 0:13@0/0 1:tag@0/0)",
         ),
         (Insert(OLD, 5, Tag), Err(Fault::NoSuchEntity), ""),
     ];
-    let mut world = World::new(rt.alloc(), kinds(rt.alloc())?, 4);
-    for line in &script {
-        play(&rt, rt.alloc(), &mut world, line)?;
-    }
-    Ok(())
+    play_all(&rt, rt.alloc(), &script)
 }
 
 /// The number that a cell holds, with its ticks.
