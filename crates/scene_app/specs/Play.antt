@@ -12,13 +12,13 @@ use Rattle.scene_kinds.specs.Entity.{entity_text}
 use Rattle.scene_kinds.specs.Fault.{refusal_text}
 use Rattle.scene_kinds.specs.Schema.{Kinds, with_kind}
 use Rattle.scene_world.specs.World.{World, new_world, row_of}
-use Rattle.scene_world.specs.Commands.{and_then, raise_tick, spawn, despawn, insert, remove}
+use Rattle.scene_world.specs.Commands.{and_then, raise_tick, spawn, despawn, despawn_recursive, insert, remove, set_parent, remove_parent}
 use Rattle.scene_world.specs.Machine.{Machine, opening, submitted, undo, redo}
 use Rattle.scene_kinds.specs.declared.cells.Row.{Row}
 use Rattle.scene_app.specs.declared.target.TargetWord.{TargetWord}
 use Rattle.scene_app.specs.declared.target.TargetWord.TheVariants as target
 use Rattle.scene_app.specs.declared.command.Command.{Command}
-use Rattle.scene_app.specs.declared.command.Command.TheVariants.{Spawn, Insert, Despawn, Remove}
+use Rattle.scene_app.specs.declared.command.Command.TheVariants.{Spawn, Insert, Despawn, Remove, SetParent, RemoveParent, DespawnAll}
 use Rattle.scene_app.specs.declared.script_line.Line.{Line}
 use Rattle.scene_app.specs.declared.script_line.Line.TheVariants.{Empty, Bad, Kind, Slots, Do, Undo, Redo, Show, Get}
 use Rattle.scene_app.specs.Printed.{row_text}
@@ -45,11 +45,19 @@ abbrev pub on_entity : {A : Type 0} → Result Entity Refusal → (Entity → Ou
 on_entity (Ok e) command = spawned_none (command e)
 on_entity (Err r) command = Err r
 
+-- a command of two targets; the first is looked at first
+abbrev pub on_both : {A : Type 0} → (first second : Result Entity Refusal) → (Entity → Entity → Outcome A World) → Outcome (Option Entity) World
+on_both (Ok e) second command = on_entity second (command e)
+on_both (Err r) second command = Err r
+
 abbrev pub done : Command → World → Outcome (Option Entity) World
 done (Spawn cells) w = spawned_one (spawn w cells)
 done (Insert t kind value) w = on_entity (target_of t) (λ e. insert w e kind value)
 done (Despawn t) w = on_entity (target_of t) (despawn w)
 done (Remove t kind) w = on_entity (target_of t) (λ e. remove w e kind)
+done (SetParent child parent) w = on_both (target_of child) (target_of parent) (set_parent w)
+done (RemoveParent child) w = on_entity (target_of child) (remove_parent w)
+done (DespawnAll t) w = on_entity (target_of t) (despawn_recursive w)
 
 -- the only place in a frame of one command
 abbrev pub first_place : Place

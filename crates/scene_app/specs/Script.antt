@@ -7,7 +7,7 @@ use Rattle.scene_kinds.specs.declared.shape.Shape.{Shape}
 use Rattle.scene_kinds.specs.Schema.{Kinds, number_of}
 use Rattle.scene_app.specs.declared.target.TargetWord.{TargetWord}
 use Rattle.scene_app.specs.declared.command.Command.{Command}
-use Rattle.scene_app.specs.declared.command.Command.TheVariants.{Spawn, Insert, Despawn, Remove}
+use Rattle.scene_app.specs.declared.command.Command.TheVariants.{Spawn, Insert, Despawn, Remove, SetParent, RemoveParent, DespawnAll}
 use Rattle.scene_app.specs.declared.script_line.Line.{Line}
 use Rattle.scene_app.specs.declared.script_line.Line.TheVariants.{Empty, Bad, Kind, Slots, Do, Undo, Redo, Show, Get}
 use Rattle.scene_app.specs.Cells.{shape_in, cell_in, target_in}
@@ -50,15 +50,32 @@ abbrev pub insert_line : Kinds → List (List ℕ) → Line
 insert_line kinds (target ∷ cell ∷ []) = or_bad (option_and_then (λ t. option_map (inserted t) (cell_in kinds cell)) (target_in target))
 insert_line kinds words = Bad
 
+-- the target that is the only word
+abbrev pub lone_target : List (List ℕ) → Option TargetWord
+lone_target (word ∷ []) = target_in word
+lone_target words = None
+
 -- `despawn T`
 abbrev pub despawn_line : List (List ℕ) → Line
-despawn_line (target ∷ []) = or_bad (option_map (λ t. Do (Despawn t)) (target_in target))
-despawn_line words = Bad
+despawn_line words = or_bad (option_map (λ t. Do (Despawn t)) (lone_target words))
 
 -- `remove T NAME`
 abbrev pub remove_line : Kinds → List (List ℕ) → Line
 remove_line kinds (target ∷ name ∷ []) = or_bad (option_and_then (λ t. option_map (λ k. Do (Remove t k)) (number_of kinds name)) (target_in target))
 remove_line kinds words = Bad
+
+-- `parent T T`, the child and then its parent
+abbrev pub parent_line : List (List ℕ) → Line
+parent_line (child ∷ parent ∷ []) = or_bad (option_and_then (λ c. option_map (λ p. Do (SetParent c p)) (target_in parent)) (target_in child))
+parent_line words = Bad
+
+-- `unparent T`
+abbrev pub unparent_line : List (List ℕ) → Line
+unparent_line words = or_bad (option_map (λ t. Do (RemoveParent t)) (lone_target words))
+
+-- `despawnall T`
+abbrev pub despawnall_line : List (List ℕ) → Line
+despawnall_line words = or_bad (option_map (λ t. Do (DespawnAll t)) (lone_target words))
 
 -- `get T`, T an entity text
 abbrev pub get_line : List (List ℕ) → Line
@@ -79,6 +96,9 @@ named_line kinds first rest =
     else if bytes_eq first (codes "insert") then insert_line kinds rest
     else if bytes_eq first (codes "despawn") then despawn_line rest
     else if bytes_eq first (codes "remove") then remove_line kinds rest
+    else if bytes_eq first (codes "parent") then parent_line rest
+    else if bytes_eq first (codes "unparent") then unparent_line rest
+    else if bytes_eq first (codes "despawnall") then despawnall_line rest
     else if bytes_eq first (codes "undo") then lone Undo rest
     else if bytes_eq first (codes "redo") then lone Redo rest
     else if bytes_eq first (codes "show") then lone Show rest

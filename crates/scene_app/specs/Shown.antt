@@ -1,7 +1,10 @@
 -- How a world prints.
 use Rattle.std.specs.Prelude.{ℕ, ◌+◌, ◌/◌, ◌%◌, ◌^◌, List, [], ◌∷◌, ◌++◌, Bool, Option, Some, None, if◌then◌else◌, nat_eq, codes, decimal}
 use Rattle.scene_kinds.specs.declared.cells.Row.{Row}
+use Rattle.scene_kinds.specs.declared.entity.Entity.{Entity}
+use Rattle.scene_kinds.specs.Entity.{entity_text}
 use Rattle.scene_kinds.specs.Schema.{Kinds, name_of}
+use Rattle.scene_links.specs.Forest.{Forest, children_of, parents}
 use Rattle.scene_world.specs.World.{World, kind_sets, rows_at}
 use Rattle.scene_app.specs.Printed.{row_text}
 
@@ -52,9 +55,27 @@ abbrev pub tables_text : World → List ℕ → List ℕ
 tables_text w [] = []
 tables_text w (mask ∷ masks) = table_text w.schema mask (rows_at w.tables mask) ++ tables_text w masks
 
--- the tick, the generations, the free list and the tables of the kind sets with rows, ascending; no line of this stage makes
--- links or resources
-abbrev pub show_text : World → List ℕ
-show_text w =
+-- entities, each after a space (32)
+abbrev pub entities_text : List Entity → List ℕ
+entities_text [] = []
+entities_text (e ∷ es) = 32 ∷ (entity_text e.index e.generation ++ entities_text es)
+
+-- a parent, and its children in their order
+abbrev pub link_text : Forest → Entity → List ℕ
+link_text forest parent = codes "link" ++ (entities_text (parent ∷ children_of forest parent) ++ codes "\n")
+
+-- the links of parents, a line each
+abbrev pub links_text : Forest → List Entity → List ℕ
+links_text forest [] = []
+links_text forest (p ∷ ps) = link_text forest p ++ links_text forest ps
+
+-- the tick, the generations and the free list, a line each
+abbrev pub head_text : World → List ℕ
+head_text w =
     codes "tick " ++ (decimal w.tick ++ (codes "\ngens" ++ (numbers_text w.slots.generations
-    ++ (codes "\nfree" ++ (numbers_text w.slots.free ++ (codes "\n" ++ tables_text w (kind_sets w)))))))
+    ++ (codes "\nfree" ++ (numbers_text w.slots.free ++ codes "\n")))))
+
+-- then the tables of the kind sets with rows, ascending, and the links of the entities with children, by index; no line of
+-- this stage makes resources
+abbrev pub show_text : World → List ℕ
+show_text w = head_text w ++ (tables_text w (kind_sets w) ++ links_text w.children (parents w.children))

@@ -44,4 +44,9 @@ pub enum Command {
     Insert(TargetWord, u8, Value),
     Despawn(TargetWord),
     Remove(TargetWord, u8),
+    /// The child, and then its parent.
+    SetParent(TargetWord, TargetWord),
+    RemoveParent(TargetWord),
+    /// A recursive despawn.
+    DespawnAll(TargetWord),
 }

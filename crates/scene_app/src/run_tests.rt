@@ -112,6 +112,41 @@ fn rows_and_free_list_come_back_at_undo(rt: HostRuntime) -> Result<(), Fail> {
 }
 
 #[test]
+fn links_are_shown_and_come_back_at_undo(rt: HostRuntime) -> Result<(), Fail> {
+    let alloc = rt.alloc();
+    let cases = [
+        (
+            "spawn\nspawn\nspawn\nparent 1v1 0v1\nparent 2v1 0v1\nparent 1v1 0v1\nshow\nundo\nshow\n",
+            "done 0v1\ndone 1v1\ndone 2v1\ndone\ndone\ndone\n\
+             tick 6\ngens 1 1 1\nfree\ntable -\nrow 0v1\nrow 1v1\nrow 2v1\nlink 0v1 2v1 1v1\n\
+             undone\n\
+             tick 5\ngens 1 1 1\nfree\ntable -\nrow 0v1\nrow 1v1\nrow 2v1\nlink 0v1 1v1 2v1\n",
+        ),
+        (
+            "spawn\nspawn\nspawn\nspawn\nparent 1v1 0v1\nparent 2v1 1v1\nparent 3v1 0v1\nshow\n\
+             despawnall 0v1\nshow\nundo\nget 2v1\ndespawnall 1v1\nshow\n",
+            "done 0v1\ndone 1v1\ndone 2v1\ndone 3v1\ndone\ndone\ndone\n\
+             tick 7\ngens 1 1 1 1\nfree\ntable -\nrow 0v1\nrow 1v1\nrow 2v1\nrow 3v1\n\
+             link 0v1 1v1 3v1\nlink 1v1 2v1\n\
+             done\ntick 8\ngens 2 2 2 2\nfree 2 1 3 0\nundone\nrow 2v1\n\
+             done\ntick 8\ngens 1 2 2 1\nfree 2 1\ntable -\nrow 0v1\nrow 3v1\nlink 0v1 3v1\n",
+        ),
+        (
+            "spawn\nspawn\nparent 1v1 0v1\nunparent 1v1\nshow\nundo\ndespawn 1v1\nshow\n",
+            "done 0v1\ndone 1v1\ndone\ndone\ntick 4\ngens 1 1\nfree\ntable -\nrow 0v1\nrow 1v1\n\
+             undone\ndone\ntick 4\ngens 1 2\nfree 1\ntable -\nrow 0v1\n",
+        ),
+    ];
+    for (script, output) in cases {
+        let mut out = String::new(alloc);
+        let bad = play_script(alloc, script.as_bytes(), &mut out)?;
+        assert_eq!(rt; out.as_str(), output, "{script}");
+        assert_eq!(rt; bad, 0, "{script}");
+    }
+    Ok(())
+}
+
+#[test]
 fn a_failed_read_writes_nothing(rt: HostRuntime) -> Result<(), Fail> {
     let alloc = rt.alloc();
     for fails_at in 1..=8 {
@@ -307,6 +342,24 @@ fn refusals_are_printed_and_change_nothing(rt: HostRuntime) -> Result<(), Fail> 
              tick 1\ngens 1\nfree\ntable -\nrow 0v1\n",
             0,
         ),
+        (
+            "spawn\nspawn\nparent 0v1 0v1\nparent 1v1 0v1\nparent 0v1 1v1\ndespawn 0v1\nunparent 0v1\nget 1v1\n",
+            "done 0v1\ndone 1v1\nrefused 7 SelfParent at 0.0.0\ndone\nrefused 8 Cycle at 0.0.0\n\
+             refused 2 HasChildren at 0.0.0\nrefused 9 NoParent at 0.0.0\nrow 1v1\n",
+            0,
+        ),
+        (
+            "spawn\nparent 5v1 0v1\nparent 0v1 5v1\nunparent 5v1\ndespawnall 5v1\n",
+            "done 0v1\nrefused 1 NoSuchEntity at 0.0.0\nrefused 1 NoSuchEntity at 0.0.0\n\
+             refused 1 NoSuchEntity at 0.0.0\nrefused 1 NoSuchEntity at 0.0.0\n",
+            0,
+        ),
+        (
+            "parent +0 5v1\nparent 5v1 +0\nunparent +0\ndespawnall +0\n",
+            "refused 12 BadLocal at 0.0.0\nrefused 12 BadLocal at 0.0.0\n\
+             refused 12 BadLocal at 0.0.0\nrefused 12 BadLocal at 0.0.0\n",
+            0,
+        ),
     ];
     for (script, output, lines) in cases {
         let mut out = String::new(alloc);
@@ -339,6 +392,14 @@ fn lines_of_no_form_are_bad(rt: HostRuntime) -> Result<(), Fail> {
         "remove 0v1",
         "remove 0v1 A=1",
         "remove 0v1 B",
+        "parent 0v1",
+        "parent 0v1 x",
+        "parent 0v1 1v1 2v1",
+        "unparent",
+        "unparent 0v1 1v1",
+        "despawnall",
+        "despawnall A",
+        "despawnall 0v1 1v1",
         "kind B",
         "kind B Float",
         "kind B Int Int",

@@ -50,24 +50,20 @@ fn do_command(world: &mut World, command: Command) -> Result<Option<Entity>, Ref
     match command {
         Command::Spawn(cells) => {
             let entity = world.spawn(cells.into_vec())?;
-            Ok(Some(entity))
+            return Ok(Some(entity));
         }
-        Command::Insert(target, kind, value) => {
-            let entity = entity_of(target)?;
-            world.insert(entity, kind, value)?;
-            Ok(None)
-        }
-        Command::Despawn(target) => {
-            let entity = entity_of(target)?;
-            world.despawn(entity)?;
-            Ok(None)
-        }
+        Command::Insert(target, kind, value) => world.insert(entity_of(target)?, kind, value)?,
+        Command::Despawn(target) => world.despawn(entity_of(target)?)?,
         Command::Remove(target, kind) => {
-            let entity = entity_of(target)?;
-            let _value = world.remove(entity, kind)?;
-            Ok(None)
+            world.remove(entity_of(target)?, kind)?;
         }
+        Command::SetParent(child, parent) => {
+            world.set_parent(entity_of(child)?, entity_of(parent)?)?
+        }
+        Command::RemoveParent(child) => world.remove_parent(entity_of(child)?)?,
+        Command::DespawnAll(target) => world.despawn_recursive(entity_of(target)?)?,
     }
+    Ok(None)
 }
 
 /// A refusal with its place in a frame of one command. Want of memory has none.

@@ -1,12 +1,12 @@
 //! What a line of a script says.
 ghost use Rattle.std.specs.Prelude.{◌≡◌, IfOk, map};
-ghost use Rattle.scene_app.specs.Script.{line_in, line_of_words, named_line, kind_line, slots_line, cells_in, spawn_line, insert_line, despawn_line, remove_line, get_line, lone};
+ghost use Rattle.scene_app.specs.Script.{line_in, line_of_words, named_line, kind_line, slots_line, cells_in, spawn_line, insert_line, lone_target, despawn_line, remove_line, parent_line, unparent_line, despawnall_line, get_line, lone};
 
 use crate::cell_word::{read_cell, read_shape};
 use crate::command::{Command, Given};
 use crate::number::{read_count, read_entity};
 use crate::slot_limit::SlotLimit;
-use crate::target::read_target;
+use crate::target::{TargetWord, read_target};
 use crate::word::words;
 use scene_kinds::{Entity, Schema, Shape, Text};
 use std::alloc::{AllocError, Global};
@@ -99,14 +99,21 @@ fn insert_line(alloc: Global, schema: &Schema, rest: &[&str]) -> Result<Line, Al
     }
 }
 
+/// The target that is the only word.
+fn lone_target(rest: &[&str]) -> Option<TargetWord>
+    ensures { result ≡ lone_target (map (λ w. w.now) rest.now) }
+{
+    match rest {
+        [word] => read_target(word),
+        _ => None,
+    }
+}
+
 /// `despawn T`.
 fn despawn_line(rest: &[&str]) -> Line
     ensures { result ≡ despawn_line (map (λ w. w.now) rest.now) }
 {
-    let [target] = rest else {
-        return Line::Bad;
-    };
-    match read_target(target) {
+    match lone_target(rest) {
         None => Line::Bad,
         Some(target) => Line::Do(Command::Despawn(target)),
     }
@@ -125,6 +132,42 @@ fn remove_line(schema: &Schema, rest: &[&str]) -> Line
     match schema.number_of(name) {
         None => Line::Bad,
         Some(kind) => Line::Do(Command::Remove(target, kind)),
+    }
+}
+
+/// `parent T T`, the child and then its parent.
+fn parent_line(rest: &[&str]) -> Line
+    ensures { result ≡ parent_line (map (λ w. w.now) rest.now) }
+{
+    let [child, parent] = rest else {
+        return Line::Bad;
+    };
+    let Some(child) = read_target(child) else {
+        return Line::Bad;
+    };
+    match read_target(parent) {
+        None => Line::Bad,
+        Some(parent) => Line::Do(Command::SetParent(child, parent)),
+    }
+}
+
+/// `unparent T`.
+fn unparent_line(rest: &[&str]) -> Line
+    ensures { result ≡ unparent_line (map (λ w. w.now) rest.now) }
+{
+    match lone_target(rest) {
+        None => Line::Bad,
+        Some(child) => Line::Do(Command::RemoveParent(child)),
+    }
+}
+
+/// `despawnall T`.
+fn despawnall_line(rest: &[&str]) -> Line
+    ensures { result ≡ despawnall_line (map (λ w. w.now) rest.now) }
+{
+    match lone_target(rest) {
+        None => Line::Bad,
+        Some(target) => Line::Do(Command::DespawnAll(target)),
     }
 }
 
@@ -164,6 +207,9 @@ fn named_line(
         "insert" => insert_line(alloc, schema, rest),
         "despawn" => Ok(despawn_line(rest)),
         "remove" => Ok(remove_line(schema, rest)),
+        "parent" => Ok(parent_line(rest)),
+        "unparent" => Ok(unparent_line(rest)),
+        "despawnall" => Ok(despawnall_line(rest)),
         "undo" => Ok(lone(Line::Undo, rest)),
         "redo" => Ok(lone(Line::Redo, rest)),
         "show" => Ok(lone(Line::Show, rest)),

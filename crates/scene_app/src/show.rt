@@ -1,10 +1,12 @@
 //! The printed text of a whole world.
 ghost use Rattle.std.specs.Prelude.{◌≡◌, ◌++◌, ◌<◌, OnOk, IfOk, map, string_bytes, option_map};
-ghost use Rattle.scene_world.specs.World.{rows_at, row_of};
-ghost use Rattle.scene_app.specs.Shown.{numbers_text, has_kind, name_in, one_name, names_from, more_names, names_text, rows_text, table_text, tables_text, show_text};
+ghost use Rattle.scene_world.specs.World.{kind_sets, rows_at, row_of};
+ghost use Rattle.scene_links.specs.Forest.{parents};
+ghost use Rattle.scene_app.specs.Shown.{numbers_text, has_kind, name_in, one_name, names_from, more_names, names_text, rows_text, table_text, tables_text, entities_text, link_text, links_text, head_text, show_text};
 
 use crate::print::write_row;
 use scene_kinds::{Entity, Row, Schema};
+use scene_links::Links;
 use scene_world::World;
 use std::alloc::{AllocError, Global};
 
@@ -138,18 +140,70 @@ fn write_tables(
     Ok(())
 }
 
-/// Adds a world (docs/SCRIPTS.md, "Output"): its tick, its generations by index, its free list, and each table by
-/// its kind set, ascending. It costs a walk over the world.
-pub(crate) fn write_show(alloc: Global, out: &mut String, world: &World) -> Result<(), AllocError>
-    ensures { OnOk result (string_bytes out.new ≡ string_bytes out.old ++ show_text world.now) }
+/// Adds entities, each after a space.
+fn write_entities(out: &mut String, entities: &[Entity]) -> Result<(), AllocError>
+    ensures { OnOk result (string_bytes out.new ≡ string_bytes out.old ++ entities_text entities.now) }
 {
-    let masks = world.tables()?;
+    'entities: for entity in entities {
+        write!(out, " {entity}")?;
+    }
+    Ok(())
+}
+
+/// Adds a parent and its children.
+fn write_link(out: &mut String, links: &Links, parent: Entity) -> Result<(), AllocError>
+    ensures { OnOk result (string_bytes out.new ≡ string_bytes out.old ++ link_text links.now parent) }
+{
+    write!(out, "link {parent}")?;
+    write_entities(out, links.children_of(parent))?;
+    out.push('\n')
+}
+
+/// Adds the links of parents, a line each.
+fn write_links(out: &mut String, links: &Links, parents: &[Entity]) -> Result<(), AllocError>
+    ensures { OnOk result (string_bytes out.new ≡ string_bytes out.old ++ links_text links.now parents.now) }
+{
+    'parents: for parent in parents {
+        write_link(out, links, *parent)?;
+    }
+    Ok(())
+}
+
+/// Adds the tick, the generations by index and the free list.
+fn write_head(out: &mut String, world: &World) -> Result<(), AllocError>
+    ensures { OnOk result (string_bytes out.new ≡ string_bytes out.old ++ head_text world.now) }
+{
     write!(out, "tick {}\ngens", world.tick())?;
     write_numbers(out, world.slots().generations())?;
     out.push_str("\nfree")?;
     write_numbers(out, world.slots().free())?;
-    out.push_str("\n")?;
+    out.push_str("\n")
+}
+
+/// Adds all tables, ascending by their kind sets.
+fn write_archetypes(alloc: Global, out: &mut String, world: &World) -> Result<(), AllocError>
+    ensures { OnOk result (string_bytes out.new ≡ string_bytes out.old ++ tables_text world.now (kind_sets world.now)) }
+{
+    let masks = world.tables()?;
     write_tables(alloc, out, world, masks.as_slice())
+}
+
+/// Adds all links, by the indices of the parents.
+fn write_forest(out: &mut String, links: &Links) -> Result<(), AllocError>
+    ensures { OnOk result (string_bytes out.new ≡ string_bytes out.old ++ links_text links.now (parents links.now)) }
+{
+    let parents = links.parents()?;
+    write_links(out, links, parents.as_slice())
+}
+
+/// Adds a world (docs/SCRIPTS.md, "Output"): its tick, its generations by index, its free list, each table by its
+/// kind set, ascending, and the links of each entity with children, by index. It costs a walk over the world.
+pub(crate) fn write_show(alloc: Global, out: &mut String, world: &World) -> Result<(), AllocError>
+    ensures { OnOk result (string_bytes out.new ≡ string_bytes out.old ++ show_text world.now) }
+{
+    write_head(out, world)?;
+    write_archetypes(alloc, out, world)?;
+    write_forest(out, world.links())
 }
 
 /// The row of an entity, or `None` where it isn't alive.
