@@ -71,7 +71,7 @@ none_taken (e ∷ es) kind h =
     ] h
 
 -- the two tests of one that passes
-test_parts : (a b : Bool) → T (a && b) → T a × T b
+pub test_parts : (a b : Bool) → T (a && b) → T a × T b
 test_parts true b h = (tt, h)
 test_parts false b h = absurd h
 

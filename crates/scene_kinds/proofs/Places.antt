@@ -9,6 +9,7 @@ use Rattle.std.specs.FinMap.Entries.{put, by_order, below_all}
 use Rattle.std.specs.declared.cmp.Ordering.TheVariants.{Less, Equal, Greater}
 use Rattle.scene_kinds.specs.declared.cell.Cell.{Cell}
 use Rattle.scene_kinds.specs.Cells.{IsAscending, cell_of, with_cell, IsPlaceOf}
+use Rattle.scene_kinds.proofs.CellLaws.{test_parts}
 
 -- the order of numbers tells two apart as equality does
 pub eq_by_cmp-nat_eq : (a b : ℕ) → eq_by_cmp nat_cmp a b ≡ nat_eq a b
@@ -54,11 +55,6 @@ pub some_placed : (kind : ℕ) (cells : List (ℕ × Cell)) (r : Option ℕ) →
 some_placed kind cells None e = tt
 some_placed kind cells (Some i) e = found_place kind cells i (sym e)
 
--- both tests of two pass
-both : (a b : Bool) → T (a && b) → T a × T b
-both true b h = (tt, h)
-both false b h = absurd h
-
 -- the first of two that compare as less is below the second
 less_of_cmp : (a b : ℕ) → T (is_lt (nat_cmp a b)) → a < b
 less_of_cmp a b h =
@@ -78,8 +74,8 @@ cmp_greater a b h = sym (nat_cmp_is a b Greater h)
 -- a key that is below each key of a list is below the one at a place
 below_at : (x : ℕ) (cells : List (ℕ × Cell)) (i : ℕ) (d : ℕ × Cell) → T (below_all nat_cmp x cells) → i < length cells → x < (get_or cells i d).0
 below_at x [] i d h within = absurd (omega arith)
-below_at x (e ∷ es) zero d h within = less_of_cmp x e.0 (both _ _ h).0
-below_at x (e ∷ es) (suc i) d h within = below_at x es i d (both _ _ h).1 (omega arith)
+below_at x (e ∷ es) zero d h within = less_of_cmp x e.0 (test_parts _ _ h).0
+below_at x (e ∷ es) (suc i) d h within = below_at x es i d (test_parts _ _ h).1 (omega arith)
 
 -- where kinds ascend, a cell put at its kind is written where that kind stands
 pub put_at_place : (cells : List (ℕ × Cell)) (kind i : ℕ) (cell : Cell) (d : ℕ × Cell) → IsAscending cells → i < length cells → (get_or cells i d).0 ≡ kind → slice_set cells i ((get_or cells i d).0, cell) ≡ with_cell cells kind cell
@@ -87,6 +83,6 @@ put_at_place [] kind i cell d up within is = absurd (omega arith)
 put_at_place (e ∷ es) kind zero cell d up within is =
     ap (λ o. by_order o ((kind, cell) ∷ e ∷ es) ((e.0, cell) ∷ es) (e ∷ put nat_cmp kind cell es)) (sym (cmp_equal kind e.0 (sym is)))
 put_at_place (e ∷ es) kind (suc i) cell d up within is =
-    let later : e.0 < kind = subst (λ k. e.0 < k) is (below_at e.0 es i d (both _ _ up).0 (omega arith)) in
-    ap (λ t. e ∷ t) (put_at_place es kind i cell d (both _ _ up).1 (omega arith) is)
+    let later : e.0 < kind = subst (λ k. e.0 < k) is (below_at e.0 es i d (test_parts _ _ up).0 (omega arith)) in
+    ap (λ t. e ∷ t) (put_at_place es kind i cell d (test_parts _ _ up).1 (omega arith) is)
     ∙ ap (λ o. by_order o ((kind, cell) ∷ e ∷ es) ((e.0, cell) ∷ es) (e ∷ put nat_cmp kind cell es)) (sym (cmp_greater kind e.0 later))

@@ -12,19 +12,15 @@ use Rattle.std.proofs.lemmas.List.Sums.{sum_by-cons}
 use Rattle.scene_kinds.specs.Cells.{IsAscending, HasKinds, cell_of, with_cell, mask_of}
 use Rattle.scene_kinds.specs.declared.cell.Cell.{Cell}
 use Rattle.scene_kinds.specs.declared.cells.Row.{Row}
+use Rattle.scene_kinds.proofs.CellLaws.{test_parts}
 use Rattle.scene_table.specs.Table.{AllHave, cell_at, row_with_cell, rows_with_cell}
-
--- both tests of two pass
-both : (a b : Bool) → T (a && b) → T a × T b
-both true b h = (tt, h)
-both false b h = absurd h
 
 -- a list of larger kinds has no cell of this one
 none_below : (kind x : ℕ) (cells : List (ℕ × Cell)) → nat_cmp kind x ≡ Less → T (below_all nat_cmp x cells) → cell_of cells kind ≡ None
 none_below kind x [] less h = refl
 none_below kind x (e ∷ es) less h =
-    let later = nat_cmp_total.trans kind x e.0 less (is_less _ (both _ _ h).0) in
-    ap (λ o. cond (is_eq o) (Some e.1) (cell_of es kind)) later ∙ none_below kind x es less (both _ _ h).1
+    let later = nat_cmp_total.trans kind x e.0 less (is_less _ (test_parts _ _ h).0) in
+    ap (λ o. cond (is_eq o) (Some e.1) (cell_of es kind)) later ∙ none_below kind x es less (test_parts _ _ h).1
   where
     is_less : (o : Ordering) → T (is_lt o) → o ≡ Less
     is_less Less p = refl
@@ -36,10 +32,10 @@ mask_kept : (cells : List (ℕ × Cell)) (kind : ℕ) (cell : Cell) → IsAscend
 mask_kept [] kind cell up there = cc
 mask_kept (e ∷ es) kind cell up there =
     elim (nat_cmp kind e.0) as (λ o. nat_cmp kind e.0 ≡ o → IsSome (cond (is_eq o) (Some e.1) (cell_of es kind)) → mask_of (by_order o ((kind, cell) ∷ e ∷ es) ((e.0, cell) ∷ es) (e ∷ put nat_cmp kind cell es)) ≡ mask_of (e ∷ es)) [
-      | Less ↦ λ t some. absurd (let g : IsSome {T = Cell} None = subst (λ (o : Option Cell). IsSome o) (none_below kind e.0 es t (both _ _ up).0) some in cc)
+      | Less ↦ λ t some. absurd (let g : IsSome {T = Cell} None = subst (λ (o : Option Cell). IsSome o) (none_below kind e.0 es t (test_parts _ _ up).0) some in cc)
       | Equal ↦ λ t some. refl
       | Greater ↦ λ t some. sum_by-cons (λ (c : ℕ × Cell). 2 ^ c.0) e (with_cell es kind cell)
-          ∙ ap (λ n. 2 ^ e.0 + n) (mask_kept es kind cell (both _ _ up).1 some)
+          ∙ ap (λ n. 2 ^ e.0 + n) (mask_kept es kind cell (test_parts _ _ up).1 some)
           ∙ sym (sum_by-cons (λ (c : ℕ × Cell). 2 ^ c.0) e es)
     ] refl there
 

@@ -13,6 +13,7 @@ use Rattle.scene_kinds.specs.declared.entity.Entity.{Entity}
 use Rattle.scene_kinds.specs.declared.cells.Row.{Row}
 use Rattle.scene_kinds.specs.Entity.{entity_cmp_total, entity_cmp_exact, is_same}
 use Rattle.scene_kinds.specs.Lists.{whole, listed}
+use Rattle.scene_kinds.proofs.CellLaws.{test_parts}
 use Rattle.scene_kinds.proofs.Maps.{equal_keys, ties_itself}
 use Rattle.scene_world.specs.declared.home.Home.{Home}
 use Rattle.scene_world.specs.World.{Tables, row_at, place_among, home_in}
@@ -66,10 +67,6 @@ missed e (r ∷ rs) n h (suc p) g =
 pub place_missed : (e : Entity) (rows : List Row) → place_among e rows ≡ None → (p : ℕ) → HasAt rows p e → ⊥
 place_missed e rows h p g = missed e rows 0 h p g
 
-both : (a b : Bool) → T (a && b) → T a × T b
-both true b p = (tt, p)
-both false b p = absurd p
-
 is_less : (o : Ordering) → T (is_lt o) → is_eq o ≡ false
 is_less Less p = refl
 is_less Equal p = absurd p
@@ -79,7 +76,7 @@ is_less Greater p = absurd p
 below_none : (m : ℕ) (es : List (ℕ × (Row × List Row))) → T (below_all nat_cmp m es) → find nat_cmp m es ≡ None
 below_none m [] h = refl
 below_none m (t ∷ ts) h =
-    let p = both (is_lt (nat_cmp m t.0)) (below_all nat_cmp m ts) h in
+    let p = test_parts (is_lt (nat_cmp m t.0)) (below_all nat_cmp m ts) h in
     ap (λ b. cond b (Some t.1) (find nat_cmp m ts)) (is_less (nat_cmp m t.0) p.0) ∙ below_none m ts p.1
 
 -- the rows of a kind set among entries
@@ -92,7 +89,7 @@ nowhere p e h = absurd (let k : None ≡ Some h.row = h.there in cc)
 pub home_sound : (e : Entity) (es : List (ℕ × (Row × List Row))) → T (is_sorted nat_cmp es) → (h : Home) → home_in e es ≡ Some h → HasAt (rows_in es h.mask) h.place e
 home_sound e [] rising h is = absurd (let k : None ≡ Some h = is in cc)
 home_sound e (t ∷ ts) rising h is =
-    let parts = both (below_all nat_cmp t.0 ts) (is_sorted nat_cmp ts) rising in
+    let parts = test_parts (below_all nat_cmp t.0 ts) (is_sorted nat_cmp ts) rising in
     elim (place_among e (whole t.1)) as (λ o. place_among e (whole t.1) ≡ o → option_or (option_map (λ (p : ℕ). record { mask = t.0; place = p }) o) (home_in e ts) ≡ Some h → HasAt (rows_in (t ∷ ts) h.mask) h.place e) [
       | Some p ↦ λ q s.
           let u : record { mask = t.0; place = p } ≡ h = cc in
