@@ -1,5 +1,6 @@
 pub mod LineLaws
 pub mod NumberLaws
+pub mod PlayLaws
 pub mod ShowLaws
 pub mod Slices
 pub mod TargetLaws

@@ -2,6 +2,7 @@ pub mod Begins
 pub mod Cells
 pub mod Fault
 pub mod Known
+pub mod Listed
 pub mod Numbers
 pub mod Play
 pub mod Printed

@@ -1,9 +1,9 @@
 -- A script as a function of its lines: the setup, the machine of saved worlds line by line, and the printed text.
-use Rattle.std.specs.Prelude.{◌≡◌, ℕ, ◌+◌, List, [], ◌∷◌, ◌++◌, Option, Some, None, Result, Ok, Err, option_map, codes}
+use Rattle.std.specs.Prelude.{◌≡◌, ℕ, ◌+◌, List, [], ◌∷◌, ◌++◌, Option, Some, None, Result, Ok, Err, option_map, codes, decimal, nat_eq, if◌then◌else◌}
 use Rattle.std.specs.Str.Lines.{lines}
 use Rattle.scene_kinds.specs.declared.entity.Entity.{Entity}
 use Rattle.scene_kinds.specs.declared.fault.Fault.{Fault}
-use Rattle.scene_kinds.specs.declared.fault.Fault.TheVariants.{NoSuchEntity, BadLocal, NoMemory}
+use Rattle.scene_kinds.specs.declared.fault.Fault.TheVariants.{NoSuchEntity, BadLocal, NoMemory, Rewound}
 use Rattle.scene_kinds.specs.declared.refusal.Refusal.{Refusal}
 use Rattle.scene_kinds.specs.declared.refusal.Place.{Place}
 use Rattle.scene_kinds.specs.declared.shape.Shape.{Shape}
@@ -15,12 +15,18 @@ use Rattle.scene_world.specs.World.{World, new_world, row_of}
 use Rattle.scene_world.specs.Commands.{and_then, raise_tick, spawn, despawn, despawn_recursive, insert, remove, set_parent, remove_parent}
 use Rattle.scene_world.specs.Machine.{Machine, opening, submitted, undo, redo}
 use Rattle.scene_kinds.specs.declared.cells.Row.{Row}
+use Rattle.scene_pass.specs.Pass.{changed_since, added_since}
+use Rattle.scene_pass.specs.declared.cell_name.CellName.{CellName}
+use Rattle.scene_pass.specs.declared.filter.Filter.{Filter}
+use Rattle.scene_app.specs.declared.cursor.Cursor.{Cursor}
+use Rattle.scene_app.specs.declared.play_state.PlayState.{PlayState}
 use Rattle.scene_app.specs.declared.target.TargetWord.{TargetWord}
 use Rattle.scene_app.specs.declared.target.TargetWord.TheVariants as target
 use Rattle.scene_app.specs.declared.command.Command.{Command}
 use Rattle.scene_app.specs.declared.command.Command.TheVariants.{Spawn, Insert, Despawn, Remove, SetParent, RemoveParent, DespawnAll}
 use Rattle.scene_app.specs.declared.script_line.Line.{Line}
-use Rattle.scene_app.specs.declared.script_line.Line.TheVariants.{Empty, Bad, Kind, Slots, Do, Undo, Redo, Show, Get}
+use Rattle.scene_app.specs.declared.script_line.Line.TheVariants.{Empty, Bad, Kind, Slots, Do, Undo, Redo, Show, Get, Mark, Changed, Added}
+use Rattle.scene_app.specs.Listed.{listed_text}
 use Rattle.scene_app.specs.Printed.{row_text}
 use Rattle.scene_app.specs.Script.{line_in}
 use Rattle.scene_app.specs.Shown.{show_text}
@@ -79,6 +85,26 @@ placed (Err r) = Err (frame_refusal r)
 abbrev pub frame : Command → World → Outcome (Option Entity) World
 frame command w = and_then (raise_tick w) (λ a v. placed (done command v))
 
+-- ---- the state between two lines, and cursors
+
+-- the machine at first, and the cursor from before the first mark
+abbrev pub opening_state : World → PlayState
+opening_state w = record { machine = opening w; cursor = record { rewinds = 0; tick = 0 } }
+
+abbrev pub with_machine : PlayState → Machine World → PlayState
+with_machine s m = record s { machine = m }
+
+abbrev pub with_cursor : PlayState → Cursor → PlayState
+with_cursor s c = record s { cursor = c }
+
+-- the cursor of now
+abbrev pub cursor_of : Machine World → Cursor
+cursor_of m = record { rewinds = m.rewinds; tick = m.now.tick }
+
+-- the tick after which cells are listed; after an undo since the cursor, a refusal with the count of rewinds now
+abbrev pub since : PlayState → Result ℕ Refusal
+since s = if nat_eq s.cursor.rewinds s.machine.rewinds then Ok s.cursor.tick else Err (refusal_of (Rewound s.machine.rewinds))
+
 -- ---- the answer of a line
 
 abbrev pub made_text : Option Entity → List ℕ
@@ -92,15 +118,33 @@ abbrev pub row_answer : Kinds → Option Row → List ℕ
 row_answer kinds None = refused_text (refusal_of NoSuchEntity)
 row_answer kinds (Some row) = row_text kinds row ++ codes "\n"
 
--- what a line prints, whether it is bad, and the machine after it
+abbrev pub mark_text : Cursor → List ℕ
+mark_text c = codes "mark " ++ (decimal c.rewinds ++ (codes " " ++ (decimal c.tick ++ codes "\n")))
+
+-- the filter that every kind set matches
+abbrev pub no_filter : Filter
+no_filter = record { need = 0; without = 0 }
+
+-- the cells that a query finds after the tick of a cursor, or the refusal of that cursor
+abbrev pub since_text : List ℕ → Kinds → (ℕ → List CellName) → Result ℕ Refusal → List ℕ
+since_text word kinds cells (Ok tick) = listed_text word kinds (cells tick)
+since_text word kinds cells (Err r) = refused_text r
+
+abbrev pub changed_text : PlayState → List ℕ
+changed_text s = since_text (codes "changed") s.machine.now.schema (changed_since s.machine.now no_filter) (since s)
+
+abbrev pub added_text : PlayState → List ℕ
+added_text s = since_text (codes "added") s.machine.now.schema (added_since s.machine.now no_filter) (since s)
+
+-- what a line prints, whether it is bad, and the state after it
 pub record Reply : Type 0 where
   pub text : List ℕ
   pub bad : ℕ
-  pub machine : Machine World
+  pub state : PlayState
 
--- what a body that answers a line did: it added the text, so many lines are bad, and this is the machine after it
-abbrev pub Replies : (old new : List ℕ) → Machine World → ℕ → Reply → Type 0
-Replies old new machine bad r = (new ≡ old ++ r.text) × (machine ≡ r.machine) × (bad ≡ r.bad)
+-- what a body that answers a line did: it added the text, so many lines are bad, and this is the state after it
+abbrev pub Replies : (old new : List ℕ) → PlayState → ℕ → Reply → Type 0
+Replies old new state bad r = (new ≡ old ++ r.text) × (state ≡ r.state) × (bad ≡ r.bad)
 
 abbrev pub undone_text : Unit {0} → List ℕ
 undone_text a = codes "undone\n"
@@ -109,24 +153,31 @@ abbrev pub redone_text : Unit {0} → List ℕ
 redone_text a = codes "redone\n"
 
 -- the answer of a call, by the text of an accepted one
-abbrev pub answered : {A : Type 0} → Machine World → (A → List ℕ) → Outcome A (Machine World) → Reply
-answered m text (Ok p) = record { text = text p.0; bad = 0; machine = p.1 }
-answered m text (Err r) = record { text = refused_text r; bad = 0; machine = m }
+abbrev pub answered : {A : Type 0} → PlayState → (A → List ℕ) → Outcome A (Machine World) → Reply
+answered s text (Ok p) = record { text = text p.0; bad = 0; state = with_machine s p.1 }
+answered s text (Err r) = record { text = refused_text r; bad = 0; state = s }
 
-abbrev pub bad_reply : Machine World → Reply
-bad_reply m = record { text = codes "bad line\n"; bad = 1; machine = m }
+abbrev pub bad_reply : PlayState → Reply
+bad_reply s = record { text = codes "bad line\n"; bad = 1; state = s }
+
+-- the answer of a query, which changes nothing
+abbrev pub told : PlayState → List ℕ → Reply
+told s text = record { text = text; bad = 0; state = s }
 
 -- a line after the setup
-abbrev pub reply : Machine World → Line → Reply
-reply m Empty = record { text = []; bad = 0; machine = m }
-reply m Bad = bad_reply m
-reply m (Kind name shape) = bad_reply m
-reply m (Slots n) = bad_reply m
-reply m (Do command) = answered m made_text (submitted m (frame command m.now))
-reply m Undo = answered m undone_text (undo m)
-reply m Redo = answered m redone_text (redo m)
-reply m Show = record { text = show_text m.now; bad = 0; machine = m }
-reply m (Get e) = record { text = row_answer m.now.schema (option_map (λ p. p.1) (row_of m.now e)); bad = 0; machine = m }
+abbrev pub reply : PlayState → Line → Reply
+reply s Empty = told s []
+reply s Bad = bad_reply s
+reply s (Kind name shape) = bad_reply s
+reply s (Slots n) = bad_reply s
+reply s (Do command) = answered s made_text (submitted s.machine (frame command s.machine.now))
+reply s Undo = answered s undone_text (undo s.machine)
+reply s Redo = answered s redone_text (redo s.machine)
+reply s Show = told s (show_text s.machine.now)
+reply s (Get e) = told s (row_answer s.machine.now.schema (option_map (λ p. p.1) (row_of s.machine.now e)))
+reply s Mark = record { text = mark_text (cursor_of s.machine); bad = 0; state = with_cursor s (cursor_of s.machine) }
+reply s Changed = told s (changed_text s)
+reply s Added = told s (added_text s)
 
 -- ---- the run
 
@@ -143,9 +194,9 @@ abbrev pub and_more : List ℕ → ℕ → Printed → Printed
 and_more text bad rest = record { text = text ++ rest.text; bad = bad + rest.bad }
 
 -- the lines after the setup, one after another
-abbrev pub run_from : Machine World → List (List ℕ) → Printed
-run_from m [] = nothing
-run_from m (l ∷ ls) = let r : Reply = reply m (line_in m.now.schema l) in and_more r.text r.bad (run_from r.machine ls)
+abbrev pub run_from : PlayState → List (List ℕ) → Printed
+run_from s [] = nothing
+run_from s (l ∷ ls) = let r : Reply = reply s (line_in s.machine.now.schema l) in and_more r.text r.bad (run_from r.state ls)
 
 -- what a body that plays lines did: it added their text, and so many are bad
 abbrev pub Prints : (old new : List ℕ) → ℕ → Printed → Type 0
@@ -178,7 +229,7 @@ setup_line kinds limit rest begin line = begin
 abbrev pub setup_from : Kinds → ℕ → List (List ℕ) → Printed
 setup_from kinds limit [] = nothing
 setup_from kinds limit (l ∷ ls) =
-    setup_line kinds limit (λ k n. setup_from k n ls) (run_from (opening (new_world kinds limit)) (l ∷ ls)) (line_in kinds l)
+    setup_line kinds limit (λ k n. setup_from k n ls) (run_from (opening_state (new_world kinds limit)) (l ∷ ls)) (line_in kinds l)
 
 abbrev pub printed : List ℕ → Printed
 printed script = setup_from [] 1048576 (lines script)

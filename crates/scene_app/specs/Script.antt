@@ -9,7 +9,7 @@ use Rattle.scene_app.specs.declared.target.TargetWord.{TargetWord}
 use Rattle.scene_app.specs.declared.command.Command.{Command}
 use Rattle.scene_app.specs.declared.command.Command.TheVariants.{Spawn, Insert, Despawn, Remove, SetParent, RemoveParent, DespawnAll}
 use Rattle.scene_app.specs.declared.script_line.Line.{Line}
-use Rattle.scene_app.specs.declared.script_line.Line.TheVariants.{Empty, Bad, Kind, Slots, Do, Undo, Redo, Show, Get}
+use Rattle.scene_app.specs.declared.script_line.Line.TheVariants.{Empty, Bad, Kind, Slots, Do, Undo, Redo, Show, Get, Mark, Changed, Added}
 use Rattle.scene_app.specs.Cells.{shape_in, cell_in, target_in}
 use Rattle.scene_app.specs.Numbers.{count_in, entity_in}
 use Rattle.scene_app.specs.Words.{words_of}
@@ -103,6 +103,9 @@ named_line kinds first rest =
     else if bytes_eq first (codes "redo") then lone Redo rest
     else if bytes_eq first (codes "show") then lone Show rest
     else if bytes_eq first (codes "get") then get_line rest
+    else if bytes_eq first (codes "mark") then lone Mark rest
+    else if bytes_eq first (codes "changed") then lone Changed rest
+    else if bytes_eq first (codes "added") then lone Added rest
     else Bad
 
 -- whether a word begins a comment, with # (35)

@@ -4,14 +4,16 @@ ghost use Rattle.scene_kinds.specs.Answers.{refusal_of};
 ghost use Rattle.scene_kinds.specs.declared.fault.Fault.TheVariants.{NoMemory};
 ghost use Rattle.scene_world.specs.Machine.{submitted, undo, redo};
 ghost use Rattle.scene_world.specs.World.{row_of};
-ghost use Rattle.scene_app.specs.Play.{Replies, reply, answered, frame, made_text, refused_text, row_answer, undone_text, redone_text};
+ghost use Rattle.scene_app.specs.Play.{Replies, reply, answered, frame, made_text, refused_text, row_answer, undone_text, redone_text, mark_text, changed_text, added_text, cursor_of, with_cursor};
 
 use crate::command::Command;
+use crate::listed::write_listed;
+use crate::play_state::PlayState;
 use crate::print::write_row;
-use crate::saved::Saved;
 use crate::script_line::Line;
 use crate::show::{row_of, write_show};
 use scene_kinds::{Entity, Fault, Refusal};
+use scene_pass::{Filter, added_since, changed_since};
 use scene_world::World;
 use std::alloc::{AllocError, Global};
 
@@ -48,33 +50,37 @@ fn write_made(out: &mut String, made: Option<Entity>) -> Result<(), AllocError>
 }
 
 /// A frame of one command.
-fn answer_command(out: &mut String, machine: &mut Saved, command: Command) -> Result<(), AllocError>
-    ensures { OnOk result (Replies (string_bytes out.old) (string_bytes out.new) machine.new 0
-        (answered machine.old made_text (submitted machine.old (frame command machine.old.now)))) }
+fn answer_command(
+    out: &mut String,
+    state: &mut PlayState,
+    command: Command,
+) -> Result<(), AllocError>
+    ensures { OnOk result (Replies (string_bytes out.old) (string_bytes out.new) state.new 0
+        (answered state.old made_text (submitted state.old.machine (frame command state.old.machine.now)))) }
 {
-    match machine.submit(command) {
+    match state.machine.submit(command) {
         Ok(made) => write_made(out, made),
         Err(refusal) => answer_refused(out, refusal),
     }
 }
 
 /// `undo`.
-fn answer_undo(out: &mut String, machine: &mut Saved) -> Result<(), AllocError>
-    ensures { OnOk result (Replies (string_bytes out.old) (string_bytes out.new) machine.new 0
-        (answered machine.old undone_text (undo machine.old))) }
+fn answer_undo(out: &mut String, state: &mut PlayState) -> Result<(), AllocError>
+    ensures { OnOk result (Replies (string_bytes out.old) (string_bytes out.new) state.new 0
+        (answered state.old undone_text (undo state.old.machine))) }
 {
-    match machine.undo() {
+    match state.machine.undo() {
         Ok(()) => out.push_str("undone\n"),
         Err(refusal) => answer_refused(out, refusal),
     }
 }
 
 /// `redo`.
-fn answer_redo(out: &mut String, machine: &mut Saved) -> Result<(), AllocError>
-    ensures { OnOk result (Replies (string_bytes out.old) (string_bytes out.new) machine.new 0
-        (answered machine.old redone_text (redo machine.old))) }
+fn answer_redo(out: &mut String, state: &mut PlayState) -> Result<(), AllocError>
+    ensures { OnOk result (Replies (string_bytes out.old) (string_bytes out.new) state.new 0
+        (answered state.old redone_text (redo state.old.machine))) }
 {
-    match machine.redo() {
+    match state.machine.redo() {
         Ok(()) => out.push_str("redone\n"),
         Err(refusal) => answer_refused(out, refusal),
     }
@@ -98,41 +104,66 @@ fn answer_get(
     }
 }
 
+/// `mark`.
+fn answer_mark(out: &mut String, state: &mut PlayState) -> Result<(), AllocError>
+    ensures text { OnOk result (string_bytes out.new ≡ string_bytes out.old ++ mark_text (cursor_of state.old.machine)) }
+    ensures state { state.new ≡ with_cursor state.old (cursor_of state.old.machine) }
+{
+    let cursor = state.mark();
+    write!(out, "mark {} {}\n", cursor.rewinds, cursor.tick)?;
+    Ok(())
+}
+
+/// `changed`.
+fn answer_changed(alloc: Global, out: &mut String, state: &PlayState) -> Result<(), AllocError>
+    ensures { OnOk result (string_bytes out.new ≡ string_bytes out.old ++ changed_text state.now) }
+{
+    let tick = match state.since() {
+        Ok(tick) => tick,
+        Err(refusal) => return write_refused(out, refusal),
+    };
+    let world = state.machine.now();
+    let cells = changed_since(alloc, world, Filter::all(), tick)?;
+    write_listed(out, "changed", world.schema(), cells.as_slice())
+}
+
+/// `added`.
+fn answer_added(alloc: Global, out: &mut String, state: &PlayState) -> Result<(), AllocError>
+    ensures { OnOk result (string_bytes out.new ≡ string_bytes out.old ++ added_text state.now) }
+{
+    let tick = match state.since() {
+        Ok(tick) => tick,
+        Err(refusal) => return write_refused(out, refusal),
+    };
+    let world = state.machine.now();
+    let cells = added_since(alloc, world, Filter::all(), tick)?;
+    write_listed(out, "added", world.schema(), cells.as_slice())
+}
+
 /// Answers a line after the setup, and gives how many bad lines it is.
 pub(crate) fn answer(
     alloc: Global,
     out: &mut String,
-    machine: &mut Saved,
+    state: &mut PlayState,
     line: Line,
 ) -> Result<usize, AllocError>
-    ensures reply { IfOk result (λ bad. Replies (string_bytes out.old) (string_bytes out.new) machine.new bad (reply machine.old line)) }
+    ensures reply { IfOk result (λ bad. Replies (string_bytes out.old) (string_bytes out.new) state.new bad (reply state.old line)) }
     ensures one { IfOk result (λ bad. bad ≤ 1) }
 {
     match line {
-        Line::Empty => Ok(0),
+        Line::Empty => {}
         Line::Bad | Line::Kind(..) | Line::Slots(_) => {
             out.push_str("bad line\n")?;
-            Ok(1)
+            return Ok(1);
         }
-        Line::Do(command) => {
-            answer_command(out, machine, command)?;
-            Ok(0)
-        }
-        Line::Undo => {
-            answer_undo(out, machine)?;
-            Ok(0)
-        }
-        Line::Redo => {
-            answer_redo(out, machine)?;
-            Ok(0)
-        }
-        Line::Show => {
-            write_show(alloc, out, machine.now())?;
-            Ok(0)
-        }
-        Line::Get(entity) => {
-            answer_get(alloc, out, machine.now(), entity)?;
-            Ok(0)
-        }
+        Line::Do(command) => answer_command(out, state, command)?,
+        Line::Undo => answer_undo(out, state)?,
+        Line::Redo => answer_redo(out, state)?,
+        Line::Show => write_show(alloc, out, state.machine.now())?,
+        Line::Get(entity) => answer_get(alloc, out, state.machine.now(), entity)?,
+        Line::Mark => answer_mark(out, state)?,
+        Line::Changed => answer_changed(alloc, out, state)?,
+        Line::Added => answer_added(alloc, out, state)?,
     }
+    Ok(0)
 }

@@ -9,10 +9,13 @@
 mod answer;
 mod cell_word;
 mod command;
+mod cursor;
 mod fault;
 mod line;
+mod listed;
 mod number;
 mod play;
+mod play_state;
 mod print;
 mod reading;
 mod run;

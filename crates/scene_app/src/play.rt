@@ -1,34 +1,33 @@
 //! A whole script: the setup, and then line after line on the machine of saved worlds.
 ghost use Rattle.std.specs.Prelude.{◌≡◌, ◌++◌, ◌≤◌, OnOk, IfOk, length, string_bytes};
 ghost use Rattle.std.specs.Str.Lines.{lines};
-ghost use Rattle.scene_world.specs.Machine.{opening};
-ghost use Rattle.scene_app.specs.Play.{Prints, run_from, printed, declared_text, after_kind};
+ghost use Rattle.scene_app.specs.Play.{Prints, opening_state, run_from, printed, declared_text, after_kind};
 
 use crate::answer::{answer, answer_refused};
 use crate::line::first_line;
-use crate::saved::Saved;
+use crate::play_state::PlayState;
 use crate::script_line::{Line, read_line};
 use crate::slot_limit::SlotLimit;
 use scene_kinds::{Schema, Shape};
 use scene_world::World;
 use std::alloc::{AllocError, Global};
 
-/// Plays lines on a machine, and gives how many are bad.
+/// Plays lines after the setup, and gives how many are bad.
 fn play_lines(
     alloc: Global,
-    machine: &mut Saved,
+    state: &mut PlayState,
     script: &[u8],
     out: &mut String,
 ) -> Result<usize, AllocError>
-    ensures printed { IfOk result (λ bad. Prints (string_bytes out.old) (string_bytes out.new) bad (run_from machine.old (lines script.now))) }
+    ensures printed { IfOk result (λ bad. Prints (string_bytes out.old) (string_bytes out.new) bad (run_from state.old (lines script.now))) }
     ensures few { IfOk result (λ bad. bad ≤ length script.now) }
 {
     let mut rest = script;
     let mut bad = 0;
     'lines: while !rest.is_empty() {
         let (bytes, after) = first_line(rest);
-        let line = read_line(alloc, machine.now().schema(), bytes)?;
-        bad += answer(alloc, out, machine, line)?;
+        let line = read_line(alloc, state.machine.now().schema(), bytes)?;
+        bad += answer(alloc, out, state, line)?;
         rest = after;
     }
     Ok(bad)
@@ -41,11 +40,11 @@ fn play_run(
     script: &[u8],
     out: &mut String,
 ) -> Result<usize, AllocError>
-    ensures printed { IfOk result (λ bad. Prints (string_bytes out.old) (string_bytes out.new) bad (run_from (opening world) (lines script.now))) }
+    ensures printed { IfOk result (λ bad. Prints (string_bytes out.old) (string_bytes out.new) bad (run_from (opening_state world) (lines script.now))) }
     ensures few { IfOk result (λ bad. bad ≤ length script.now) }
 {
-    let mut machine = Saved::new(alloc, world);
-    play_lines(alloc, &mut machine, script, out)
+    let mut state = PlayState::new(alloc, world);
+    play_lines(alloc, &mut state, script, out)
 }
 
 /// Declares a kind, and adds the answer.

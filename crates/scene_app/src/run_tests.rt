@@ -147,6 +147,39 @@ fn links_are_shown_and_come_back_at_undo(rt: HostRuntime) -> Result<(), Fail> {
 }
 
 #[test]
+fn cells_are_listed_since_the_cursor(rt: HostRuntime) -> Result<(), Fail> {
+    let alloc = rt.alloc();
+    let cases = [
+        (
+            "kind A Int\nkind T Tag\nspawn A=1\nspawn A=2 T\nchanged\nadded\nmark\nchanged\nadded\n\
+             insert 0v1 A=1\ninsert 0v1 T\nremove 1v1 A\nchanged\nadded\n",
+            "ok\nok\ndone 0v1\ndone 1v1\n\
+             changed 3\n0v1 A\n1v1 A\n1v1 T\nadded 3\n0v1 A\n1v1 A\n1v1 T\n\
+             mark 0 2\nchanged 0\nadded 0\ndone\ndone\ndone\n\
+             changed 2\n0v1 A\n0v1 T\nadded 1\n0v1 T\n",
+        ),
+        (
+            "spawn\nmark\nundo\nchanged\nadded\nmark\nredo\nchanged\nundo\nundo\nchanged\nadded\n",
+            "done 0v1\nmark 0 1\nundone\nrefused 18 Rewound 1\nrefused 18 Rewound 1\nmark 1 0\n\
+             redone\nchanged 0\nundone\nrefused 15 NothingToUndo\n\
+             refused 18 Rewound 2\nrefused 18 Rewound 2\n",
+        ),
+        (
+            "kind A Int\nundo\nredo\nmark\nspawn A=1\ndespawn 1v1\nchanged\nmark\nmark\nadded\n",
+            "ok\nrefused 15 NothingToUndo\nrefused 16 NothingToRedo\nmark 0 0\ndone 0v1\n\
+             refused 1 NoSuchEntity at 0.0.0\nchanged 1\n0v1 A\nmark 0 1\nmark 0 1\nadded 0\n",
+        ),
+    ];
+    for (script, output) in cases {
+        let mut out = String::new(alloc);
+        let bad = play_script(alloc, script.as_bytes(), &mut out)?;
+        assert_eq!(rt; out.as_str(), output, "{script}");
+        assert_eq!(rt; bad, 0, "{script}");
+    }
+    Ok(())
+}
+
+#[test]
 fn a_failed_read_writes_nothing(rt: HostRuntime) -> Result<(), Fail> {
     let alloc = rt.alloc();
     for fails_at in 1..=8 {
@@ -267,6 +300,9 @@ fn the_setup_ends_at_the_first_other_line(rt: HostRuntime) -> Result<(), Fail> {
             "refused 15 NothingToUndo\nbad line\n",
             1,
         ),
+        ("mark\nkind A Int\n", "mark 0 0\nbad line\n", 1),
+        ("changed\nslots 5\n", "changed 0\nbad line\n", 1),
+        ("added\nslots 5\n", "added 0\nbad line\n", 1),
         (
             "slots 0\nslots 1048577\nslots 01\nslots +1\nslots -1\nslots\nslots 1 2\n",
             "bad line\nbad line\nbad line\nbad line\nbad line\nbad line\nbad line\n",
@@ -400,6 +436,11 @@ fn lines_of_no_form_are_bad(rt: HostRuntime) -> Result<(), Fail> {
         "despawnall",
         "despawnall A",
         "despawnall 0v1 1v1",
+        "mark 1",
+        "Mark",
+        "changed A",
+        "changed 0v1",
+        "added 0",
         "kind B",
         "kind B Float",
         "kind B Int Int",

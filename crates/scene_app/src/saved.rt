@@ -114,6 +114,13 @@ impl Saved {
         &self.now
     }
 
+    /// How many undos there were.
+    pub(crate) fn rewinds(&self) -> u64
+        ensures { result ≡ self.entry.now.rewinds }
+    {
+        self.rewinds
+    }
+
     /// Does a frame of one command: the world before it is kept, and what was undone is forgotten. It costs a copy
     /// of the world.
     pub(crate) fn submit(&mut self, command: Command) -> Result<Option<Entity>, Refusal>

@@ -28,6 +28,9 @@ pub enum Line {
     Redo,
     Show,
     Get(Entity),
+    Mark,
+    Changed,
+    Added,
 }
 
 /// `kind NAME SHAPE`.
@@ -214,6 +217,9 @@ fn named_line(
         "redo" => Ok(lone(Line::Redo, rest)),
         "show" => Ok(lone(Line::Show, rest)),
         "get" => Ok(get_line(rest)),
+        "mark" => Ok(lone(Line::Mark, rest)),
+        "changed" => Ok(lone(Line::Changed, rest)),
+        "added" => Ok(lone(Line::Added, rest)),
         _ => Ok(Line::Bad),
     }
 }

@@ -5,8 +5,8 @@ use Rattle.scene_app.proofs.play.play_lines.Given as goal
 
 abbrev pub invariant-lines : goal.invariant-lines
 invariant-lines l =
-    (string_bytes l.out ++ (run_from l.machine (lines l.rest)).text ≡ string_bytes l.initial.out ++ (run_from l.initial.machine (lines l.script)).text)
-    × (l.bad + (run_from l.machine (lines l.rest)).bad ≡ (run_from l.initial.machine (lines l.script)).bad)
+    (string_bytes l.out ++ (run_from l.state (lines l.rest)).text ≡ string_bytes l.initial.out ++ (run_from l.initial.state (lines l.script)).text)
+    × (l.bad + (run_from l.state (lines l.rest)).bad ≡ (run_from l.initial.state (lines l.script)).bad)
     × (l.bad + length l.rest ≤ length l.script)
 
 abbrev pub decreases-lines : goal.decreases-lines

@@ -1,0 +1,58 @@
+//! What a script has come to between two lines after the setup.
+ghost use Rattle.std.specs.Prelude.{◌≡◌};
+ghost use Rattle.scene_app.specs.Play.{opening_state, cursor_of, with_cursor, since};
+
+use crate::cursor::Cursor;
+use crate::saved::Saved;
+use scene_kinds::{Fault, Refusal};
+use scene_world::World;
+use std::alloc::Global;
+
+/// The machine, and the cursor that the last mark took.
+#[derive(Drop)]
+pub(crate) struct PlayState {
+    pub(crate) machine: Saved,
+    pub(crate) cursor: Cursor,
+}
+
+impl PlayState {
+    /// The state in which a run begins: no frames, and the cursor from before the first mark.
+    pub(crate) fn new(alloc: Global, world: World) -> Self
+        ensures { result ≡ opening_state world }
+    {
+        PlayState {
+            machine: Saved::new(alloc, world),
+            cursor: Cursor {
+                rewinds: 0,
+                tick: 0,
+            },
+        }
+    }
+
+    /// Takes the cursor of now, and gives it.
+    pub(crate) fn mark(&mut self) -> Cursor
+        ensures cursor { result ≡ cursor_of self.old.machine }
+        ensures kept { self.new ≡ with_cursor self.old (cursor_of self.old.machine) }
+    {
+        let cursor = Cursor {
+            rewinds: self.machine.rewinds(),
+            tick: self.machine.now().tick(),
+        };
+        self.cursor = cursor;
+        cursor
+    }
+
+    /// The tick after which a query lists cells.
+    ///
+    /// Refused: `Rewound`, with the count of rewinds now, where there was an undo since the cursor was taken.
+    pub(crate) fn since(&self) -> Result<u64, Refusal>
+        ensures { result ≡ since self.now }
+    {
+        let rewinds = self.machine.rewinds();
+        if self.cursor.rewinds == rewinds {
+            Ok(self.cursor.tick)
+        } else {
+            Err(Refusal::from(Fault::Rewound(rewinds)))
+        }
+    }
+}
