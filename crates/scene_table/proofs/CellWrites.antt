@@ -1,5 +1,5 @@
 -- One cell of one row, read and written.
-use Rattle.std.proofs.Common.{◌≡◌, ℕ, zero, suc, ◌+◌, ◌<◌, Bool, true, false, cond, T, ◌&&◌, List, [], ◌∷◌, length, get_or, refl, ap, sym, subst, ◌∙◌, arith, Option, Some, None}
+use Rattle.std.proofs.Common.{◌≡◌, ℕ, zero, suc, ◌+◌, ◌<◌, cond, T, List, [], ◌∷◌, length, get_or, refl, ap, sym, subst, ◌∙◌, arith, Option, Some, None}
 use Rattle.std.specs.Prelude.{slice_get, slice_set, IsSome, ◌^◌}
 use Rattle.std.specs.Option.{option_map, option_flatten, unwrap_or}
 use Rattle.std.specs.Ordering.{nat_cmp, is_lt, is_eq}

@@ -1,4 +1,4 @@
-use Rattle.std.proofs.Common.{◌≡◌, ℕ, List, ◌∙◌, ap, subst, sym}
+use Rattle.std.proofs.Common.{ℕ, List, ◌∙◌, ap, subst, sym}
 use Rattle.std.specs.Prelude.{slice_set}
 use Rattle.scene_kinds.specs.declared.cell.Cell.{Cell}
 use Rattle.scene_kinds.specs.Cells.{IsAscending, IsPlaceOf, with_cell}
