@@ -1,3 +1,4 @@
 pub mod Bits
+pub mod KeptTables
 pub mod Listed
 pub mod Members

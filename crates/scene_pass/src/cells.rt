@@ -68,7 +68,7 @@ fn cells_since(
 ) -> Result<Vec<CellName>, AllocError>
     ensures { IfOk result (λ names. names.items ≡ cells_where (is_since since) world.now filter) }
 {
-    let tables = matching_tables(alloc, world, filter)?;
+    let tables = matching_tables(world, filter)?;
     let mut names = Vec::new(alloc);
     'tables: for table in &tables {
         push_names_of_rows(&mut names, table.rows(), since)?;
@@ -79,8 +79,8 @@ fn cells_since(
 /// The cells of the matching rows that were changed after a tick, by row, then by kind (docs/MODEL.md, "The rule of
 /// queries"). A cell whose changed tick is `tick` itself isn't listed; one that was added after it is.
 ///
-/// An error only where no memory was found. It costs the number of kind sets times its logarithm, a walk over the
-/// kind sets for each matching one, and the cells of the matching rows; the rows of other kind sets aren't read.
+/// An error only where no memory was found. It costs the number of kind sets times its logarithm, and the cells of the
+/// matching rows; the rows of other kind sets aren't read.
 pub fn changed_since(
     alloc: Global,
     world: &World,

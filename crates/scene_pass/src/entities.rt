@@ -24,11 +24,11 @@ fn entities_of(alloc: Global, tables: &[&Table]) -> Result<Vec<Entity>, AllocErr
 /// The entities whose kind set a filter matches, by ascending kind set, then by their places in the table
 /// (docs/MODEL.md, "The rule of queries").
 ///
-/// An error only where no memory was found. It costs the number of kind sets times its logarithm, a walk over the
-/// kind sets for each matching one, and the matching rows; the rows of other kind sets aren't read.
+/// An error only where no memory was found. It costs the number of kind sets times its logarithm, and the matching
+/// rows; the rows of other kind sets aren't read.
 pub fn matching(alloc: Global, world: &World, filter: Filter) -> Result<Vec<Entity>, AllocError>
     ensures { IfOk result (λ entities. entities.items ≡ matching world.now filter) }
 {
-    let tables = matching_tables(alloc, world, filter)?;
+    let tables = matching_tables(world, filter)?;
     entities_of(alloc, tables.as_slice())
 }

@@ -2,7 +2,8 @@
 //!
 //! A `Filter` says which kind sets match. `matching` lists the entities of the matching rows; `changed_since` and
 //! `added_since` list the cells of those rows that were changed or added after a tick. Rows come by ascending kind
-//! set, and in a table by place; the cells of a row by kind.
+//! set, and in a table by place; the cells of a row by kind. A pass costs the number of kind sets times its logarithm,
+//! and the matching rows, or their cells where it lists cells.
 //!
 //! `specs/Filter.antt` says what a filter matches and `specs/Pass.antt` what each pass lists. `worked_passes` has
 //! those definitions compute the passes over a small world. Of the laws, `filters_say_each_kind` has the meaning of a

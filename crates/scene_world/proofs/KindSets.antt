@@ -1,24 +1,25 @@
--- The kind sets of tables, sorted, are the keys of the map that is seen.
-use Rattle.std.proofs.Common.{◌≡◌, ℕ, ◌+◌, ◌<◌, Bool, true, false, cond, ◌||◌, ◌&&◌, T, nat_eq, List, [], ◌∷◌, ◌++◌, append-nil, length, get_or, take, Option, Some, None, refl, ap, subst, sym, ◌∙◌, arith}
+-- The tables that have rows, sorted: their kind sets are the keys of the map that is seen, and their rows are those
+-- that it shows there.
+use Rattle.std.proofs.Common.{◌≡◌, ℕ, ◌+◌, ◌<◌, Bool, true, false, cond, ◌||◌, ◌&&◌, T, nat_eq, List, [], ◌∷◌, ◌++◌, append-nil, length, get_or, take, Some, None, refl, ap, subst, sym, ◌∙◌, arith}
 use Rattle.std.specs.Prelude.{map as each, is_some, IsTrue}
-use Rattle.std.specs.List.{list_any, filter_map, IsDistinct, AllByRecursion}
-use Rattle.std.specs.List.Sorted.{IsPermutation, IsSorted, IsStrictlySortedBy}
+use Rattle.std.specs.List.{list_any, filter, IsDistinct, AllByRecursion}
+use Rattle.std.specs.List.Sorted.{IsPermutation, IsNonDecreasing, IsNonDecreasingBy, IsStrictlySortedBy}
 use Rattle.std.specs.Ordering.{nat_cmp, eq_by_cmp, is_lt}
 use Rattle.std.specs.Cmp.{nat_cmp_total}
 use Rattle.std.specs.declared.cmp.Ordering.TheVariants.{Less}
 use Rattle.std.specs.FinMap.{nat_cmp-IsAntisymmetric}
 use Rattle.std.specs.FinMap.Entries.{find, below_all, is_sorted, is_some-find, same_entries}
 use Rattle.std.proofs.lemmas.Bool.Decides.{nat_tests}
-use Rattle.std.proofs.lemmas.List.{take_more}
-use Rattle.std.proofs.lemmas.List.Elements.{filter_map-append}
-use Rattle.std.proofs.lemmas.List.Sorted.{IsNonDecreasingBy-from_sort, list_any-IsPermutation}
+use Rattle.std.proofs.lemmas.List.{take_more, get_or-map, length-map}
+use Rattle.std.proofs.lemmas.List.Elements.{filter-append, All-filter, All-from_recursion, recursion_from_All}
+use Rattle.std.proofs.lemmas.List.Sorted.{IsPermutation-map, All-permutation, list_any-IsPermutation}
 use Rattle.std.proofs.lemmas.Map.Keys.{sorted_head, sorted_tail, IsDistinct-cons, IsDistinct-IsPermutation, IsStrictlyIncreasing-from_distinct, sorted_from_strictly_increasing}
 use Rattle.scene_kinds.specs.declared.cells.Row.{Row}
 use Rattle.scene_kinds.specs.Map as map
-use Rattle.scene_kinds.proofs.Lists.{kept, kept-listed, get-with_list}
+use Rattle.scene_kinds.proofs.Lists.{kept, kept-listed, get-with_list, list_at_same, list_at_apart}
 use Rattle.scene_kinds.proofs.Maps.{equal_keys}
 use Rattle.scene_table.specs.Table.{TableState}
-use Rattle.scene_world.specs.World.{rows_at}
+use Rattle.scene_world.specs.World.{Tables, rows_at, with_rows, masks_of}
 use Rattle.scene_world.specs.Stored.{tables_of, NoneHas, AreApart}
 use Rattle.scene_world.proofs.Stored.{none_seen}
 
@@ -79,39 +80,36 @@ keys_alike ks es h g is =
     (λ q. found_unit q ks ∙ (ap (λ b. cond b (Some tt) None) (is q ∙ is_some-find nat_cmp q es) ∙ sym (found_unit q (each (λ e. e.0) es)))) in
     sym (keys_of_units ks) ∙ (ap (λ us. each (λ e. e.0) us) alike ∙ keys_of_units (each (λ e. e.0) es))
 
--- ---- the kind sets of the tables that have rows
+-- ---- the tables that have rows, and their kind sets
 
--- the kind set of a table, where it has rows
-abbrev pub mask_seen : ℕ → List Row → Option ℕ
-mask_seen mask [] = None
-mask_seen mask (row ∷ rows) = Some mask
+-- whether there are rows
+abbrev pub has_some : List Row → Bool
+has_some [] = false
+has_some (row ∷ rows) = true
 
--- the kind sets of the tables that have rows, in the order of the tables
+-- the tables that have rows, in the order of the tables
+abbrev pub with_some : List TableState → List TableState
+with_some ts = filter (λ t. has_some t.rows) ts
+
+-- their kind sets
 abbrev pub masks_seen : List TableState → List ℕ
-masks_seen ts = filter_map (λ t. mask_seen t.mask t.rows) ts
+masks_seen ts = each (λ t. t.mask) (with_some ts)
 
--- one table that has rows
-one_seen : (t : TableState) → (t.rows ≡ [] → ⊥) → masks_seen (t ∷ []) ≡ t.mask ∷ []
-one_seen t ne = elim t.rows as (λ rows. (rows ≡ [] → ⊥) → masks_seen (record t { rows = rows } ∷ []) ≡ t.mask ∷ []) [
-  | [] ↦ λ n. absurd (n refl)
-  | row ∷ rows ↦ λ n. refl
-] ne
+some_rows : (rows : List Row) → (rows ≡ [] → ⊥) → has_some rows ≡ true
+some_rows [] ne = absurd (ne refl)
+some_rows (row ∷ rows) ne = refl
 
--- one table without rows
-one_empty : (t : TableState) → t.rows ≡ [] → masks_seen (t ∷ []) ≡ []
-one_empty t e = ap (λ rows. masks_seen (record t { rows = rows } ∷ [])) e
+-- the tables up to one, and that one where it has rows
+one_more : (ts : List TableState) (i : ℕ) (t : TableState) (b : Bool) → i < length ts → t ≡ get_or ts i t → has_some t.rows ≡ b → with_some (take (i + 1) ts) ≡ with_some (take i ts) ++ cond b (t ∷ []) []
+one_more ts i t b l e has = ap with_some (take_more ts i t l ∙ ap (λ x. take i ts ++ x ∷ []) (sym e)) ∙ (filter-append (λ (x : TableState). has_some x.rows) (take i ts) (t ∷ []) ∙ ap (λ c. with_some (take i ts) ++ cond c (t ∷ []) []) has)
 
--- the tables up to one, and that one
-one_more : (ts : List TableState) (i : ℕ) (t : TableState) → i < length ts → t ≡ get_or ts i t → masks_seen (take (i + 1) ts) ≡ masks_seen (take i ts) ++ masks_seen (t ∷ [])
-one_more ts i t l e = ap masks_seen (take_more ts i t l ∙ ap (λ x. take i ts ++ x ∷ []) (sym e)) ∙ filter_map-append (λ (x : TableState). mask_seen x.mask x.rows) (take i ts) (t ∷ [])
-
--- one more table that has rows adds its kind set
-pub more_seen : (ts : List TableState) (i : ℕ) (t : TableState) (b : Bool) → i < length ts → t ≡ get_or ts i t → (t.rows ≡ [] → IsTrue b) → b ≡ false → masks_seen (take (i + 1) ts) ≡ masks_seen (take i ts) ++ t.mask ∷ []
-more_seen ts i t b l e says is = one_more ts i t l e ∙ ap (λ m. masks_seen (take i ts) ++ m) (one_seen t (λ none. absurd (let wrong : false ≡ true = sym is ∙ says none in cc)))
+-- one more table that has rows is added
+pub more_seen : (ts : List TableState) (i : ℕ) (t : TableState) (b : Bool) → i < length ts → t ≡ get_or ts i t → (t.rows ≡ [] → IsTrue b) → b ≡ false → with_some (take (i + 1) ts) ≡ with_some (take i ts) ++ t ∷ []
+more_seen ts i t b l e says is = one_more ts i t true l e (some_rows t.rows (λ none. absurd (let wrong : false ≡ true = sym is ∙ says none in cc)))
 
 -- one more table without rows adds nothing
-pub more_empty : (ts : List TableState) (i : ℕ) (t : TableState) (b : Bool) → i < length ts → t ≡ get_or ts i t → (IsTrue b → t.rows ≡ []) → b ≡ true → masks_seen (take (i + 1) ts) ≡ masks_seen (take i ts)
-more_empty ts i t b l e says is = one_more ts i t l e ∙ (ap (λ m. masks_seen (take i ts) ++ m) (one_empty t (says is)) ∙ append-nil (masks_seen (take i ts)))
+pub more_empty : (ts : List TableState) (i : ℕ) (t : TableState) (b : Bool) → i < length ts → t ≡ get_or ts i t → (IsTrue b → t.rows ≡ []) → b ≡ true → with_some (take (i + 1) ts) ≡ with_some (take i ts)
+more_empty ts i t b l e says is = one_more ts i t false l e (ap has_some (says is)) ∙ append-nil (with_some (take i ts))
 
 -- a kind set that no table has isn't among them
 none_among : (mask : ℕ) (ts : List TableState) → NoneHas mask ts → AllByRecursion (λ y. nat_eq mask y ≡ false) (masks_seen ts)
@@ -151,13 +149,55 @@ among_seen : (q : ℕ) (ts : List TableState) → AreApart ts → list_any (eq_b
 among_seen q [] h = refl
 among_seen q (t ∷ ts) h = with_table q t ts t.rows h.0 (among_seen q ts h.1) ∙ ap is_some (sym (get-with_list nat_cmp_total (tables_of ts) t.mask t.rows q))
 
--- sorted, they are the keys of the map
-pub sorted_masks : (ts : List TableState) (sets : List ℕ) → AreApart ts → IsPermutation (masks_seen ts) sets → IsSorted nat_cmp sets → sets ≡ each (λ t. t.0) (tables_of ts).entries
-sorted_masks ts sets h moved sorted =
-    let distinct = IsDistinct-IsPermutation nat_eq flips (masks_seen ts) sets moved (masks_distinct ts h) in
-    let rising = sorted_from_strictly_increasing sets (IsStrictlyIncreasing-from_distinct sets (IsNonDecreasingBy-from_sort (λ x. x) sets sorted) distinct) in
-    keys_alike sets (tables_of ts).entries rising (tables_of ts).sorted
-    (λ q. sym (list_any-IsPermutation (eq_by_cmp nat_cmp q) (masks_seen ts) sets moved) ∙ among_seen q ts h)
+-- ---- those tables sorted
+
+-- what is in order by a number has its numbers in order
+pub numbers_in_order : {X : Type 0} (n : X → ℕ) (xs : List X) → IsNonDecreasingBy n xs → IsNonDecreasing (each n xs)
+numbers_in_order n [] h i j d l under = let wrong : j < 0 = under in absurd (omega arith)
+numbers_in_order n (x ∷ xs) h i j d l under =
+    let count = length-map (x ∷ xs) n in
+    let below : j < length (x ∷ xs) = omega (arith, under, count) in
+    let at_i = get_or-map n (x ∷ xs) i x d (omega (arith, l, below)) in
+    let at_j = get_or-map n (x ∷ xs) j x d below in
+    let up = h i j x l below in omega (arith, up, at_i, at_j)
+
+-- sorted, their kind sets are the keys of the map
+pub sorted_masks : (ts ys : List TableState) → AreApart ts → IsPermutation (with_some ts) ys → IsNonDecreasing (each (λ t. t.mask) ys) → each (λ t. t.mask) ys ≡ masks_of (tables_of ts)
+sorted_masks ts ys h moved sorted =
+    let moved_masks = IsPermutation-map (λ (t : TableState). t.mask) (with_some ts) ys moved in
+    let distinct = IsDistinct-IsPermutation nat_eq flips (masks_seen ts) (each (λ t. t.mask) ys) moved_masks (masks_distinct ts h) in
+    let rising = sorted_from_strictly_increasing (each (λ t. t.mask) ys) (IsStrictlyIncreasing-from_distinct (each (λ t. t.mask) ys) sorted distinct) in
+    keys_alike (each (λ t. t.mask) ys) (tables_of ts).entries rising (tables_of ts).sorted
+    (λ q. sym (list_any-IsPermutation (eq_by_cmp nat_cmp q) (masks_seen ts) (each (λ t. t.mask) ys) moved_masks) ∙ among_seen q ts h)
   where
     flips : (a b : ℕ) → nat_eq a b ≡ nat_eq b a
     flips a b = grind (arith, nat_tests)
+
+-- ---- their rows
+
+-- a map shows the rows of a table
+abbrev pub Shows : Tables → TableState → Type 0
+Shows m t = rows_at m t.mask ≡ t.rows
+
+-- one more table leaves the rows of the others
+others_shown : (t : TableState) (m : Tables) (ts : List TableState) → NoneHas t.mask ts → AllByRecursion (Shows m) ts → AllByRecursion (Shows (with_rows m t.mask t.rows)) ts
+others_shown t m [] none h = tt
+others_shown t m (x ∷ ts) none h =
+    (list_at_apart nat_cmp_total nat_cmp-IsAntisymmetric m t.mask x.mask t.rows (λ e. none.0 (sym e)) ∙ h.0, others_shown t m ts none.1 h.1)
+
+-- the rows of each table are seen
+all_shown : (ts : List TableState) → AreApart ts → AllByRecursion (Shows (tables_of ts)) ts
+all_shown [] h = tt
+all_shown (t ∷ ts) h = (list_at_same nat_cmp_total (tables_of ts) t.mask t.rows, others_shown t (tables_of ts) ts h.0 (all_shown ts h.1))
+
+-- rows that are seen are those at the kind sets
+rows_by_masks : (m : Tables) (ys : List TableState) → AllByRecursion (Shows m) ys → each (λ t. t.rows) ys ≡ each (rows_at m) (each (λ t. t.mask) ys)
+rows_by_masks m [] h = refl
+rows_by_masks m (y ∷ ys) h = λ i. sym h.0 i ∷ rows_by_masks m ys h.1 i
+
+-- sorted or not, the rows of tables that have some are those at their kind sets
+pub rows_seen : (ts ys : List TableState) → AreApart ts → IsPermutation (with_some ts) ys → each (λ t. t.rows) ys ≡ each (rows_at (tables_of ts)) (each (λ t. t.mask) ys)
+rows_seen ts ys h moved =
+    let shown = All-from_recursion (Shows (tables_of ts)) ts (all_shown ts h) in
+    rows_by_masks (tables_of ts) ys (recursion_from_All (Shows (tables_of ts)) ys
+    (All-permutation (Shows (tables_of ts)) (with_some ts) ys moved (All-filter (λ (t : TableState). has_some t.rows) (Shows (tables_of ts)) ts shown)))

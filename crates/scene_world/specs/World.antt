@@ -85,8 +85,11 @@ abbrev pub rows_of : World → ℕ → Option (List Row)
 rows_of w mask = option_map whole (map.get w.tables mask)
 
 -- the kind sets with rows, ascending
+abbrev pub masks_of : Tables → List ℕ
+masks_of tables = each (λ t. t.0) tables.entries
+
 abbrev pub kind_sets : World → List ℕ
-kind_sets w = each (λ t. t.0) w.tables.entries
+kind_sets w = masks_of w.tables
 
 -- the home and the row of a live entity
 abbrev pub row_of : World → Entity → Option (Home × Row)

@@ -304,6 +304,21 @@ fn readers_tell_the_live_from_the_dead(rt: HostRuntime) -> Result<(), Fail> {
 }
 
 #[test]
+fn tables_come_by_kind_set(rt: HostRuntime) -> Result<(), Fail> {
+    let alloc = rt.alloc();
+    let mut world = reused(alloc)?;
+    world.insert(NEW, 1, Value::Tag)?;
+    world.spawn(cells_of(alloc, &[])?)?;
+    let tables = world.tables_in_order()?;
+    let counts: Vec<(u64, usize)> = tables
+        .iter()
+        .map(|table| (table.mask(), table.len()))
+        .collect(alloc)?;
+    assert_eq!(rt; counts.as_slice(), [(0, 1), (3, 1)].as_slice());
+    Ok(())
+}
+
+#[test]
 fn parents_are_set_and_removed(rt: HostRuntime) -> Result<(), Fail> {
     let mut world = reused(rt.alloc())?;
     let parent = world.spawn(cells_of(rt.alloc(), &[])?)?;

@@ -1,8 +1,8 @@
 //! The world: entities with their components, links and resources.
-ghost use Rattle.std.specs.Prelude.{◌≡◌, ◌≤◌, MatchResult, IfOk, IfSome, Ok, Err, option_map};
+ghost use Rattle.std.specs.Prelude.{◌≡◌, ◌≤◌, MatchResult, IfOk, IfSome, Ok, Err, option_map, map as each};
 ghost use Rattle.scene_kinds.specs.Answers.{Gives};
 ghost use Rattle.scene_kinds.specs.Cells.{shown};
-ghost use Rattle.scene_world.specs.World.{new_world, is_live, mask_at, home_of, cell_at, place_at, rows_of, kind_sets};
+ghost use Rattle.scene_world.specs.World.{new_world, is_live, mask_at, home_of, cell_at, place_at, rows_at, rows_of, kind_sets};
 ghost use Rattle.scene_world.specs.Commands.{raise_tick};
 ghost use Rattle.scene_world.specs.Stored.{IsHomeOf};
 ghost use Rattle.scene_world.specs.Valid.{IsValid};
@@ -20,7 +20,7 @@ mod spawn;
 use crate::clones::clone_tables;
 use crate::given::is_unknown;
 use crate::home::Home;
-use crate::kind_sets::kind_sets_of;
+use crate::kind_sets::{kind_sets_of, tables_by_kind_set};
 use crate::tables::{cell_there, find_home, table_with_rows};
 use scene_alloc::Slots;
 use scene_kinds::{CellRef, Entity, Fault, Refusal, Schema};
@@ -205,6 +205,15 @@ impl World {
         ensures { IfOk result (λ sets. sets.items ≡ kind_sets self.now) }
     {
         kind_sets_of(self.alloc, self.tables.as_slice())
+    }
+
+    /// The tables that have rows, ascending by kind set, or an error where no memory was found: a pass over them
+    /// looks no table up. It costs the number of kind sets times its logarithm.
+    pub fn tables_in_order(&self) -> Result<Vec<&Table>, AllocError>
+        ensures masks { IfOk result (λ tables. each (λ t. t.now.mask) tables.items ≡ kind_sets self.now) }
+        ensures rows { IfOk result (λ tables. each (λ t. t.now.rows) tables.items ≡ each (rows_at self.now.tables) (kind_sets self.now)) }
+    {
+        tables_by_kind_set(self.alloc, self.tables.as_slice())
     }
 
     /// An equal world, or an error where no memory was found. It costs a copy of the whole world.
