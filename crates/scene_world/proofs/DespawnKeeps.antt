@@ -1,5 +1,5 @@
 -- An accepted despawn keeps a valid world valid.
-use Rattle.std.proofs.Common.{◌≡◌, ℕ, ◌+◌, ◌<◌, ◌≤◌, Bool, true, false, ◌||◌, nat_eq, List, [], ◌∷◌, ◌++◌, length, refl, ap, subst, sym, ◌∙◌, arith, Option, Some, None, Ok, set, slice_get, slice_index, length-set, if◌then◌else◌}
+use Rattle.std.proofs.Common.{◌≡◌, ℕ, ◌+◌, ◌<◌, true, false, ◌||◌, nat_eq, List, [], ◌∷◌, length, refl, ap, subst, sym, ◌∙◌, arith, Some, None, Ok, slice_get, slice_index, length-set, if◌then◌else◌}
 use Rattle.std.specs.Prelude.{Result, Err, is_some, ◌==◌}
 use Rattle.std.specs.List.{list_all, list_any}
 use Rattle.std.proofs.lemmas.Bool.{or_right}
@@ -14,12 +14,12 @@ use Rattle.scene_kinds.specs.Lists.{listed}
 use Rattle.scene_kinds.specs.Map as map
 use Rattle.scene_alloc.specs.Slots.{SlotState, IsSlots, CanRelease, is_free, retires, release_of}
 use Rattle.scene_alloc.proofs.Moves.{freed, IsSlots-release}
-use Rattle.scene_links.specs.Forest.{Forest, IsLink, cut, cut_from, children_of, parent_of, unlinked, unlink_of}
+use Rattle.scene_links.specs.Forest.{Forest, cut, cut_from, children_of, parent_of, unlinked, unlink_of}
 use Rattle.scene_links.proofs.Cuts.{cut_forest, cut_part, left_out}
 use Rattle.scene_world.specs.declared.home.Home.{Home}
-use Rattle.scene_world.specs.World.{World, Tables, row_at, without_row}
-use Rattle.scene_world.specs.Commands.{gone, despawn}
-use Rattle.scene_world.specs.Valid.{IsValid, IsRowOf, IsCurrent, is_live_index, is_retired, is_timely, EachRow}
+use Rattle.scene_world.specs.World.{World, row_at, without_row}
+use Rattle.scene_world.specs.Commands.{gone}
+use Rattle.scene_world.specs.Valid.{IsValid, IsRowOf, IsCurrent, is_live_index, is_retired, is_timely}
 use Rattle.scene_world.specs.Laws.{DespawnKeeps}
 use Rattle.scene_world.proofs.Outcomes.{not_ok, same_world, with_row_of}
 use Rattle.scene_world.proofs.RowLists.{written_stays}

@@ -1,5 +1,5 @@
 -- The home of an entity: where the search finds it its row stands, and an entity that has a row is found.
-use Rattle.std.proofs.Common.{◌≡◌, ℕ, zero, suc, ◌+◌, Bool, true, false, cond, T, List, [], ◌∷◌, length, refl, ap, subst, sym, ◌∙◌, arith, Option, Some, None, ◌&&◌}
+use Rattle.std.proofs.Common.{◌≡◌, ℕ, zero, suc, ◌+◌, true, false, cond, T, List, [], ◌∷◌, refl, ap, subst, sym, ◌∙◌, arith, Some, None}
 use Rattle.std.specs.Prelude.{slice_get, option_map, is_some}
 use Rattle.std.specs.Option.{option_or}
 use Rattle.std.specs.List.{position_from}

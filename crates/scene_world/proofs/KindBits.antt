@@ -1,6 +1,6 @@
 -- The kind set of a row as a number, when one kind comes or goes.
-use Rattle.std.proofs.Common.{◌≡◌, ℕ, zero, suc, ◌+◌, ◌-◌, ◌*◌, ◌%◌, ◌^◌, ◌<◌, ◌≤◌, Bool, true, false, ◌&&◌, List, [], ◌∷◌, length, nat_lt, refl, ap, subst, sym, ◌∙◌, arith, Option, Some, None}
-use Rattle.std.specs.Prelude.{slice_get, slice_index_or, option_map, IsSome, is_some}
+use Rattle.std.proofs.Common.{◌≡◌, ℕ, zero, suc, ◌+◌, ◌-◌, ◌*◌, ◌%◌, ◌^◌, ◌<◌, ◌≤◌, true, false, ◌&&◌, List, [], ◌∷◌, length, nat_lt, refl, ap, subst, sym, ◌∙◌, arith, Option, Some, None}
+use Rattle.std.specs.Prelude.{slice_get, option_map, IsSome, is_some}
 use Rattle.std.specs.Option.{option_flatten}
 use Rattle.std.specs.List.{list_all}
 use Rattle.std.proofs.lemmas.Bool.{and_parts}
@@ -11,7 +11,7 @@ use Rattle.scene_kinds.specs.declared.cells.Row.{Row}
 use Rattle.scene_kinds.specs.declared.shape.Shape.{Shape}
 use Rattle.scene_kinds.specs.declared.value.Value.{Value}
 use Rattle.scene_kinds.specs.Cells.{HasKinds, AreKindsBelow, cell_of, with_cell, without_cell, mask_of}
-use Rattle.scene_kinds.specs.Schema.{Kinds, fits_kind, has_shape, shape_of}
+use Rattle.scene_kinds.specs.Schema.{Kinds, fits_kind, has_shape}
 use Rattle.scene_kinds.proofs.CellLaws.{ascending-with_cell, all-with_cell}
 use Rattle.scene_kinds.proofs.Masks.{mask-below, mask-with_cell_new, mask-without_cell}
 use Rattle.scene_table.specs.Table.{cell_at}

@@ -1,12 +1,12 @@
 -- Who is alive after a row was added, taken out or written.
-use Rattle.std.proofs.Common.{◌≡◌, ℕ, ◌<◌, Bool, true, false, ◌||◌, refl, ap, sym, ◌∙◌, Some, List, length, arith, slice_index, slice_get}
+use Rattle.std.proofs.Common.{◌≡◌, ℕ, ◌<◌, Bool, true, false, ◌||◌, refl, ap, sym, ◌∙◌, Some, List, length, slice_index, slice_get}
 use Rattle.std.specs.Prelude.{is_some}
 use Rattle.std.proofs.lemmas.Option.{get_or_from_slice_get, slice_get-get_or}
 use Rattle.scene_kinds.specs.declared.entity.Entity.{Entity}
 use Rattle.scene_kinds.specs.declared.cells.Row.{Row}
 use Rattle.scene_world.specs.declared.home.Home.{Home}
 use Rattle.scene_world.specs.World.{Tables, row_at, home_in, with_row, without_row, with_row_at}
-use Rattle.scene_world.proofs.Homes.{IsHome, here_live, live_here}
+use Rattle.scene_world.proofs.Homes.{here_live, live_here}
 use Rattle.scene_world.proofs.Rows.{added_stays, removed_stays, rewritten_stays}
 
 -- an entity has a row

@@ -1,6 +1,6 @@
 -- Raising the tick, an accepted insert and an accepted remove keep a valid world valid.
-use Rattle.std.proofs.Common.{◌≡◌, ℕ, ◌+◌, ◌<◌, ◌≤◌, Bool, true, false, ◌||◌, ◌&&◌, nat_eq, nat_lt, List, [], ◌∷◌, length, refl, ap, subst, sym, ◌∙◌, arith, Option, Some, None, Ok, slice_get, slice_index, if◌then◌else◌}
-use Rattle.std.specs.Prelude.{Result, Err, nat_le, is_some}
+use Rattle.std.proofs.Common.{◌≡◌, ℕ, ◌+◌, ◌≤◌, Bool, true, false, ◌&&◌, nat_eq, List, [], ◌∷◌, refl, ap, subst, sym, ◌∙◌, arith, Option, Some, None, Ok, slice_index, if◌then◌else◌}
+use Rattle.std.specs.Prelude.{nat_le}
 use Rattle.std.specs.List.{list_all}
 use Rattle.std.specs.Ordering.{nat_cmp, eq_by_cmp}
 use Rattle.std.proofs.lemmas.Bool.{and_parts}
@@ -9,7 +9,7 @@ use Rattle.scene_kinds.specs.declared.entity.Entity.{Entity}
 use Rattle.scene_kinds.specs.declared.cell.Cell.{Cell}
 use Rattle.scene_kinds.specs.declared.cells.Row.{Row}
 use Rattle.scene_kinds.specs.declared.value.Value.{Value}
-use Rattle.scene_kinds.specs.declared.fault.Fault.TheVariants.{TickFull, NoSuchKind, NotPresent}
+use Rattle.scene_kinds.specs.declared.fault.Fault.TheVariants.{TickFull}
 use Rattle.scene_kinds.specs.Answers.{Outcome, refuse}
 use Rattle.scene_kinds.specs.Cells.{cell_of, with_cell, without_cell, mask_of}
 use Rattle.scene_kinds.specs.Entity.{entity_cmp_exact, entity_cmp_total, is_same}
@@ -20,12 +20,12 @@ use Rattle.scene_kinds.proofs.Masks.{mask-with_cell_there}
 use Rattle.scene_alloc.specs.Slots.{is_free}
 use Rattle.scene_table.specs.Table.{row_with_cell}
 use Rattle.scene_world.specs.declared.home.Home.{Home}
-use Rattle.scene_world.specs.World.{World, Tables, row_at, home_in, with_row, without_row, with_row_at, row_of, is_unknown}
-use Rattle.scene_world.specs.Commands.{raise_tick, highest_tick, moved, inserted, new_cell, insert, insert_fault, remove, remove_fault}
+use Rattle.scene_world.specs.World.{World, Tables, row_at, without_row, with_row_at}
+use Rattle.scene_world.specs.Commands.{highest_tick, moved, inserted, new_cell, insert_fault, remove_fault}
 use Rattle.scene_world.specs.Valid.{IsValid, IsRowOf, IsCurrent, is_live_index, is_retired, is_timely, EachRow}
 use Rattle.scene_world.specs.Laws.{RaiseKeeps, InsertKeeps, RemoveKeeps}
 use Rattle.scene_world.proofs.Outcomes.{no_fault, not_ok, same_world, with_row_of}
-use Rattle.scene_world.proofs.Homes.{here_live, live_here}
+use Rattle.scene_world.proofs.Homes.{live_here}
 use Rattle.scene_world.proofs.Rows.{added_there, each_added, once_added, each_removed, once_removed, removed_nowhere, each_rewritten, once_rewritten}
 use Rattle.scene_world.proofs.Lives.{lives, lives_added, lives_removed, lives_rewritten, one_of, first_of_three, second_of_three, third_of_three}
 use Rattle.scene_world.proofs.NewCells.{timely_now, insert_tests}

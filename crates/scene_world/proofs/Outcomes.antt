@@ -1,15 +1,14 @@
 -- What an accepted outcome says of its parts.
-use Rattle.std.proofs.Common.{◌≡◌, Bool, true, false, cond, refl, ap, sym, ◌∙◌, Option, Some, None, Ok}
+use Rattle.std.proofs.Common.{◌≡◌, refl, ap, sym, ◌∙◌, Option, Some, None, Ok}
 use Rattle.std.specs.Prelude.{Result, Err, option_map, option_and_then}
 use Rattle.scene_kinds.specs.declared.entity.Entity.{Entity}
 use Rattle.scene_kinds.specs.declared.cells.Row.{Row}
 use Rattle.scene_kinds.specs.declared.fault.Fault.{Fault}
-use Rattle.scene_kinds.specs.declared.refusal.Refusal.{Refusal}
-use Rattle.scene_kinds.specs.Answers.{Outcome, refuse}
+use Rattle.scene_kinds.specs.Answers.{Outcome}
 use Rattle.scene_world.specs.declared.home.Home.{Home}
-use Rattle.scene_world.specs.World.{World, Tables, home_of, row_of, row_at}
+use Rattle.scene_world.specs.World.{World, home_of, row_of, row_at}
 use Rattle.scene_world.specs.Commands.{unless, with_live}
-use Rattle.scene_world.proofs.Homes.{IsHome, home_found}
+use Rattle.scene_world.proofs.Homes.{home_found}
 
 pub same_ok : {A E : Type 0} (x y : A) → ◌≡◌ {A = Result A E} (Ok x) (Ok y) → x ≡ y
 same_ok x y e = cc

@@ -1,5 +1,5 @@
 -- What an accepted outcome says of a part of the world that answered it, and of the tests before it.
-use Rattle.std.proofs.Common.{◌≡◌, Bool, true, false, cond, ◌&&◌, refl, Ok}
+use Rattle.std.proofs.Common.{◌≡◌, Bool, true, false, cond, refl, Ok}
 use Rattle.std.specs.Prelude.{Err}
 use Rattle.scene_kinds.specs.declared.fault.Fault.{Fault}
 use Rattle.scene_kinds.specs.Answers.{Outcome, refuse}

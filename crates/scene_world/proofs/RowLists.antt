@@ -1,7 +1,7 @@
 -- A list of rows after a push, a write or a swap out: which row stands where, told by cases.
-use Rattle.std.proofs.Common.{◌≡◌, ℕ, zero, suc, ◌+◌, ◌-◌, ◌<◌, ◌≤◌, List, [], ◌∷◌, ◌++◌, length, refl, ap, subst, sym, ◌∙◌, arith, Option, Some, None}
+use Rattle.std.proofs.Common.{◌≡◌, ℕ, zero, suc, ◌<◌, List, [], ◌∷◌, ◌++◌, length, refl, ap, ◌∙◌, arith, Some, None}
 use Rattle.std.specs.Prelude.{slice_get, slice_set}
-use Rattle.scene_table.specs.Rows.{swap_out, last_of, front_of, last_first}
+use Rattle.scene_table.specs.Rows.{swap_out, last_of, front_of}
 
 -- a value that stands in a list stands below its length
 pub within : {X : Type 0} (xs : List X) (p : ℕ) (r : X) → slice_get xs p ≡ Some r → p < length xs

@@ -1,5 +1,5 @@
 -- A scan over the tables of the code finds the home of an entity.
-use Rattle.std.proofs.Common.{◌≡◌, ℕ, Bool, true, false, List, [], ◌∷◌, refl, ap, subst, sym, ◌∙◌, Option, Some, None, nat_eq}
+use Rattle.std.proofs.Common.{◌≡◌, ℕ, true, false, List, [], ◌∷◌, refl, ap, subst, sym, ◌∙◌, Option, Some, None, nat_eq}
 use Rattle.std.specs.Prelude.{option_map, option_and_then, IfSome}
 use Rattle.std.specs.Option.{option_or}
 use Rattle.std.specs.Cmp.{nat_cmp_total}
@@ -16,7 +16,7 @@ use Rattle.scene_alloc.specs.Slots.{SlotState}
 use Rattle.scene_links.specs.Forest.{Forest}
 use Rattle.scene_resources.specs.Resources.{NamedCells}
 use Rattle.scene_world.specs.Stored.{tables_of, AreApart, scan, seen, IsSound, IsHomeOf}
-use Rattle.scene_world.proofs.Homes.{HasAt, IsHome, home_found, place_found, place_missed, home_is, home_none, nowhere}
+use Rattle.scene_world.proofs.Homes.{HasAt, home_found, place_found, place_missed, home_is, home_none, nowhere}
 use Rattle.scene_world.proofs.RowLists.{within}
 use Rattle.scene_world.proofs.Stored.{eq_of_test, ne_of_test, none_seen}
 

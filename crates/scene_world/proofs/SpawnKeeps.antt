@@ -1,6 +1,6 @@
 -- An accepted spawn keeps a valid world valid.
-use Rattle.std.proofs.Common.{◌≡◌, ℕ, ◌<◌, ◌≤◌, Bool, true, false, ◌||◌, nat_eq, List, length, refl, ap, subst, sym, ◌∙◌, arith, Option, Some, None, Ok, slice_get, slice_index, ⊎_elim}
-use Rattle.std.specs.Prelude.{Result, Err}
+use Rattle.std.proofs.Common.{◌≡◌, ℕ, ◌<◌, true, false, ◌||◌, nat_eq, List, length, refl, ap, subst, sym, ◌∙◌, arith, Some, None, Ok, slice_get, slice_index, ⊎_elim}
+use Rattle.std.specs.Prelude.{Err}
 use Rattle.std.specs.List.{list_all}
 use Rattle.std.proofs.lemmas.Bool.Decides.{nat_tests}
 use Rattle.scene_kinds.specs.declared.entity.Entity.{Entity}
@@ -9,14 +9,13 @@ use Rattle.scene_kinds.specs.declared.cells.Row.{Row}
 use Rattle.scene_kinds.specs.declared.value.Value.{Value}
 use Rattle.scene_kinds.specs.Answers.{Outcome}
 use Rattle.scene_kinds.specs.Cells.{mask_of}
-use Rattle.scene_kinds.specs.Schema.{fits_kind}
 use Rattle.scene_alloc.specs.Slots.{SlotState, IsSlots, is_free, take_of}
-use Rattle.scene_world.specs.World.{World, Tables, row_at, with_row}
+use Rattle.scene_world.specs.World.{World, with_row}
 use Rattle.scene_world.specs.Commands.{spawned, spawn_fault, new_cells}
-use Rattle.scene_world.specs.Valid.{IsValid, IsRowOf, IsCurrent, is_live_index, is_retired, is_timely, EachRow}
+use Rattle.scene_world.specs.Valid.{IsValid, IsRowOf, IsCurrent, is_live_index, is_retired, is_timely}
 use Rattle.scene_world.specs.Laws.{SpawnKeeps}
 use Rattle.scene_world.proofs.Outcomes.{no_fault, not_ok, same_world}
-use Rattle.scene_world.proofs.Homes.{here_live, live_here}
+use Rattle.scene_world.proofs.Homes.{live_here}
 use Rattle.scene_world.proofs.Rows.{StandsNowhere, added_there, each_added, once_added}
 use Rattle.scene_world.proofs.Lives.{lives, lives_added, read, there, one_of, first_of_three, second_of_three, third_of_three}
 use Rattle.scene_world.proofs.NewCells.{new_ascending, new_shapes, new_timely, spawn_tests}

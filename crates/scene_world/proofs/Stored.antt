@@ -1,22 +1,18 @@
 -- The tables of the code after one of them was made, grown or written.
 use Rattle.std.proofs.Common.{◌≡◌, ℕ, zero, suc, ◌+◌, ◌<◌, ◌≤◌, Bool, true, false, cond, List, [], ◌∷◌, ◌++◌, length, refl, ap, subst, sym, ◌∙◌, arith, Option, Some, None, Ok, nat_eq, length-set, get_or-set_same}
-use Rattle.std.specs.Prelude.{slice_get, slice_set, slice_index_or, Result, Err, OnOk, IfOk, IfSome, IfNone, option_map}
+use Rattle.std.specs.Prelude.{slice_set, slice_index_or, Result, Err, OnOk, IfOk, IfSome, IfNone, option_map}
 use Rattle.std.specs.List.{position_from}
 use Rattle.std.specs.Ordering.{nat_cmp}
 use Rattle.std.specs.Cmp.{nat_cmp_total}
 use Rattle.std.specs.FinMap.{nat_cmp-IsAntisymmetric}
 use Rattle.std.proofs.lemmas.Bool.Decides.{nat_tests}
-use Rattle.scene_kinds.specs.declared.entity.Entity.{Entity}
 use Rattle.scene_kinds.specs.declared.cells.Row.{Row}
-use Rattle.scene_kinds.specs.Cells.{HasKinds, mask_of}
 use Rattle.scene_kinds.specs.Lists.{whole, listed}
 use Rattle.scene_kinds.specs.Map as map
 use Rattle.scene_kinds.proofs.Lists.{list_at_same, list_at_apart, with_list-with_list, with_list_apart, get-with_list}
 use Rattle.scene_kinds.proofs.Maps.{same_map}
-use Rattle.scene_table.specs.Rows.{swap_out}
 use Rattle.scene_table.specs.Table.{TableState}
-use Rattle.scene_world.specs.declared.home.Home.{Home}
-use Rattle.scene_world.specs.World.{Tables, rows_at, with_rows, with_row, without_row}
+use Rattle.scene_world.specs.World.{Tables, rows_at, with_rows}
 use Rattle.scene_world.specs.Stored.{tables_of, IsFirstOf, StandsAt, HasRoomAt, NoneHas, AreApart}
 
 pub eq_of_test : (a b : ℕ) → nat_eq a b ≡ true → a ≡ b

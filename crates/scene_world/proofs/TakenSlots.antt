@@ -1,5 +1,5 @@
 -- What a take of a slot leaves, as a world sees it.
-use Rattle.std.proofs.Common.{◌≡◌, ℕ, zero, suc, ◌+◌, ◌<◌, ◌≤◌, Bool, true, false, ◌||◌, nat_eq, List, [], ◌∷◌, ◌++◌, length, refl, ap, subst, sym, ◌∙◌, arith, Option, Some, None, Ok, length-append, slice_get, slice_index, ◌⊎◌, inl, inr}
+use Rattle.std.proofs.Common.{◌≡◌, ℕ, ◌<◌, Bool, true, false, ◌||◌, nat_eq, List, [], ◌∷◌, ◌++◌, length, refl, ap, sym, ◌∙◌, arith, Some, None, Ok, length-append, slice_get, ◌⊎◌, inl, inr}
 use Rattle.std.specs.List.{list_any}
 use Rattle.std.proofs.lemmas.Bool.{or_parts, or_right}
 use Rattle.std.proofs.lemmas.Bool.Decides.{nat_tests}
@@ -7,8 +7,8 @@ use Rattle.scene_kinds.specs.declared.entity.Entity.{Entity}
 use Rattle.scene_alloc.specs.Ends.{last, front}
 use Rattle.scene_alloc.specs.Slots.{SlotState, IsSlots, is_free, take_of}
 use Rattle.scene_alloc.proofs.Ends.{push-last}
-use Rattle.scene_alloc.proofs.Moves.{take_cases, IsSlots-take, CanUntake-take, created, after_new, reused, after_reuse}
-use Rattle.scene_world.proofs.RowLists.{within, pushed_stays}
+use Rattle.scene_alloc.proofs.Moves.{take_cases, IsSlots-take, CanUntake-take}
+use Rattle.scene_world.proofs.RowLists.{pushed_stays}
 
 pub record IsTaken (s t : SlotState) (e : Entity) : Type 0 where
   pub sound : IsSlots t

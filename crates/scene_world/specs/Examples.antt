@@ -1,7 +1,6 @@
 -- Worked examples: what the definitions compute for short scripts. Each line of a script is a frame of commands, an undo or a redo.
-use Rattle.std.specs.Prelude.{◌≡◌, ℕ, List, [], ◌∷◌, ◌++◌, Option, Some, None, Ok, Err, Result, pos, T}
+use Rattle.std.specs.Prelude.{◌≡◌, ℕ, List, [], ◌∷◌, ◌++◌, Ok, Err, Result, pos, T}
 use Rattle.std.specs.Ordering.{nat_cmp}
-use Rattle.std.specs.Cmp.Lexicographic.{slice_cmp}
 use Rattle.std.specs.FinMap.Entries.{is_sorted}
 use Rattle.scene_kinds.specs.declared.entity.Entity.{Entity}
 use Rattle.scene_kinds.specs.declared.cell.Cell.{Cell}
@@ -13,11 +12,10 @@ use Rattle.scene_kinds.specs.declared.refusal.Refusal.{Refusal}
 use Rattle.scene_kinds.specs.declared.fault.Fault.{Fault}
 use Rattle.scene_kinds.specs.declared.fault.Fault.TheVariants.{NoSuchEntity, HasChildren, NotPresent, WrongShape, NoSuchKind, DuplicateKind, SelfParent, Cycle, NoParent, NoSuchResource, EntitiesFull}
 use Rattle.scene_kinds.specs.Answers.{Outcome, refusal_of, refuse}
-use Rattle.scene_kinds.specs.Entity.{entity_cmp}
 use Rattle.scene_kinds.specs.Map as map
 use Rattle.scene_kinds.specs.Schema.{Kinds}
 use Rattle.scene_world.specs.World.{World, new_world, cell_at}
-use Rattle.scene_world.specs.Commands.{and_then, done, raise_tick, spawn, despawn, despawn_recursive, insert, remove, set_parent, remove_parent, put_resource, remove_resource}
+use Rattle.scene_world.specs.Commands.{and_then, raise_tick, spawn, despawn, despawn_recursive, insert, remove, set_parent, remove_parent, put_resource, remove_resource}
 use Rattle.scene_world.specs.Machine.{Machine, opening, submitted, undo, redo}
 
 -- a command, with the entities that it spawned

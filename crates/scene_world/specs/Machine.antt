@@ -1,6 +1,5 @@
 -- The machine of saved worlds, whatever a world and a frame are: the meaning of undo and redo.
-use Rattle.std.specs.Prelude.{ℕ, ◌+◌, List, [], ◌∷◌, Option, Some, None, Ok, Err, Result, nat_eq, if◌then◌else◌}
-use Rattle.scene_kinds.specs.declared.refusal.Refusal.{Refusal}
+use Rattle.std.specs.Prelude.{ℕ, ◌+◌, List, [], ◌∷◌, Ok, Err, nat_eq, if◌then◌else◌}
 use Rattle.scene_kinds.specs.declared.fault.Fault.TheVariants.{NothingToUndo, NothingToRedo, TickFull}
 use Rattle.scene_kinds.specs.Answers.{Outcome, refuse}
 

@@ -1,16 +1,14 @@
 -- A valid world: ten rules, each a named fact, in their order.
-use Rattle.std.specs.Prelude.{◌≡◌, ◌≢◌, ℕ, ◌<◌, ◌≤◌, List, Bool, true, false, ◌||◌, ◌&&◌, Option, Some, None, Result, Ok, nat_eq, nat_lt, nat_le, length, slice_get, slice_index, All}
+use Rattle.std.specs.Prelude.{◌≡◌, ℕ, ◌<◌, ◌≤◌, List, Bool, true, false, ◌||◌, ◌&&◌, Some, nat_eq, nat_le, length, slice_get, slice_index, All}
 use Rattle.std.specs.List.{list_all, IsDistinct}
 use Rattle.scene_kinds.specs.declared.entity.Entity.{Entity}
 use Rattle.scene_kinds.specs.declared.cell.Cell.{Cell}
 use Rattle.scene_kinds.specs.declared.cells.Row.{Row}
-use Rattle.scene_kinds.specs.declared.value.Value.{Value}
 use Rattle.scene_kinds.specs.Cells.{HasKinds}
 use Rattle.scene_kinds.specs.Map as map
 use Rattle.scene_kinds.specs.Schema.{Kinds, fits_kind, is_good_name}
-use Rattle.scene_alloc.specs.Slots.{SlotState, IsSlots, is_free, highest}
-use Rattle.scene_links.specs.Forest.{Forest, IsForest, IsLink}
-use Rattle.scene_resources.specs.Resources.{NamedCells}
+use Rattle.scene_alloc.specs.Slots.{SlotState, is_free, highest}
+use Rattle.scene_links.specs.Forest.{IsForest, IsLink}
 use Rattle.scene_world.specs.declared.home.Home.{Home}
 use Rattle.scene_world.specs.World.{World, Tables, row_at, is_live}
 

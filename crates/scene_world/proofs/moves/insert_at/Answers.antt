@@ -1,8 +1,8 @@
-use Rattle.std.proofs.Common.{◌≡◌, ◌<◌, ◌+◌, ◌*◌, ◌^◌, ◌%◌, ◌∙◌, ℕ, Option, None, Some, ap, sym, subst, arith, List}
+use Rattle.std.proofs.Common.{◌≡◌, ◌<◌, ◌+◌, ◌*◌, ◌^◌, ◌%◌, ◌∙◌, ℕ, None, Some, ap, sym, subst, arith, List}
 use Rattle.std.specs.Prelude.{option_map}
 use Rattle.scene_kinds.specs.declared.cell.Cell.{Cell}
 use Rattle.scene_kinds.specs.declared.cells.Row.{Row}
-use Rattle.scene_kinds.specs.Cells.{cell_of, with_cell, mask_of}
+use Rattle.scene_kinds.specs.Cells.{cell_of}
 use Rattle.scene_table.specs.Table.{TableState, cell_at}
 use Rattle.scene_world.specs.declared.home.Home.{Home}
 use Rattle.scene_world.specs.World.{rows_at, row_at}

@@ -1,6 +1,5 @@
-use Rattle.std.proofs.Common.{sym, subst, refl, List, ℕ}
-use Rattle.scene_kinds.specs.declared.cell.Cell.{Cell}
-use Rattle.scene_kinds.specs.Cells.{HasKinds, IsAscending, mask_of}
+use Rattle.std.proofs.Common.{sym, subst, refl}
+use Rattle.scene_kinds.specs.Cells.{IsAscending}
 use Rattle.scene_kinds.proofs.CellLaws.{ascending-with_cell}
 use Rattle.scene_world.proofs.moves.move_with.Goals as goal
 

@@ -1,4 +1,4 @@
-use Rattle.std.proofs.Common.{◌≡◌, ◌∷◌, ◌++◌, [], ◌∙◌, ap, sym, subst}
+use Rattle.std.proofs.Common.{◌∷◌, ◌++◌, [], ◌∙◌, ap, sym, subst}
 use Rattle.scene_kinds.specs.Cells.{HasKinds, mask_of}
 use Rattle.scene_world.proofs.Stored.{mask_there, rows_there, rows_written, apart_kept}
 use Rattle.scene_world.proofs.tables.put_row.Goals as goal

@@ -1,4 +1,4 @@
-use Rattle.std.proofs.Common.{◌≡◌, ℕ, ◌≤◌, ◌<◌, ◌∙◌, ap, sym, subst, length, arith}
+use Rattle.std.proofs.Common.{◌≡◌, ◌<◌, ◌∙◌, ap, sym, subst, length, arith}
 use Rattle.std.specs.Prelude.{slice_get, slice_index_or}
 use Rattle.scene_kinds.specs.Cells.{HasKinds}
 use Rattle.scene_table.specs.Rows.{swap_out}

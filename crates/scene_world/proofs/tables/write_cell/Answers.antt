@@ -1,4 +1,4 @@
-use Rattle.std.proofs.Common.{◌≡◌, ℕ, ◌<◌, ◌∙◌, ap, sym, subst, length}
+use Rattle.std.proofs.Common.{◌<◌, ◌∙◌, ap, sym, subst, length}
 use Rattle.std.specs.Prelude.{IsSome}
 use Rattle.scene_table.specs.Table.{cell_at, rows_with_cell}
 use Rattle.scene_world.proofs.Stored.{rows_there, rows_written, apart_kept}

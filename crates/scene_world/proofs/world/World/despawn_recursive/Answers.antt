@@ -1,4 +1,4 @@
-use Rattle.std.proofs.Common.{◌≡◌, Bool, true, not, subst, ap, sym, ◌∙◌}
+use Rattle.std.proofs.Common.{◌≡◌, true, not, ap, sym, ◌∙◌}
 use Rattle.std.specs.Prelude.{is_some}
 use Rattle.scene_links.specs.Forest.{post}
 use Rattle.scene_world.specs.World.{is_live}

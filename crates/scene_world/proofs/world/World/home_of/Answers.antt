@@ -1,7 +1,6 @@
-use Rattle.std.proofs.Common.{◌≡◌, ◌∙◌, ap, sym, subst}
-use Rattle.std.specs.Prelude.{IfSome}
+use Rattle.std.proofs.Common.{◌≡◌, ◌∙◌, ap, subst}
 use Rattle.scene_world.specs.World.{World, home_of}
-use Rattle.scene_world.specs.Stored.{scan, IsHomeOf}
+use Rattle.scene_world.specs.Stored.{scan}
 use Rattle.scene_world.specs.Valid.{IsValid}
 use Rattle.scene_world.proofs.Scans.{scan_sound_home, some_home}
 use Rattle.scene_world.proofs.world.World.home_of.Goals as goal

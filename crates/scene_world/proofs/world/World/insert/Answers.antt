@@ -1,4 +1,4 @@
-use Rattle.std.proofs.Common.{◌≡◌, ◌∙◌, ap, sym, subst, refl, None}
+use Rattle.std.proofs.Common.{sym, subst, refl}
 use Rattle.scene_kinds.specs.Cells.{cell_of}
 use Rattle.scene_world.specs.World.{World, Tables}
 use Rattle.scene_world.specs.Stored.{seen, IsHomeOf}

@@ -1,6 +1,4 @@
-use Rattle.std.proofs.Common.{◌≡◌, ◌∙◌, ap, sym, subst, refl, true, Option, List}
-use Rattle.std.specs.Prelude.{IsSome, is_some, option_map}
-use Rattle.scene_kinds.specs.declared.cell.Cell.{Cell}
+use Rattle.std.proofs.Common.{◌∙◌, ap, sym, subst, List}
 use Rattle.scene_kinds.specs.Cells.{shown}
 use Rattle.scene_table.specs.Table.{TableState, cell_at}
 use Rattle.scene_world.specs.World.{World, Tables, rows_at}
