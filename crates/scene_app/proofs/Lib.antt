@@ -1,6 +1,7 @@
 pub mod LineLaws
 pub mod NumberLaws
 pub mod PlayLaws
+pub mod ResourceLaws
 pub mod ShowLaws
 pub mod Slices
 pub mod TargetLaws

@@ -54,6 +54,20 @@ cell_of_parts kinds word (Some p) = option_and_then (λ kind. valued_of kinds p.
 abbrev pub cell_in : Kinds → List ℕ → Option (ℕ × Value)
 cell_in kinds word = cell_of_parts kinds word (cut_at 61 word)
 
+-- a shape with nothing behind it, where it is Tag
+abbrev pub lone_shape : Shape → Option Value
+lone_shape shape.Tag = Some value.Tag
+lone_shape s = None
+
+-- a word without = (61), and one with what stands before and after it
+abbrev pub shaped_of_parts : List ℕ → Option (List ℕ × List ℕ) → Option Value
+shaped_of_parts word None = option_and_then lone_shape (shape_in word)
+shaped_of_parts word (Some p) = option_and_then (λ s. value_in s p.1) (shape_in p.0)
+
+-- the value that a word names with its shape: SHAPE of a tag, else SHAPE=VALUE
+abbrev pub shaped_value_in : List ℕ → Option Value
+shaped_value_in word = shaped_of_parts word (cut_at 61 word)
+
 -- a target: + (43) and a number, or an entity
 abbrev pub target_in : List ℕ → Option TargetWord
 target_in [] = None

@@ -12,7 +12,7 @@ use Rattle.scene_kinds.specs.Entity.{entity_text}
 use Rattle.scene_kinds.specs.Fault.{refusal_text}
 use Rattle.scene_kinds.specs.Schema.{Kinds, with_kind}
 use Rattle.scene_world.specs.World.{World, new_world, row_of}
-use Rattle.scene_world.specs.Commands.{and_then, raise_tick, spawn, despawn, despawn_recursive, insert, remove, set_parent, remove_parent}
+use Rattle.scene_world.specs.Commands.{and_then, raise_tick, spawn, despawn, despawn_recursive, insert, remove, set_parent, remove_parent, put_resource, remove_resource}
 use Rattle.scene_world.specs.Machine.{Machine, opening, submitted, undo, redo}
 use Rattle.scene_kinds.specs.declared.cells.Row.{Row}
 use Rattle.scene_pass.specs.Pass.{changed_since, added_since}
@@ -23,7 +23,7 @@ use Rattle.scene_app.specs.declared.play_state.PlayState.{PlayState}
 use Rattle.scene_app.specs.declared.target.TargetWord.{TargetWord}
 use Rattle.scene_app.specs.declared.target.TargetWord.TheVariants as target
 use Rattle.scene_app.specs.declared.command.Command.{Command}
-use Rattle.scene_app.specs.declared.command.Command.TheVariants.{Spawn, Insert, Despawn, Remove, SetParent, RemoveParent, DespawnAll}
+use Rattle.scene_app.specs.declared.command.Command.TheVariants.{Spawn, Insert, Despawn, Remove, SetParent, RemoveParent, DespawnAll, PutResource, RemoveResource}
 use Rattle.scene_app.specs.declared.script_line.Line.{Line}
 use Rattle.scene_app.specs.declared.script_line.Line.TheVariants.{Empty, Bad, Kind, Slots, Do, Undo, Redo, Show, Get, Mark, Changed, Added}
 use Rattle.scene_app.specs.Listed.{listed_text}
@@ -64,6 +64,8 @@ done (Remove t kind) w = on_entity (target_of t) (λ e. remove w e kind)
 done (SetParent child parent) w = on_both (target_of child) (target_of parent) (set_parent w)
 done (RemoveParent child) w = on_entity (target_of child) (remove_parent w)
 done (DespawnAll t) w = on_entity (target_of t) (despawn_recursive w)
+done (PutResource name value) w = spawned_none (put_resource w name value)
+done (RemoveResource name) w = spawned_none (remove_resource w name)
 
 -- the only place in a frame of one command
 abbrev pub first_place : Place

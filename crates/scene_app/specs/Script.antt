@@ -7,10 +7,10 @@ use Rattle.scene_kinds.specs.declared.shape.Shape.{Shape}
 use Rattle.scene_kinds.specs.Schema.{Kinds, number_of}
 use Rattle.scene_app.specs.declared.target.TargetWord.{TargetWord}
 use Rattle.scene_app.specs.declared.command.Command.{Command}
-use Rattle.scene_app.specs.declared.command.Command.TheVariants.{Spawn, Insert, Despawn, Remove, SetParent, RemoveParent, DespawnAll}
+use Rattle.scene_app.specs.declared.command.Command.TheVariants.{Spawn, Insert, Despawn, Remove, SetParent, RemoveParent, DespawnAll, PutResource, RemoveResource}
 use Rattle.scene_app.specs.declared.script_line.Line.{Line}
 use Rattle.scene_app.specs.declared.script_line.Line.TheVariants.{Empty, Bad, Kind, Slots, Do, Undo, Redo, Show, Get, Mark, Changed, Added}
-use Rattle.scene_app.specs.Cells.{shape_in, cell_in, target_in}
+use Rattle.scene_app.specs.Cells.{shape_in, cell_in, shaped_value_in, target_in}
 use Rattle.scene_app.specs.Numbers.{count_in, entity_in}
 use Rattle.scene_app.specs.Words.{words_of}
 
@@ -77,6 +77,16 @@ unparent_line words = or_bad (option_map (λ t. Do (RemoveParent t)) (lone_targe
 abbrev pub despawnall_line : List (List ℕ) → Line
 despawnall_line words = or_bad (option_map (λ t. Do (DespawnAll t)) (lone_target words))
 
+-- `put NAME SHAPE` for a Tag, else `put NAME SHAPE=VALUE`; the name is any word
+abbrev pub put_line : List (List ℕ) → Line
+put_line (name ∷ value ∷ []) = or_bad (option_map (λ v. Do (PutResource name v)) (shaped_value_in value))
+put_line words = Bad
+
+-- `drop NAME`; the name is any word
+abbrev pub drop_line : List (List ℕ) → Line
+drop_line (name ∷ []) = Do (RemoveResource name)
+drop_line words = Bad
+
 -- `get T`, T an entity text
 abbrev pub get_line : List (List ℕ) → Line
 get_line (word ∷ []) = or_bad (option_map (λ e. Get e) (entity_in word))
@@ -99,6 +109,8 @@ named_line kinds first rest =
     else if bytes_eq first (codes "parent") then parent_line rest
     else if bytes_eq first (codes "unparent") then unparent_line rest
     else if bytes_eq first (codes "despawnall") then despawnall_line rest
+    else if bytes_eq first (codes "put") then put_line rest
+    else if bytes_eq first (codes "drop") then drop_line rest
     else if bytes_eq first (codes "undo") then lone Undo rest
     else if bytes_eq first (codes "redo") then lone Redo rest
     else if bytes_eq first (codes "show") then lone Show rest

@@ -1,12 +1,15 @@
 -- How a world prints.
 use Rattle.std.specs.Prelude.{ℕ, ◌+◌, ◌/◌, ◌%◌, ◌^◌, List, [], ◌∷◌, ◌++◌, Bool, Option, Some, None, if◌then◌else◌, nat_eq, codes, decimal}
 use Rattle.scene_kinds.specs.declared.cells.Row.{Row}
+use Rattle.scene_kinds.specs.declared.cell.Cell.{Cell}
 use Rattle.scene_kinds.specs.declared.entity.Entity.{Entity}
 use Rattle.scene_kinds.specs.Entity.{entity_text}
 use Rattle.scene_kinds.specs.Schema.{Kinds, name_of}
+use Rattle.scene_kinds.specs.Shape.{shape_name, shape_of_value}
 use Rattle.scene_links.specs.Forest.{Forest, children_of, parents}
+use Rattle.scene_resources.specs.Resources.{NamedCells, cell_of}
 use Rattle.scene_world.specs.World.{World, kind_sets, rows_at}
-use Rattle.scene_app.specs.Printed.{row_text}
+use Rattle.scene_app.specs.Printed.{cell_text, row_text}
 
 -- numbers, each after a space (32)
 abbrev pub numbers_text : List ℕ → List ℕ
@@ -69,13 +72,32 @@ abbrev pub links_text : Forest → List Entity → List ℕ
 links_text forest [] = []
 links_text forest (p ∷ ps) = link_text forest p ++ links_text forest ps
 
+-- a name, and its cell with the name of its shape
+abbrev pub resource_text : List ℕ → Cell → List ℕ
+resource_text name cell = codes "resource " ++ (name ++ (codes " " ++ (cell_text (shape_name (shape_of_value cell.value)) cell ++ codes "\n")))
+
+-- resources, a line each
+abbrev pub resources_text : List (List ℕ × Cell) → List ℕ
+resources_text [] = []
+resources_text (r ∷ rs) = resource_text r.0 r.1 ++ resources_text rs
+
+-- a resource that may be there
+abbrev pub one_resource : List ℕ → Option Cell → List ℕ
+one_resource name None = []
+one_resource name (Some cell) = resource_text name cell
+
+-- the resources of names
+abbrev pub named_text : NamedCells → List (List ℕ) → List ℕ
+named_text resources [] = []
+named_text resources (n ∷ ns) = one_resource n (cell_of resources n) ++ named_text resources ns
+
 -- the tick, the generations and the free list, a line each
 abbrev pub head_text : World → List ℕ
 head_text w =
     codes "tick " ++ (decimal w.tick ++ (codes "\ngens" ++ (numbers_text w.slots.generations
     ++ (codes "\nfree" ++ (numbers_text w.slots.free ++ codes "\n")))))
 
--- then the tables of the kind sets with rows, ascending, and the links of the entities with children, by index; no line of
--- this stage makes resources
+-- then the tables of the kind sets with rows, ascending, the links of the entities with children, by index, and the resources,
+-- by the bytes of their names
 abbrev pub show_text : World → List ℕ
-show_text w = head_text w ++ (tables_text w (kind_sets w) ++ links_text w.children (parents w.children))
+show_text w = head_text w ++ (tables_text w (kind_sets w) ++ (links_text w.children (parents w.children) ++ resources_text w.resources.entries))

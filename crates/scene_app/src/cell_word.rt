@@ -1,7 +1,7 @@
 //! Values and cells as words.
 ghost use Rattle.std.specs.Prelude.{◌≡◌, IfOk, option_and_then};
 ghost use Rattle.scene_kinds.specs.Schema.{number_of};
-ghost use Rattle.scene_app.specs.Cells.{shape_in, vec3_in, value_in, tag_of, cell_in};
+ghost use Rattle.scene_app.specs.Cells.{shape_in, vec3_in, value_in, tag_of, cell_in, lone_shape, shaped_value_in};
 
 use crate::number::{read_entity, read_number};
 use crate::word::cut;
@@ -81,4 +81,28 @@ pub fn read_cell(
     };
     let value = read_value(alloc, shape, text)?;
     Ok(value.map(|value| (kind, value)))
+}
+
+/// The value of a shape that needs no text, which is `Tag` alone.
+fn lone_shape(shape: Shape) -> Option<Value>
+    ensures { result ≡ lone_shape shape }
+{
+    match shape {
+        Shape::Tag => Some(Value::Tag),
+        _ => None,
+    }
+}
+
+/// The value that a word names with its shape (docs/SCRIPTS.md, "Words"): `SHAPE` of a tag, else `SHAPE=VALUE`.
+/// `Ok(None)` only where the word isn't of its form.
+pub fn read_shaped_value(alloc: Global, word: &str) -> Result<Option<Value>, AllocError>
+    ensures { IfOk result (λ r. r ≡ shaped_value_in word.now) }
+{
+    let Some((name, text)) = cut(word, '=') else {
+        return Ok(read_shape(word).and_then(lone_shape));
+    };
+    match read_shape(name) {
+        None => Ok(None),
+        Some(shape) => read_value(alloc, shape, text),
+    }
 }

@@ -2,7 +2,7 @@
 ghost use Rattle.std.specs.Prelude.{◌≡◌};
 
 use crate::target::TargetWord;
-use scene_kinds::Value;
+use scene_kinds::{Text, Value};
 use std::marker::Model;
 
 /// The components that a spawn is given, each with its kind. Contracts see a list.
@@ -49,4 +49,7 @@ pub enum Command {
     RemoveParent(TargetWord),
     /// A recursive despawn.
     DespawnAll(TargetWord),
+    /// The name, which is any word, and the value.
+    PutResource(Text, Value),
+    RemoveResource(Text),
 }

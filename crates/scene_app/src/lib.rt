@@ -27,7 +27,7 @@ mod target;
 mod word;
 mod writing;
 
-pub use cell_word::{read_cell, read_shape, read_value};
+pub use cell_word::{read_cell, read_shape, read_shaped_value, read_value};
 pub use command::{Command, Given};
 pub use fault::AppFault;
 pub use line::first_line;

@@ -147,6 +147,38 @@ fn links_are_shown_and_come_back_at_undo(rt: HostRuntime) -> Result<(), Fail> {
 }
 
 #[test]
+fn resources_are_shown_by_name_and_come_back_at_undo(rt: HostRuntime) -> Result<(), Fail> {
+    let alloc = rt.alloc();
+    let cases = [
+        (
+            "put b Tag\nput a Text=x=y\nput B Vec3=1,-2,3\nput a_1 Link=7v9\nput c Text=\nshow\n",
+            "done\ndone\ndone\ndone\ndone\ntick 5\ngens\nfree\nresource B Vec3=1,-2,3@3/3\n\
+             resource a Text=\"x=y\"@2/2\nresource a_1 Link=7v9@4/4\nresource b Tag@1/1\n\
+             resource c Text=\"\"@5/5\n",
+        ),
+        (
+            "put n Int=1\nput n Tag\nshow\ndrop n\nput n Int=2\nshow\nundo\nshow\nundo\nundo\nshow\n",
+            "done\ndone\ntick 2\ngens\nfree\nresource n Tag@1/2\n\
+             done\ndone\ntick 4\ngens\nfree\nresource n Int=2@4/4\n\
+             undone\ntick 3\ngens\nfree\n\
+             undone\nundone\ntick 1\ngens\nfree\nresource n Int=1@1/1\n",
+        ),
+        (
+            "spawn\nspawn\nparent 1v1 0v1\nmark\nput n Int=-5\nchanged\nadded\nshow\n",
+            "done 0v1\ndone 1v1\ndone\nmark 0 3\ndone\nchanged 0\nadded 0\n\
+             tick 4\ngens 1 1\nfree\ntable -\nrow 0v1\nrow 1v1\nlink 0v1 1v1\nresource n Int=-5@4/4\n",
+        ),
+    ];
+    for (script, output) in cases {
+        let mut out = String::new(alloc);
+        let bad = play_script(alloc, script.as_bytes(), &mut out)?;
+        assert_eq!(rt; out.as_str(), output, "{script}");
+        assert_eq!(rt; bad, 0, "{script}");
+    }
+    Ok(())
+}
+
+#[test]
 fn cells_are_listed_since_the_cursor(rt: HostRuntime) -> Result<(), Fail> {
     let alloc = rt.alloc();
     let cases = [
@@ -300,6 +332,11 @@ fn the_setup_ends_at_the_first_other_line(rt: HostRuntime) -> Result<(), Fail> {
             "refused 15 NothingToUndo\nbad line\n",
             1,
         ),
+        (
+            "put 9 Tag\nkind A Int\n",
+            "refused 30 BadName at 0.0.0\nbad line\n",
+            1,
+        ),
         ("mark\nkind A Int\n", "mark 0 0\nbad line\n", 1),
         ("changed\nslots 5\n", "changed 0\nbad line\n", 1),
         ("added\nslots 5\n", "added 0\nbad line\n", 1),
@@ -391,6 +428,13 @@ fn refusals_are_printed_and_change_nothing(rt: HostRuntime) -> Result<(), Fail> 
             0,
         ),
         (
+            "put 9 Int=1\nput a-b Tag\ndrop n\ndrop 9\nput n Tag\nput _ Tag\nshow\n",
+            "refused 30 BadName at 0.0.0\nrefused 30 BadName at 0.0.0\n\
+             refused 10 NoSuchResource at 0.0.0\nrefused 10 NoSuchResource at 0.0.0\ndone\n\
+             refused 30 BadName at 0.0.0\ntick 1\ngens\nfree\nresource n Tag@1/1\n",
+            0,
+        ),
+        (
             "parent +0 5v1\nparent 5v1 +0\nunparent +0\ndespawnall +0\n",
             "refused 12 BadLocal at 0.0.0\nrefused 12 BadLocal at 0.0.0\n\
              refused 12 BadLocal at 0.0.0\nrefused 12 BadLocal at 0.0.0\n",
@@ -436,6 +480,19 @@ fn lines_of_no_form_are_bad(rt: HostRuntime) -> Result<(), Fail> {
         "despawnall",
         "despawnall A",
         "despawnall 0v1 1v1",
+        "put",
+        "put n",
+        "put n Int",
+        "put n Int=",
+        "put n Int=+1",
+        "put n Tag=",
+        "put n Vec3=1,2",
+        "put n Link=x",
+        "put n A=1",
+        "put Int=1 n",
+        "put n Int=1 Tag",
+        "drop",
+        "drop n n",
         "mark 1",
         "Mark",
         "changed A",

@@ -62,6 +62,8 @@ fn do_command(world: &mut World, command: Command) -> Result<Option<Entity>, Ref
         }
         Command::RemoveParent(child) => world.remove_parent(entity_of(child)?)?,
         Command::DespawnAll(target) => world.despawn_recursive(entity_of(target)?)?,
+        Command::PutResource(name, value) => world.put_resource(name.as_str(), value)?,
+        Command::RemoveResource(name) => world.remove_resource(name.as_str())?,
     }
     Ok(None)
 }

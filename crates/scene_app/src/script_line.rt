@@ -1,8 +1,8 @@
 //! What a line of a script says.
 ghost use Rattle.std.specs.Prelude.{◌≡◌, IfOk, map};
-ghost use Rattle.scene_app.specs.Script.{line_in, line_of_words, named_line, kind_line, slots_line, cells_in, spawn_line, insert_line, lone_target, despawn_line, remove_line, parent_line, unparent_line, despawnall_line, get_line, lone};
+ghost use Rattle.scene_app.specs.Script.{line_in, line_of_words, named_line, kind_line, slots_line, cells_in, spawn_line, insert_line, lone_target, despawn_line, remove_line, parent_line, unparent_line, despawnall_line, put_line, drop_line, get_line, lone};
 
-use crate::cell_word::{read_cell, read_shape};
+use crate::cell_word::{read_cell, read_shape, read_shaped_value};
 use crate::command::{Command, Given};
 use crate::number::{read_count, read_entity};
 use crate::slot_limit::SlotLimit;
@@ -174,6 +174,33 @@ fn despawnall_line(rest: &[&str]) -> Line
     }
 }
 
+/// `put NAME SHAPE` for a tag, else `put NAME SHAPE=VALUE`.
+fn put_line(alloc: Global, rest: &[&str]) -> Result<Line, AllocError>
+    ensures { IfOk result (λ line. line ≡ put_line (map (λ w. w.now) rest.now)) }
+{
+    let [name, value] = rest else {
+        return Ok(Line::Bad);
+    };
+    match read_shaped_value(alloc, value)? {
+        None => Ok(Line::Bad),
+        Some(value) => {
+            let name = Text::from_string(String::from_str(alloc, name)?);
+            Ok(Line::Do(Command::PutResource(name, value)))
+        }
+    }
+}
+
+/// `drop NAME`.
+fn drop_line(alloc: Global, rest: &[&str]) -> Result<Line, AllocError>
+    ensures { IfOk result (λ line. line ≡ drop_line (map (λ w. w.now) rest.now)) }
+{
+    let [name] = rest else {
+        return Ok(Line::Bad);
+    };
+    let name = Text::from_string(String::from_str(alloc, name)?);
+    Ok(Line::Do(Command::RemoveResource(name)))
+}
+
 /// `get T`.
 fn get_line(rest: &[&str]) -> Line
     ensures { result ≡ get_line (map (λ w. w.now) rest.now) }
@@ -213,6 +240,8 @@ fn named_line(
         "parent" => Ok(parent_line(rest)),
         "unparent" => Ok(unparent_line(rest)),
         "despawnall" => Ok(despawnall_line(rest)),
+        "put" => put_line(alloc, rest),
+        "drop" => drop_line(alloc, rest),
         "undo" => Ok(lone(Line::Undo, rest)),
         "redo" => Ok(lone(Line::Redo, rest)),
         "show" => Ok(lone(Line::Show, rest)),

@@ -2,11 +2,13 @@
 ghost use Rattle.std.specs.Prelude.{◌≡◌, ◌++◌, ◌<◌, OnOk, IfOk, map, string_bytes, option_map};
 ghost use Rattle.scene_world.specs.World.{kind_sets, rows_at, row_of};
 ghost use Rattle.scene_links.specs.Forest.{parents};
-ghost use Rattle.scene_app.specs.Shown.{numbers_text, has_kind, name_in, one_name, names_from, more_names, names_text, rows_text, table_text, tables_text, entities_text, link_text, links_text, head_text, show_text};
+ghost use Rattle.scene_resources.specs.Resources.{cell_of};
+ghost use Rattle.scene_app.specs.Shown.{numbers_text, has_kind, name_in, one_name, names_from, more_names, names_text, rows_text, table_text, tables_text, entities_text, link_text, links_text, resource_text, one_resource, named_text, resources_text, head_text, show_text};
 
-use crate::print::write_row;
-use scene_kinds::{Entity, Row, Schema};
+use crate::print::{write_cell, write_row};
+use scene_kinds::{Cell, Entity, Row, Schema};
 use scene_links::Links;
+use scene_resources::Resources;
 use scene_world::World;
 use std::alloc::{AllocError, Global};
 
@@ -196,14 +198,69 @@ fn write_forest(out: &mut String, links: &Links) -> Result<(), AllocError>
     write_links(out, links, parents.as_slice())
 }
 
+/// Adds a resource: its name, and its cell with the name of its shape.
+fn write_resource(
+    alloc: Global,
+    out: &mut String,
+    name: &str,
+    cell: &Cell,
+) -> Result<(), AllocError>
+    ensures { OnOk result (string_bytes out.new ≡ string_bytes out.old ++ resource_text name.now cell.now) }
+{
+    write!(out, "resource {name} ")?;
+    write_cell(alloc, out, cell.value.shape().name(), cell)?;
+    out.push('\n')
+}
+
+/// Adds the resource of a name, where there is one.
+fn write_named(
+    alloc: Global,
+    out: &mut String,
+    resources: &Resources,
+    name: &str,
+) -> Result<(), AllocError>
+    ensures { OnOk result (string_bytes out.new ≡ string_bytes out.old ++ one_resource name.now (cell_of resources.now name.now)) }
+{
+    match resources.get(name) {
+        None => Ok(()),
+        Some(cell) => write_resource(alloc, out, name, cell),
+    }
+}
+
+/// Adds the resources of names, a line each.
+fn write_each_named(
+    alloc: Global,
+    out: &mut String,
+    resources: &Resources,
+    names: &[String],
+) -> Result<(), AllocError>
+    ensures { OnOk result (string_bytes out.new ≡ string_bytes out.old ++ named_text resources.now (map string_bytes names.now)) }
+{
+    'names: for name in names {
+        write_named(alloc, out, resources, name.as_str())?;
+    }
+    Ok(())
+}
+
+/// Adds all resources, by the bytes of their names.
+#[tactic(auto, using(crate::proofs::ResourceLaws::named_whole))]
+fn write_resources(alloc: Global, out: &mut String, resources: &Resources) -> Result<(), AllocError>
+    ensures { OnOk result (string_bytes out.new ≡ string_bytes out.old ++ resources_text resources.now.entries) }
+{
+    let names = resources.names()?;
+    write_each_named(alloc, out, resources, names.as_slice())
+}
+
 /// Adds a world (docs/SCRIPTS.md, "Output"): its tick, its generations by index, its free list, each table by its
-/// kind set, ascending, and the links of each entity with children, by index. It costs a walk over the world.
+/// kind set, ascending, the links of each entity with children, by index, and each resource, by the bytes of its
+/// name. It costs a walk over the world, and a look for each name.
 pub(crate) fn write_show(alloc: Global, out: &mut String, world: &World) -> Result<(), AllocError>
     ensures { OnOk result (string_bytes out.new ≡ string_bytes out.old ++ show_text world.now) }
 {
     write_head(out, world)?;
     write_archetypes(alloc, out, world)?;
-    write_forest(out, world.links())
+    write_forest(out, world.links())?;
+    write_resources(alloc, out, world.resources())
 }
 
 /// The row of an entity, or `None` where it isn't alive.
