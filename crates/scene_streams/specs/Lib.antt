@@ -1,0 +1,4 @@
+pub mod Known
+pub mod Sink
+pub mod Source
+pub mod Turns

@@ -1,0 +1,21 @@
+//! Streams of bytes that remember their faults: a reader is read to its end, and bytes are written whole.
+//!
+//! A `Source` reads its reader in turns, of which it has so many, up to a limit of bytes. A `Sink` writes to its
+//! writer until all the bytes are taken. Each remembers whether a call of what it holds failed, and calls it no
+//! more after that.
+//!
+//! Where a reader or a writer tells its bytes, the bytes that are answered and those that are written are exact,
+//! also after a refusal. Nothing tells that a call fails, so the mark stands in for it: a fault is answered
+//! exactly where the mark is set after the call (docs/MODEL.md, "Faults").
+//!
+//! `specs/Source.antt` and `specs/Sink.antt` have what a clause sees of the two, `specs/Known.antt` what is known
+//! of a stream after a refusal.
+#![tactic(auto)]
+
+mod sink;
+mod source;
+#[cfg(test)]
+mod tests;
+
+pub use sink::{Sink, WriteFault};
+pub use source::{MOST_BYTES, MOST_TURNS, ReadError, Source};
