@@ -8,6 +8,7 @@ mod asked;
 
 use crate::asked::{Asked, read_words};
 use scene_app::{AppFault, run_script};
+use scene_streams::{Sink, Source};
 use std::io::ErrorKind;
 use std::process::ExitCode;
 use std::{env, io};
@@ -27,6 +28,16 @@ fn end_by_fault(rt: &HostRuntime, fault: AppFault) -> io::Result<ExitCode> {
     Ok(ExitCode::from(3))
 }
 
+fn play_input(rt: &HostRuntime) -> io::Result<ExitCode> {
+    let mut source = Source::new(rt.stdin());
+    let mut sink = Sink::new(rt.stdout());
+    match run_script(rt.alloc(), &mut source, &mut sink) {
+        Ok(end) if end.bad_lines == 0 => Ok(ExitCode::SUCCESS),
+        Ok(_) => Ok(ExitCode::from(1)),
+        Err(fault) => end_by_fault(rt, fault),
+    }
+}
+
 fn run(rt: &HostRuntime) -> io::Result<ExitCode> {
     let words = match words_given(rt) {
         Ok(words) => words,
@@ -37,11 +48,7 @@ fn run(rt: &HostRuntime) -> io::Result<ExitCode> {
     };
     match read_words(words.as_slice()) {
         Asked::Nothing => end_bad_command_line(rt),
-        Asked::Run => match run_script(rt.alloc(), &mut rt.stdin(), &mut rt.stdout()) {
-            Ok(end) if end.bad_lines == 0 => Ok(ExitCode::SUCCESS),
-            Ok(_) => Ok(ExitCode::from(1)),
-            Err(fault) => end_by_fault(rt, fault),
-        },
+        Asked::Run => play_input(rt),
     }
 }
 

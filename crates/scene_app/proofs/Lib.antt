@@ -1,9 +1,3 @@
-pub mod LineLaws
-pub mod NumberLaws
 pub mod PlayLaws
 pub mod ResourceLaws
 pub mod ShowLaws
-pub mod Slices
-pub mod TargetLaws
-pub mod WordLaws
-pub mod Writes

@@ -5,10 +5,10 @@ use Rattle.scene_kinds.specs.declared.shape.Shape.{Shape}
 use Rattle.scene_kinds.specs.Schema.{Kinds}
 use Rattle.scene_world.specs.World.{new_world}
 use Rattle.scene_app.specs.declared.play_state.PlayState.{PlayState}
-use Rattle.scene_app.specs.declared.script_line.Line.{Line}
-use Rattle.scene_app.specs.declared.script_line.Line.TheVariants.{Empty, Bad, Kind, Slots}
+use Rattle.scene_script.specs.declared.script_line.Line.{Line}
+use Rattle.scene_script.specs.declared.script_line.Line.TheVariants.{Empty, Bad, Kind, Slots}
 use Rattle.scene_app.specs.Play.{Reply, Replies, Printed, opening_state, reply, run_from, setup_line, setup_from}
-use Rattle.scene_app.specs.Script.{line_in}
+use Rattle.scene_script.specs.Script.{line_in}
 
 -- what a reply adds, with the lines after it
 replied : (r : Reply) (after : PlayState) (others : List (List ℕ)) (old new : List ℕ) (bad : ℕ) → Replies old new after bad r

@@ -2,8 +2,8 @@
 use Rattle.std.specs.Prelude.{ℕ, List, codes}
 use Rattle.scene_app.specs.declared.fault.AppFault.{AppFault}
 use Rattle.scene_app.specs.declared.fault.AppFault.TheVariants as app
-use Rattle.scene_app.specs.declared.reading.ReadError.{ReadError}
-use Rattle.scene_app.specs.declared.reading.ReadError.TheVariants as read
+use Rattle.scene_streams.specs.declared.source.ReadError.{ReadError}
+use Rattle.scene_streams.specs.declared.source.ReadError.TheVariants as read
 
 abbrev pub app_number : AppFault → ℕ
 app_number app.NoMemory = 20

@@ -1,11 +1,4 @@
-pub mod Begins
-pub mod Cells
 pub mod Fault
-pub mod Known
 pub mod Listed
-pub mod Numbers
 pub mod Play
-pub mod Printed
-pub mod Script
 pub mod Shown
-pub mod Words

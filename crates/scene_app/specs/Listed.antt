@@ -3,7 +3,7 @@ use Rattle.std.specs.Prelude.{List, [], ◌∷◌, ◌++◌, ℕ, codes, decimal
 use Rattle.scene_kinds.specs.Entity.{entity_text}
 use Rattle.scene_kinds.specs.Schema.{Kinds}
 use Rattle.scene_pass.specs.declared.cell_name.CellName.{CellName}
-use Rattle.scene_app.specs.Printed.{kind_text}
+use Rattle.scene_script.specs.Printed.{kind_text}
 
 -- the entity of a cell, and the name of its kind
 abbrev pub cell_name_text : Kinds → CellName → List ℕ

@@ -7,7 +7,7 @@ use Rattle.scene_kinds.specs.declared.fault.Fault.TheVariants.{NoSuchEntity, Bad
 use Rattle.scene_kinds.specs.declared.refusal.Refusal.{Refusal}
 use Rattle.scene_kinds.specs.declared.refusal.Place.{Place}
 use Rattle.scene_kinds.specs.declared.shape.Shape.{Shape}
-use Rattle.scene_kinds.specs.Answers.{Outcome, refuse, refusal_of}
+use Rattle.scene_kinds.specs.Answers.{Outcome, refusal_of}
 use Rattle.scene_kinds.specs.Entity.{entity_text}
 use Rattle.scene_kinds.specs.Fault.{refusal_text}
 use Rattle.scene_kinds.specs.Schema.{Kinds, with_kind}
@@ -20,15 +20,15 @@ use Rattle.scene_pass.specs.declared.cell_name.CellName.{CellName}
 use Rattle.scene_pass.specs.declared.filter.Filter.{Filter}
 use Rattle.scene_app.specs.declared.cursor.Cursor.{Cursor}
 use Rattle.scene_app.specs.declared.play_state.PlayState.{PlayState}
-use Rattle.scene_app.specs.declared.target.TargetWord.{TargetWord}
-use Rattle.scene_app.specs.declared.target.TargetWord.TheVariants as target
-use Rattle.scene_app.specs.declared.command.Command.{Command}
-use Rattle.scene_app.specs.declared.command.Command.TheVariants.{Spawn, Insert, Despawn, Remove, SetParent, RemoveParent, DespawnAll, PutResource, RemoveResource}
-use Rattle.scene_app.specs.declared.script_line.Line.{Line}
-use Rattle.scene_app.specs.declared.script_line.Line.TheVariants.{Empty, Bad, Kind, Slots, Do, Undo, Redo, Show, Get, Mark, Changed, Added}
+use Rattle.scene_script.specs.declared.target.TargetWord.{TargetWord}
+use Rattle.scene_script.specs.declared.target.TargetWord.TheVariants as target
+use Rattle.scene_script.specs.declared.command.Command.{Command}
+use Rattle.scene_script.specs.declared.command.Command.TheVariants.{Spawn, Insert, Despawn, Remove, SetParent, RemoveParent, DespawnAll, PutResource, RemoveResource}
+use Rattle.scene_script.specs.declared.script_line.Line.{Line}
+use Rattle.scene_script.specs.declared.script_line.Line.TheVariants.{Empty, Bad, Kind, Slots, Do, Undo, Redo, Show, Get, Mark, Changed, Added}
 use Rattle.scene_app.specs.Listed.{listed_text}
-use Rattle.scene_app.specs.Printed.{row_text}
-use Rattle.scene_app.specs.Script.{line_in}
+use Rattle.scene_script.specs.Printed.{row_text}
+use Rattle.scene_script.specs.Script.{line_in}
 use Rattle.scene_app.specs.Shown.{show_text}
 
 -- ---- commands and frames

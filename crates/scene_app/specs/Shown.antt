@@ -9,7 +9,7 @@ use Rattle.scene_kinds.specs.Shape.{shape_name, shape_of_value}
 use Rattle.scene_links.specs.Forest.{Forest, children_of, parents}
 use Rattle.scene_resources.specs.Resources.{NamedCells, cell_of}
 use Rattle.scene_world.specs.World.{World, kind_sets, rows_at}
-use Rattle.scene_app.specs.Printed.{cell_text, row_text}
+use Rattle.scene_script.specs.Printed.{cell_text, row_text}
 
 -- numbers, each after a space (32)
 abbrev pub numbers_text : List ℕ → List ℕ

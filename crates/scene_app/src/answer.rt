@@ -6,14 +6,12 @@ ghost use Rattle.scene_world.specs.Machine.{submitted, undo, redo};
 ghost use Rattle.scene_world.specs.World.{row_of};
 ghost use Rattle.scene_app.specs.Play.{Replies, reply, answered, frame, made_text, refused_text, row_answer, undone_text, redone_text, mark_text, changed_text, added_text, cursor_of, with_cursor};
 
-use crate::command::Command;
 use crate::listed::write_listed;
 use crate::play_state::PlayState;
-use crate::print::write_row;
-use crate::script_line::Line;
 use crate::show::{row_of, write_show};
 use scene_kinds::{Entity, Fault, Refusal};
 use scene_pass::{Filter, added_since, changed_since};
+use scene_script::{Command, Line, write_row};
 use scene_world::World;
 use std::alloc::{AllocError, Global};
 

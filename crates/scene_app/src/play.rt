@@ -4,11 +4,9 @@ ghost use Rattle.std.specs.Str.Lines.{lines};
 ghost use Rattle.scene_app.specs.Play.{Prints, opening_state, run_from, printed, declared_text, after_kind};
 
 use crate::answer::{answer, answer_refused};
-use crate::line::first_line;
 use crate::play_state::PlayState;
-use crate::script_line::{Line, read_line};
-use crate::slot_limit::SlotLimit;
 use scene_kinds::{Schema, Shape};
+use scene_script::{Line, SlotLimit, first_line, read_line};
 use scene_world::World;
 use std::alloc::{AllocError, Global};
 

@@ -1,7 +1,8 @@
 use super::*;
-use crate::tests::{kinds, slow_writer};
+use scene_streams::{Sink, Source};
+use std::alloc::Global;
 use std::io;
-use std::io::{ErrorKind, Read};
+use std::io::{ErrorKind, Read, Write};
 use std::test::Fail;
 
 const SCRIPT: &str = "kind A Int\nspawn A=5\nundo\nredo\nshow\n";
@@ -42,6 +43,44 @@ fn parts_of<'a>(script: &'a str, step: usize) -> Parts<'a> {
     }
 }
 
+/// Takes two bytes a call, and at one call fails or takes none.
+#[derive(Drop)]
+struct Slow {
+    taken: Vec<u8>,
+    calls: u32,
+    stops_at: u32,
+    fails: bool,
+}
+
+/// A writer that stops at one call, from 1, or at none for 0.
+fn slow_writer(alloc: Global, stops_at: u32, fails: bool) -> Slow {
+    Slow {
+        taken: Vec::new(alloc),
+        calls: 0,
+        stops_at,
+        fails,
+    }
+}
+
+impl Write for Slow {
+    fn write(&mut self, buf: &[u8]) -> io::Result<usize> {
+        self.calls = self.calls.saturating_add(1);
+        if self.calls == self.stops_at {
+            if self.fails {
+                return Err(io::Error::from(ErrorKind::Other));
+            }
+            return Ok(0);
+        }
+        let n = buf.len().min(2);
+        self.taken.extend_from_slice(&buf[..n])?;
+        Ok(n)
+    }
+
+    fn flush(&mut self) -> io::Result<()> {
+        Ok(())
+    }
+}
+
 #[test]
 fn a_run_writes_the_answers_and_counts_bad_lines(rt: HostRuntime) -> Result<(), Fail> {
     let alloc = rt.alloc();
@@ -61,152 +100,15 @@ fn a_run_writes_the_answers_and_counts_bad_lines(rt: HostRuntime) -> Result<(), 
     ];
     for (script, output, bad_lines) in cases {
         for step in [1, 3, 1000] {
-            let mut writer = slow_writer(alloc, 0, true);
-            let end = run_script(alloc, &mut parts_of(script, step), &mut writer);
+            let mut sink = Sink::new(slow_writer(alloc, 0, true));
+            let end = run_script(alloc, &mut Source::new(parts_of(script, step)), &mut sink);
             assert_eq!(rt; end, Ok(RunEnd { bad_lines }), "{script}");
-            assert_eq!(rt; writer.taken.as_slice(), output.as_bytes(), "{script}");
+            assert_eq!(rt;
+                sink.get_ref().taken.as_slice(),
+                output.as_bytes(),
+                "{script}"
+            );
         }
-    }
-    Ok(())
-}
-
-#[test]
-fn rows_and_free_list_come_back_at_undo(rt: HostRuntime) -> Result<(), Fail> {
-    let alloc = rt.alloc();
-    let cases = [
-        (
-            "kind A Int\nspawn A=0\nspawn A=1\nspawn A=2\ndespawn 0v1\nshow\nundo\nshow\n",
-            "ok\ndone 0v1\ndone 1v1\ndone 2v1\ndone\n\
-             tick 4\ngens 2 1 1\nfree 0\ntable A\nrow 2v1 A=2@3/3\nrow 1v1 A=1@2/2\n\
-             undone\n\
-             tick 3\ngens 1 1 1\nfree\ntable A\nrow 0v1 A=0@1/1\nrow 1v1 A=1@2/2\nrow 2v1 A=2@3/3\n",
-        ),
-        (
-            "kind A Int\nkind T Tag\nspawn A=0\nspawn A=1\nspawn A=2\ninsert 1v1 T\nremove 1v1 T\n\
-             show\nundo\nundo\nshow\n",
-            "ok\nok\ndone 0v1\ndone 1v1\ndone 2v1\ndone\ndone\n\
-             tick 5\ngens 1 1 1\nfree\ntable A\nrow 0v1 A=0@1/1\nrow 2v1 A=2@3/3\nrow 1v1 A=1@2/2\n\
-             undone\nundone\n\
-             tick 3\ngens 1 1 1\nfree\ntable A\nrow 0v1 A=0@1/1\nrow 1v1 A=1@2/2\nrow 2v1 A=2@3/3\n",
-        ),
-        (
-            "kind A Int\nkind T Tag\nspawn A=5\ninsert 0v1 T\nget 0v1\ninsert 0v1 A=5\nget 0v1\n\
-             remove 0v1 A\nget 0v1\nundo\nget 0v1\ndespawn 0v1\nget 0v1\nundo\nget 0v1\n",
-            "ok\nok\ndone 0v1\ndone\nrow 0v1 A=5@1/1 T@2/2\ndone\nrow 0v1 A=5@1/3 T@2/2\n\
-             done\nrow 0v1 T@2/2\nundone\nrow 0v1 A=5@1/3 T@2/2\ndone\nrefused 1 NoSuchEntity\n\
-             undone\nrow 0v1 A=5@1/3 T@2/2\n",
-        ),
-        (
-            "kind A Int\nspawn A=1\nundo\ndespawn 0v1\nredo\nundo\nspawn\nredo\nundo\nundo\n",
-            "ok\ndone 0v1\nundone\nrefused 1 NoSuchEntity at 0.0.0\nredone\nundone\ndone 0v1\n\
-             refused 16 NothingToRedo\nundone\nrefused 15 NothingToUndo\n",
-        ),
-    ];
-    for (script, output) in cases {
-        let mut out = String::new(alloc);
-        let bad = play_script(alloc, script.as_bytes(), &mut out)?;
-        assert_eq!(rt; out.as_str(), output, "{script}");
-        assert_eq!(rt; bad, 0, "{script}");
-    }
-    Ok(())
-}
-
-#[test]
-fn links_are_shown_and_come_back_at_undo(rt: HostRuntime) -> Result<(), Fail> {
-    let alloc = rt.alloc();
-    let cases = [
-        (
-            "spawn\nspawn\nspawn\nparent 1v1 0v1\nparent 2v1 0v1\nparent 1v1 0v1\nshow\nundo\nshow\n",
-            "done 0v1\ndone 1v1\ndone 2v1\ndone\ndone\ndone\n\
-             tick 6\ngens 1 1 1\nfree\ntable -\nrow 0v1\nrow 1v1\nrow 2v1\nlink 0v1 2v1 1v1\n\
-             undone\n\
-             tick 5\ngens 1 1 1\nfree\ntable -\nrow 0v1\nrow 1v1\nrow 2v1\nlink 0v1 1v1 2v1\n",
-        ),
-        (
-            "spawn\nspawn\nspawn\nspawn\nparent 1v1 0v1\nparent 2v1 1v1\nparent 3v1 0v1\nshow\n\
-             despawnall 0v1\nshow\nundo\nget 2v1\ndespawnall 1v1\nshow\n",
-            "done 0v1\ndone 1v1\ndone 2v1\ndone 3v1\ndone\ndone\ndone\n\
-             tick 7\ngens 1 1 1 1\nfree\ntable -\nrow 0v1\nrow 1v1\nrow 2v1\nrow 3v1\n\
-             link 0v1 1v1 3v1\nlink 1v1 2v1\n\
-             done\ntick 8\ngens 2 2 2 2\nfree 2 1 3 0\nundone\nrow 2v1\n\
-             done\ntick 8\ngens 1 2 2 1\nfree 2 1\ntable -\nrow 0v1\nrow 3v1\nlink 0v1 3v1\n",
-        ),
-        (
-            "spawn\nspawn\nparent 1v1 0v1\nunparent 1v1\nshow\nundo\ndespawn 1v1\nshow\n",
-            "done 0v1\ndone 1v1\ndone\ndone\ntick 4\ngens 1 1\nfree\ntable -\nrow 0v1\nrow 1v1\n\
-             undone\ndone\ntick 4\ngens 1 2\nfree 1\ntable -\nrow 0v1\n",
-        ),
-    ];
-    for (script, output) in cases {
-        let mut out = String::new(alloc);
-        let bad = play_script(alloc, script.as_bytes(), &mut out)?;
-        assert_eq!(rt; out.as_str(), output, "{script}");
-        assert_eq!(rt; bad, 0, "{script}");
-    }
-    Ok(())
-}
-
-#[test]
-fn resources_are_shown_by_name_and_come_back_at_undo(rt: HostRuntime) -> Result<(), Fail> {
-    let alloc = rt.alloc();
-    let cases = [
-        (
-            "put b Tag\nput a Text=x=y\nput B Vec3=1,-2,3\nput a_1 Link=7v9\nput c Text=\nshow\n",
-            "done\ndone\ndone\ndone\ndone\ntick 5\ngens\nfree\nresource B Vec3=1,-2,3@3/3\n\
-             resource a Text=\"x=y\"@2/2\nresource a_1 Link=7v9@4/4\nresource b Tag@1/1\n\
-             resource c Text=\"\"@5/5\n",
-        ),
-        (
-            "put n Int=1\nput n Tag\nshow\ndrop n\nput n Int=2\nshow\nundo\nshow\nundo\nundo\nshow\n",
-            "done\ndone\ntick 2\ngens\nfree\nresource n Tag@1/2\n\
-             done\ndone\ntick 4\ngens\nfree\nresource n Int=2@4/4\n\
-             undone\ntick 3\ngens\nfree\n\
-             undone\nundone\ntick 1\ngens\nfree\nresource n Int=1@1/1\n",
-        ),
-        (
-            "spawn\nspawn\nparent 1v1 0v1\nmark\nput n Int=-5\nchanged\nadded\nshow\n",
-            "done 0v1\ndone 1v1\ndone\nmark 0 3\ndone\nchanged 0\nadded 0\n\
-             tick 4\ngens 1 1\nfree\ntable -\nrow 0v1\nrow 1v1\nlink 0v1 1v1\nresource n Int=-5@4/4\n",
-        ),
-    ];
-    for (script, output) in cases {
-        let mut out = String::new(alloc);
-        let bad = play_script(alloc, script.as_bytes(), &mut out)?;
-        assert_eq!(rt; out.as_str(), output, "{script}");
-        assert_eq!(rt; bad, 0, "{script}");
-    }
-    Ok(())
-}
-
-#[test]
-fn cells_are_listed_since_the_cursor(rt: HostRuntime) -> Result<(), Fail> {
-    let alloc = rt.alloc();
-    let cases = [
-        (
-            "kind A Int\nkind T Tag\nspawn A=1\nspawn A=2 T\nchanged\nadded\nmark\nchanged\nadded\n\
-             insert 0v1 A=1\ninsert 0v1 T\nremove 1v1 A\nchanged\nadded\n",
-            "ok\nok\ndone 0v1\ndone 1v1\n\
-             changed 3\n0v1 A\n1v1 A\n1v1 T\nadded 3\n0v1 A\n1v1 A\n1v1 T\n\
-             mark 0 2\nchanged 0\nadded 0\ndone\ndone\ndone\n\
-             changed 2\n0v1 A\n0v1 T\nadded 1\n0v1 T\n",
-        ),
-        (
-            "spawn\nmark\nundo\nchanged\nadded\nmark\nredo\nchanged\nundo\nundo\nchanged\nadded\n",
-            "done 0v1\nmark 0 1\nundone\nrefused 18 Rewound 1\nrefused 18 Rewound 1\nmark 1 0\n\
-             redone\nchanged 0\nundone\nrefused 15 NothingToUndo\n\
-             refused 18 Rewound 2\nrefused 18 Rewound 2\n",
-        ),
-        (
-            "kind A Int\nundo\nredo\nmark\nspawn A=1\ndespawn 1v1\nchanged\nmark\nmark\nadded\n",
-            "ok\nrefused 15 NothingToUndo\nrefused 16 NothingToRedo\nmark 0 0\ndone 0v1\n\
-             refused 1 NoSuchEntity at 0.0.0\nchanged 1\n0v1 A\nmark 0 1\nmark 0 1\nadded 0\n",
-        ),
-    ];
-    for (script, output) in cases {
-        let mut out = String::new(alloc);
-        let bad = play_script(alloc, script.as_bytes(), &mut out)?;
-        assert_eq!(rt; out.as_str(), output, "{script}");
-        assert_eq!(rt; bad, 0, "{script}");
     }
     Ok(())
 }
@@ -217,15 +119,17 @@ fn a_failed_read_writes_nothing(rt: HostRuntime) -> Result<(), Fail> {
     for fails_at in 1..=8 {
         let mut reader = parts_of(SCRIPT, 6);
         reader.fails_at = fails_at;
-        let mut writer = slow_writer(alloc, 0, true);
-        let end = run_script(alloc, &mut reader, &mut writer);
+        let mut sink = Sink::new(slow_writer(alloc, 0, true));
+        let mut source = Source::new(reader);
+        let end = run_script(alloc, &mut source, &mut sink);
+        assert_eq!(rt; source.has_failed(), fails_at < 8, "call {fails_at}");
         if fails_at < 8 {
             assert_eq!(rt; end, Err(AppFault::ReadFault), "call {fails_at}");
-            assert_eq!(rt; writer.calls, 0, "call {fails_at}");
+            assert_eq!(rt; sink.get_ref().calls, 0, "call {fails_at}");
         } else {
             assert_eq!(rt; end, Ok(RunEnd { bad_lines: 0 }), "call {fails_at}");
             assert_eq!(rt;
-                writer.taken.as_slice(),
+                sink.get_ref().taken.as_slice(),
                 OUTPUT.as_bytes(),
                 "call {fails_at}"
             );
@@ -241,12 +145,13 @@ fn an_interrupted_read_is_made_again(rt: HostRuntime) -> Result<(), Fail> {
         let mut reader = parts_of(SCRIPT, 6);
         reader.fails_at = fails_at;
         reader.kind = ErrorKind::Interrupted;
-        let mut writer = slow_writer(alloc, 0, true);
-        let end = run_script(alloc, &mut reader, &mut writer);
+        let mut sink = Sink::new(slow_writer(alloc, 0, true));
+        let mut source = Source::new(reader);
+        let end = run_script(alloc, &mut source, &mut sink);
         assert_eq!(rt; end, Ok(RunEnd { bad_lines: 0 }), "call {fails_at}");
-        assert_eq!(rt; reader.calls, 8, "call {fails_at}");
+        assert_eq!(rt; source.get_ref().calls, 8, "call {fails_at}");
         assert_eq!(rt;
-            writer.taken.as_slice(),
+            sink.get_ref().taken.as_slice(),
             OUTPUT.as_bytes(),
             "call {fails_at}"
         );
@@ -260,17 +165,18 @@ fn a_stopped_write_leaves_a_prefix_of_the_output(rt: HostRuntime) -> Result<(), 
     let calls = OUTPUT.len().div_ceil(2);
     for before in 0..=calls {
         for fails in [false, true] {
-            let mut writer = slow_writer(alloc, before as u32 + 1, fails);
-            let end = run_script(alloc, &mut parts_of(SCRIPT, 6), &mut writer);
+            let mut sink = Sink::new(slow_writer(alloc, before as u32 + 1, fails));
+            let end = run_script(alloc, &mut Source::new(parts_of(SCRIPT, 6)), &mut sink);
             let wanted = if before < calls {
                 Err(AppFault::WriteFault)
             } else {
                 Ok(RunEnd { bad_lines: 0 })
             };
             assert_eq!(rt; end, wanted, "after {before} calls");
+            assert_eq!(rt; sink.has_failed(), before < calls, "after {before} calls");
             let length = OUTPUT.len().min(2 * before);
             assert_eq!(rt;
-                writer.taken.as_slice(),
+                sink.get_ref().taken.as_slice(),
                 &OUTPUT.as_bytes()[..length],
                 "after {before} calls"
             );
@@ -280,231 +186,15 @@ fn a_stopped_write_leaves_a_prefix_of_the_output(rt: HostRuntime) -> Result<(), 
 }
 
 #[test]
-fn lines_are_bytes_up_to_a_line_feed(rt: HostRuntime) -> Result<(), Fail> {
-    let alloc = rt.alloc();
-    let empty = "tick 0\ngens\nfree\n";
+fn faults_have_their_numbers_and_names(rt: HostRuntime) -> Result<(), Fail> {
     let cases = [
-        (&b""[..], "", 0),
-        (&b"\n\r\n   \n  \r\n"[..], "", 0),
-        (&b"# show\n   #x y\n#\n#\0\n# \xc3\xa9\n"[..], "", 0),
-        (&b"show"[..], empty, 0),
-        (&b"show\n"[..], empty, 0),
-        (&b"show\r\n"[..], empty, 0),
-        (&b"   show  "[..], empty, 0),
-        (&b"kind   X  Tag \r\n"[..], "ok\n", 0),
-        (&b"show\r"[..], "bad line\n", 1),
-        (&b"show\r\r\n"[..], "bad line\n", 1),
-        (&b"\r"[..], "bad line\n", 1),
-        (&b"\tshow\n"[..], "bad line\n", 1),
-        (&b"show # x\n"[..], "bad line\n", 1),
-        (&b"\0\n"[..], "bad line\n", 1),
-        (&b"show\0\n"[..], "bad line\n", 1),
-        (&b"#\xff\n"[..], "bad line\n", 1),
-        (&b"# \xc3\n\xa9\n"[..], "bad line\nbad line\n", 2),
-        (&b"\xff\nshow\n"[..], "bad line\ntick 0\ngens\nfree\n", 1),
-        (
-            &b"kind X Text\nspawn X=a\0\nget 0v1\n"[..],
-            "ok\ndone 0v1\nrow 0v1 X=\"a\\u0000\"@1/1\n",
-            0,
-        ),
+        (AppFault::NoMemory, "fault 20 NoMemory"),
+        (AppFault::ReadFault, "fault 54 ReadFault"),
+        (AppFault::WriteFault, "fault 55 WriteFault"),
+        (AppFault::TooLong, "fault 56 TooLong"),
     ];
-    for (script, output, lines) in cases {
-        let mut out = String::new(alloc);
-        let bad = play_script(alloc, script, &mut out)?;
-        assert_eq!(rt; out.as_str(), output, "{script:?}");
-        assert_eq!(rt; bad, lines, "{script:?}");
-    }
-    Ok(())
-}
-
-#[test]
-fn the_setup_ends_at_the_first_other_line(rt: HostRuntime) -> Result<(), Fail> {
-    let alloc = rt.alloc();
-    let cases = [
-        (
-            "kind A Int\n\n# c\nbogus\nspawn Z\nkind A Tag\nkind 9 Tag\nkind B Int\nshow\nkind C Tag\nslots 3\n",
-            "ok\nbad line\nbad line\nrefused 31 KindTaken\nrefused 30 BadName\nok\n\
-             tick 0\ngens\nfree\nbad line\nbad line\n",
-            4,
-        ),
-        (
-            "undo\nkind A Int\n",
-            "refused 15 NothingToUndo\nbad line\n",
-            1,
-        ),
-        (
-            "put 9 Tag\nkind A Int\n",
-            "refused 30 BadName at 0.0.0\nbad line\n",
-            1,
-        ),
-        ("mark\nkind A Int\n", "mark 0 0\nbad line\n", 1),
-        ("changed\nslots 5\n", "changed 0\nbad line\n", 1),
-        ("added\nslots 5\n", "added 0\nbad line\n", 1),
-        (
-            "slots 0\nslots 1048577\nslots 01\nslots +1\nslots -1\nslots\nslots 1 2\n",
-            "bad line\nbad line\nbad line\nbad line\nbad line\nbad line\nbad line\n",
-            7,
-        ),
-        (
-            "slots 1048576\nslots 1\nslots 0\nspawn\nspawn\n",
-            "ok\nok\nbad line\ndone 0v1\nrefused 11 EntitiesFull at 0.0.0\n",
-            1,
-        ),
-        (
-            "slots 1\nslots 2\nspawn\nspawn\n",
-            "ok\nok\ndone 0v1\ndone 1v1\n",
-            0,
-        ),
-    ];
-    for (script, output, lines) in cases {
-        let mut out = String::new(alloc);
-        let bad = play_script(alloc, script.as_bytes(), &mut out)?;
-        assert_eq!(rt; out.as_str(), output, "{script}");
-        assert_eq!(rt; bad, lines, "{script}");
-    }
-    Ok(())
-}
-
-#[test]
-fn slot_limits_are_from_1_to_1048576(rt: HostRuntime) -> Result<(), Fail> {
-    let cases = [
-        (0, None),
-        (1, Some(1)),
-        (1_048_576, Some(1_048_576)),
-        (1_048_577, None),
-        (u32::MAX, None),
-    ];
-    for (slots, wanted) in cases {
-        let found = match SlotLimit::new(slots) {
-            Some(limit) => Some(limit.get()),
-            None => None,
-        };
-        assert_eq!(rt; found, wanted, "{slots}");
-    }
-    assert_eq!(rt; SlotLimit::most().get(), 1_048_576);
-    Ok(())
-}
-
-#[test]
-fn refusals_are_printed_and_change_nothing(rt: HostRuntime) -> Result<(), Fail> {
-    let alloc = rt.alloc();
-    let cases = [
-        (
-            "kind A Int\nspawn A=1\ndespawn 0v1\nspawn A=2\nget 0v1\nget 0v2\n\
-             despawn 0v1\ninsert 0v1 A=3\nremove 0v1 A\nget 0v2\n",
-            "ok\ndone 0v1\ndone\ndone 0v2\nrefused 1 NoSuchEntity\nrow 0v2 A=2@3/3\n\
-             refused 1 NoSuchEntity at 0.0.0\nrefused 1 NoSuchEntity at 0.0.0\n\
-             refused 1 NoSuchEntity at 0.0.0\nrow 0v2 A=2@3/3\n",
-            0,
-        ),
-        (
-            "slots 1\nspawn\nspawn\nshow\ndespawn 0v1\nspawn\n",
-            "ok\ndone 0v1\nrefused 11 EntitiesFull at 0.0.0\n\
-             tick 1\ngens 1\nfree\ntable -\nrow 0v1\ndone\ndone 0v2\n",
-            0,
-        ),
-        (
-            "kind A Int\ninsert +0 A=1\ndespawn +0\nremove +0 A\nget +0\nshow\n",
-            "ok\nrefused 12 BadLocal at 0.0.0\nrefused 12 BadLocal at 0.0.0\n\
-             refused 12 BadLocal at 0.0.0\nbad line\ntick 0\ngens\nfree\n",
-            1,
-        ),
-        (
-            "kind A Int\nspawn A=1 A=2\nspawn\nremove 0v1 A\nshow\n",
-            "ok\nrefused 6 DuplicateKind at 0.0.0\ndone 0v1\nrefused 3 NotPresent at 0.0.0\n\
-             tick 1\ngens 1\nfree\ntable -\nrow 0v1\n",
-            0,
-        ),
-        (
-            "spawn\nspawn\nparent 0v1 0v1\nparent 1v1 0v1\nparent 0v1 1v1\ndespawn 0v1\nunparent 0v1\nget 1v1\n",
-            "done 0v1\ndone 1v1\nrefused 7 SelfParent at 0.0.0\ndone\nrefused 8 Cycle at 0.0.0\n\
-             refused 2 HasChildren at 0.0.0\nrefused 9 NoParent at 0.0.0\nrow 1v1\n",
-            0,
-        ),
-        (
-            "spawn\nparent 5v1 0v1\nparent 0v1 5v1\nunparent 5v1\ndespawnall 5v1\n",
-            "done 0v1\nrefused 1 NoSuchEntity at 0.0.0\nrefused 1 NoSuchEntity at 0.0.0\n\
-             refused 1 NoSuchEntity at 0.0.0\nrefused 1 NoSuchEntity at 0.0.0\n",
-            0,
-        ),
-        (
-            "put 9 Int=1\nput a-b Tag\ndrop n\ndrop 9\nput n Tag\nput _ Tag\nshow\n",
-            "refused 30 BadName at 0.0.0\nrefused 30 BadName at 0.0.0\n\
-             refused 10 NoSuchResource at 0.0.0\nrefused 10 NoSuchResource at 0.0.0\ndone\n\
-             refused 30 BadName at 0.0.0\ntick 1\ngens\nfree\nresource n Tag@1/1\n",
-            0,
-        ),
-        (
-            "parent +0 5v1\nparent 5v1 +0\nunparent +0\ndespawnall +0\n",
-            "refused 12 BadLocal at 0.0.0\nrefused 12 BadLocal at 0.0.0\n\
-             refused 12 BadLocal at 0.0.0\nrefused 12 BadLocal at 0.0.0\n",
-            0,
-        ),
-    ];
-    for (script, output, lines) in cases {
-        let mut out = String::new(alloc);
-        let bad = play_script(alloc, script.as_bytes(), &mut out)?;
-        assert_eq!(rt; out.as_str(), output, "{script}");
-        assert_eq!(rt; bad, lines, "{script}");
-    }
-    Ok(())
-}
-
-#[test]
-fn lines_of_no_form_are_bad(rt: HostRuntime) -> Result<(), Fail> {
-    let alloc = rt.alloc();
-    let schema = kinds(alloc)?;
-    let others = [
-        "show x",
-        "undo 1",
-        "redo redo",
-        "Show",
-        "get",
-        "get 0v1 0v1",
-        "get +0",
-        "spawn B=1",
-        "spawn A=1 B",
-        "insert 0v1",
-        "insert A=1 0v1",
-        "insert 0v1 A=1 T",
-        "despawn",
-        "despawn 0v1 1v1",
-        "remove 0v1",
-        "remove 0v1 A=1",
-        "remove 0v1 B",
-        "parent 0v1",
-        "parent 0v1 x",
-        "parent 0v1 1v1 2v1",
-        "unparent",
-        "unparent 0v1 1v1",
-        "despawnall",
-        "despawnall A",
-        "despawnall 0v1 1v1",
-        "put",
-        "put n",
-        "put n Int",
-        "put n Int=",
-        "put n Int=+1",
-        "put n Tag=",
-        "put n Vec3=1,2",
-        "put n Link=x",
-        "put n A=1",
-        "put Int=1 n",
-        "put n Int=1 Tag",
-        "drop",
-        "drop n n",
-        "mark 1",
-        "Mark",
-        "changed A",
-        "changed 0v1",
-        "added 0",
-        "kind B",
-        "kind B Float",
-        "kind B Int Int",
-    ];
-    for line in others {
-        let read = read_line(alloc, &schema, line.as_bytes())?;
-        assert!(rt; matches!(&read, Line::Bad), "{line}");
+    for (fault, text) in cases {
+        assert_eq!(rt; fault.to_string(rt.alloc())?.as_str(), text);
     }
     Ok(())
 }

@@ -6,9 +6,8 @@ ghost use Rattle.scene_kinds.specs.declared.refusal.Refusal.{Refusal as Refused}
 ghost use Rattle.scene_world.specs.Machine.{opening, submitted, undo, redo};
 ghost use Rattle.scene_app.specs.Play.{done, frame, frame_refusal, target_of};
 
-use crate::command::Command;
-use crate::target::TargetWord;
 use scene_kinds::{Entity, Fault, Place, Refusal};
+use scene_script::{Command, TargetWord};
 use scene_world::World;
 use std::alloc::Global;
 use std::marker::Model;

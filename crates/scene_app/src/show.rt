@@ -5,10 +5,10 @@ ghost use Rattle.scene_links.specs.Forest.{parents};
 ghost use Rattle.scene_resources.specs.Resources.{cell_of};
 ghost use Rattle.scene_app.specs.Shown.{numbers_text, has_kind, name_in, one_name, names_from, more_names, names_text, rows_text, table_text, tables_text, entities_text, link_text, links_text, resource_text, one_resource, named_text, resources_text, head_text, show_text};
 
-use crate::print::{write_cell, write_row};
 use scene_kinds::{Cell, Entity, Row, Schema};
 use scene_links::Links;
 use scene_resources::Resources;
+use scene_script::{write_cell, write_row};
 use scene_world::World;
 use std::alloc::{AllocError, Global};
 

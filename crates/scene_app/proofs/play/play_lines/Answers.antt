@@ -1,7 +1,7 @@
 use Rattle.std.proofs.Common.{rules, arith, ◌≡◌, ◌++◌, ◌∷◌, ap, sym, subst, ◌∙◌, string_bytes}
 use Rattle.std.specs.Str.Lines.{lines}
 use Rattle.scene_app.specs.Play.{Replies, reply, run_from}
-use Rattle.scene_app.specs.Script.{line_in}
+use Rattle.scene_script.specs.Script.{line_in}
 use Rattle.scene_app.proofs.PlayLaws.{line_played}
 use Rattle.scene_app.proofs.play.play_lines.Goals as goal
 

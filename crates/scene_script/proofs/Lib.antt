@@ -1,0 +1,4 @@
+pub mod LineLaws
+pub mod NumberLaws
+pub mod TargetLaws
+pub mod WordLaws

@@ -1,0 +1,215 @@
+-- A number, an entity, and the one text of each.
+use Rattle.std.proofs.Common.{◌≡◌, ◌≢◌, ℕ, zero, suc, ◌<◌, ◌^◌, ℤ, pos, negsuc, neg_ℤ, Bool, true, false, cond, List, [], ◌∷◌, ◌++◌, length, get_or, refl, ap, sym, subst, ◌∙◌, arith, Result, Ok, Err, Option, Some, None, nat_lt, w64}
+use Rattle.std.specs.Prelude.{IfOk, IfSome, decimal, ◌==◌, ◌&&◌, FitsSigned}
+use Rattle.std.specs.Option.{option_and_then}
+use Rattle.std.specs.Result.{result_ok}
+use Rattle.std.specs.Fmt.{signed_decimal}
+use Rattle.std.specs.Str.{bytes_eq}
+use Rattle.std.specs.Str.Parse.{AllDigits, digits_value, signed_digits_value, ParsesSigned}
+use Rattle.std.proofs.lemmas.Bool.Decides.{nat_tests}
+use Rattle.std.proofs.lemmas.Slice.Eq.{bytes_eq-Decides}
+use Rattle.std.proofs.lemmas.Str.Parse.{IsNumeralModel, numerals_by_value, tells_digits, parse_signed_minus, parse_signed_plain, not_in_digits}
+use Rattle.std.proofs.lemmas.Fmt.{decimal-digits_value, decimal_digit, first_decimal, digits_decimal, digits_value-decimal, parse-signed_decimal}
+use Rattle.scene_kinds.specs.declared.entity.Entity.{Entity}
+use Rattle.scene_kinds.specs.Entity.{entity_text}
+use Rattle.scene_script.specs.Begins.{BeginsWhole}
+use Rattle.scene_script.specs.Words.{cut_at}
+use Rattle.scene_script.specs.Numbers.{is_i64, if_count, if_whole, count_in, number_in, entity_of, entity_in}
+use Rattle.scene_script.proofs.WordLaws.{cut_at-parts, cut_at-joins}
+
+-- std's words for digits and their value
+own : IsNumeralModel (AllDigits 10) (digits_value 10)
+own = numerals_by_value (AllDigits 10) tells_digits
+
+-- what holds only where a test passes isn't there where it fails
+not_there : {X : Type 0} (b : Bool) (x : X) → (b ≡ true → ⊥) → cond b (Some x) None ≡ None
+not_there true x h = absurd (h refl)
+not_there false x h = refl
+
+-- what holds only where a test passes tells that it passed
+there : {X : Type 0} (b : Bool) (x y : X) → cond b (Some x) None ≡ Some y → (b ≡ true) × (x ≡ y)
+there true x y e = (refl, cc e)
+there false x y e = absurd (cc e)
+
+-- a test of two parts passes where both pass
+both : (a b : Bool) → (a && b) ≡ true → (a ≡ true) × (b ≡ true)
+both true b e = (refl, e)
+both false b e = absurd (cc e)
+
+-- bytes that print a number are that number
+if_count-yes : (bytes : List ℕ) (n : ℕ) → bytes ≡ decimal n → n < 2 ^ 32 → if_count bytes n ≡ Some n
+if_count-yes bytes n e small =
+    let same : bytes_eq bytes (decimal n) ≡ true = (bytes_eq-Decides bytes (decimal n)).1 e in
+    let fits : nat_lt n (2 ^ 32) ≡ true = grind (arith, nat_tests) in
+    rw (same, fits) refl
+
+-- what is found is the number that prints so
+if_count-was : (bytes : List ℕ) (m n : ℕ) → if_count bytes m ≡ Some n → (bytes ≡ decimal n) × (n < 2 ^ 32)
+if_count-was bytes m n e =
+    let t = there (bytes_eq bytes (decimal m) && nat_lt m (2 ^ 32)) m n e in
+    let p = both (bytes_eq bytes (decimal m)) (nat_lt m (2 ^ 32)) t.0 in
+    let same : bytes ≡ decimal m = (bytes_eq-Decides bytes (decimal m)).0 p.0 in
+    let fits : m < 2 ^ 32 = grind (arith, nat_tests, p.1) in
+    subst (λ (k : ℕ). (bytes ≡ decimal k) × (k < 2 ^ 32)) t.1 (same, fits)
+
+-- the text of a number is that number
+pub count_in-text : (bytes : List ℕ) (n : ℕ) → n < 2 ^ 32 → bytes ≡ decimal n → count_in bytes ≡ Some n
+count_in-text bytes n small e =
+    let value : digits_value 10 bytes ≡ n = ap (digits_value 10) e ∙ digits_value-decimal own n (omega arith) in
+    ap (if_count bytes) value ∙ if_count-yes bytes n e small
+
+-- bytes that are a number are its text
+pub count_in-was : (bytes : List ℕ) (n : ℕ) → count_in bytes ≡ Some n → (bytes ≡ decimal n) × (n < 2 ^ 32)
+count_in-was bytes n e = if_count-was bytes (digits_value 10 bytes) n e
+
+-- what has just the texts of numbers is `count_in`
+pub count_is : (bytes : List ℕ) (r : Option ℕ) → IfSome r (λ n. n < 2 ^ 32) → IfSome r (λ n. bytes ≡ decimal n)
+    → ((n : ℕ) → n < 2 ^ 32 → bytes ≡ decimal n → r ≡ Some n) → r ≡ count_in bytes
+count_is bytes (Some n) small found only = sym (count_in-text bytes n small found)
+count_is bytes None small found only =
+    elim (count_in bytes) as (λ o. count_in bytes ≡ o → None ≡ o) [
+      | None ↦ λ e. refl
+      | Some n ↦ λ e. let was = count_in-was bytes n e in absurd (let k : None ≡ Some n = only n was.1 was.0 in cc)
+    ] refl
+
+-- a number that fits passes the test
+is_i64-fits : (z : ℤ) → FitsSigned w64 z → is_i64 z ≡ true
+is_i64-fits (pos n) h = let small : n < 2 ^ 63 = h.sfits in grind (arith, nat_tests)
+is_i64-fits (negsuc n) h = let small : n < 2 ^ 63 = h.sfits in grind (arith, nat_tests)
+
+-- a number that passes the test fits
+fits-is_i64 : (z : ℤ) → is_i64 z ≡ true → FitsSigned w64 z
+fits-is_i64 (pos n) h = let small : n < 2 ^ 63 = grind (arith, nat_tests) in record { sfits = small }
+fits-is_i64 (negsuc n) h = let small : n < 2 ^ 63 = grind (arith, nat_tests) in record { sfits = small }
+
+-- bytes that print a whole number are that number
+if_whole-yes : (bytes : List ℕ) (z : ℤ) → bytes ≡ signed_decimal z → FitsSigned w64 z → if_whole bytes z ≡ Some z
+if_whole-yes bytes z e small =
+    let same : bytes_eq bytes (signed_decimal z) ≡ true = (bytes_eq-Decides bytes (signed_decimal z)).1 e in
+    rw (same, is_i64-fits z small) refl
+
+-- what passes the test prints so and fits
+if_whole-was : (bytes : List ℕ) (z : ℤ) → (bytes_eq bytes (signed_decimal z) && is_i64 z) ≡ true → (bytes ≡ signed_decimal z) × FitsSigned w64 z
+if_whole-was bytes z e =
+    let p = both (bytes_eq bytes (signed_decimal z)) (is_i64 z) e in
+    ((bytes_eq-Decides bytes (signed_decimal z)).0 p.0, fits-is_i64 z p.1)
+
+-- digits that don't begin with a zero (48) are, after a -, the text of the number below zero
+minus_text : (n : ℕ) (ds : List ℕ) → decimal n ≡ ds → get_or ds 0 0 ≢ 48 → 45 ∷ ds ≡ signed_decimal (neg_ℤ (pos n))
+minus_text zero ds e h = absurd (h (ap (λ l. get_or l 0 0) (sym e ∙ decimal_digit 0 (omega arith))))
+minus_text (suc n) ds e h = ap (λ l. 45 ∷ l) (sym e)
+
+-- after a -
+found_minus : (E : Type 0) (b : ℕ) (ds : List ℕ) (z : ℤ) → ParsesSigned {E = E} w64 10 (b ∷ ds) (Ok z) → BeginsWhole (b ∷ ds) → b ≡ 45 → b ∷ ds ≡ signed_decimal z
+found_minus E b ds z h begins minus =
+    let q = parse_signed_minus own {E = E} w64 (b ∷ ds) (Ok z) h minus in
+    let first : get_or ds 0 0 ≢ 48 = begins.no_minus_zero minus in
+    let small : digits_value 10 ds < 2 ^ 64 = omega (arith, q.0.2) in
+    let text : decimal (digits_value 10 ds) ≡ ds = decimal-digits_value own ds q.0.0 q.0.1 (λ e. absurd (first e)) small in
+    ap (λ c. c ∷ ds) minus ∙ (minus_text (digits_value 10 ds) ds text first ∙ ap signed_decimal (sym q.1))
+
+-- without a sign
+found_plain : (E : Type 0) (bs : List ℕ) (z : ℤ) → ParsesSigned {E = E} w64 10 bs (Ok z) → BeginsWhole bs → get_or bs 0 0 ≢ 45 → bs ≡ signed_decimal z
+found_plain E bs z h begins minus =
+    let q = parse_signed_plain own {E = E} w64 bs (Ok z) h begins.no_plus minus in
+    let small : digits_value 10 bs < 2 ^ 64 = omega (arith, q.0.2) in
+    sym (decimal-digits_value own bs q.0.0 q.0.1 begins.lone_zero small) ∙ ap signed_decimal (sym q.1)
+
+-- a number that is read from bytes that begin so has that text
+pub whole_found : {E : Type 0} (bs : List ℕ) (r : Result ℤ E) → ParsesSigned w64 10 bs r → BeginsWhole bs → IfOk r (λ z. bs ≡ signed_decimal z)
+whole_found {E} bs (Err e) h begins = tt
+whole_found {E} [] (Ok z) h begins = found_plain E [] z h begins (λ e. omega (arith, e))
+whole_found {E} (b ∷ ds) (Ok z) h begins =
+    elim (b == 45) as (λ t. (b == 45) ≡ t → b ∷ ds ≡ signed_decimal z) [
+      | true ↦ λ t. found_minus E b ds z h begins (grind (arith, nat_tests, t))
+      | false ↦ λ t. found_plain E (b ∷ ds) z h begins (λ e. let k : (b == 45) ≡ true = grind (arith, nat_tests, e) in absurd (let l : true ≡ false = sym k ∙ t in cc))
+    ] refl
+
+-- the text of a number is read as that number
+pub whole_only : {E : Type 0} (bs : List ℕ) (r : Result ℤ E) (z : ℤ) → FitsSigned w64 z → bs ≡ signed_decimal z → ParsesSigned w64 10 bs r → r ≡ Ok z
+whole_only bs r z fits e h = parse-signed_decimal w64 z bs r fits fits.sfits e h
+
+-- how the text of each number begins
+begins : (z : ℤ) → FitsSigned w64 z → BeginsWhole (signed_decimal z)
+begins (pos zero) fits = rw (decimal_digit 0 (omega arith)) (record { no_plus = λ e. omega (arith, e); lone_zero = λ e. refl; no_minus_zero = λ e. absurd (omega (arith, e)) })
+begins (pos (suc n)) fits =
+    let small : suc n < 2 ^ 63 = fits.sfits in
+    let high = first_decimal (suc n) (omega arith) (omega arith) in
+    record { no_plus = λ e. omega (arith, high, e); lone_zero = λ e. absurd (omega (arith, high, e)); no_minus_zero = λ e. absurd (omega (arith, high, e)) }
+begins (negsuc n) fits =
+    let small : n < 2 ^ 63 = fits.sfits in
+    let high : 48 < get_or (decimal (suc n)) 0 0 = first_decimal (suc n) (omega arith) (omega arith) in
+    record { no_plus = λ e. omega (arith, e); lone_zero = λ e. absurd (omega (arith, e)); no_minus_zero = λ _ e. omega (arith, high, e) }
+
+-- the text of a number begins so
+pub begins_text : (bs : List ℕ) (z : ℤ) → FitsSigned w64 z → bs ≡ signed_decimal z → BeginsWhole bs
+begins_text bs z fits e = subst BeginsWhole (sym e) (begins z fits)
+
+-- what is read from bytes that begin so is `number_in`
+pub number_of_parse : (E : Type 0) (bs : List ℕ) (z : ℤ) → ParsesSigned {E = E} w64 10 bs (Ok z) → BeginsWhole bs → number_in bs ≡ Some z
+number_of_parse E bs z h b =
+    ap (if_whole bs) (sym h.1) ∙ if_whole-yes bs z (whole_found {E = E} bs (Ok z) h b) (subst (λ (y : ℤ). FitsSigned w64 y) (sym h.1) h.0.1)
+
+-- what isn't read isn't there
+pub number_of_error : {E : Type 0} (bs : List ℕ) (e : E) → ParsesSigned w64 10 bs (Err e) → number_in bs ≡ None
+number_of_error {E} bs e h =
+    not_there (bytes_eq bs (signed_decimal (signed_digits_value 10 bs)) && is_i64 (signed_digits_value 10 bs)) (signed_digits_value 10 bs)
+    (λ t. let was = if_whole-was bs (signed_digits_value 10 bs) t in
+    let k : Err e ≡ Ok (signed_digits_value 10 bs) = whole_only {E = E} bs (Err e) (signed_digits_value 10 bs) was.1 was.0 h in cc)
+
+-- what is read is `number_in`
+pub whole_is : {E : Type 0} (bs : List ℕ) (r : Result ℤ E) → ParsesSigned w64 10 bs r → BeginsWhole bs → result_ok r ≡ number_in bs
+whole_is {E} bs (Ok z) h b = sym (number_of_parse E bs z h b)
+whole_is {E} bs (Err e) h b = sym (number_of_error {E = E} bs e h)
+
+-- bytes that begin otherwise are no number
+pub number_elsewhere : (bs : List ℕ) → ¬ (BeginsWhole bs) → number_in bs ≡ None
+number_elsewhere bs h =
+    not_there (bytes_eq bs (signed_decimal (signed_digits_value 10 bs)) && is_i64 (signed_digits_value 10 bs)) (signed_digits_value 10 bs)
+    (λ t. let was = if_whole-was bs (signed_digits_value 10 bs) t in h (begins_text bs (signed_digits_value 10 bs) was.1 was.0))
+
+-- what the reader of whole numbers stands on
+pub ruleset whole_laws = (whole_found, whole_only, number_elsewhere)
+
+-- a decimal number holds no v (118)
+no_v : (n : ℕ) → n < 2 ^ 32 → (i : ℕ) → i < length (decimal n) → get_or (decimal n) i 0 ≢ 118
+no_v n small = not_in_digits own (decimal n) 118 (digits_decimal own n (omega arith)) (λ h. omega (arith, h.1))
+
+-- the text of an entity is that entity
+pub entity_in-text : (bytes : List ℕ) (i g : ℕ) → i < 2 ^ 32 → g < 2 ^ 32 → bytes ≡ entity_text i g → entity_in bytes ≡ Some (record { index = i; generation = g })
+entity_in-text bytes i g hi hg e =
+    let cut : cut_at 118 bytes ≡ Some (decimal i, decimal g) = ap (cut_at 118) e ∙ cut_at-parts 118 (decimal i) (decimal g) (no_v i hi) in
+    rw (cut, count_in-text (decimal i) i hi refl, count_in-text (decimal g) g hg refl) refl
+
+-- an entity has the index and the generation that were there
+entity_of-was : (i g : Option ℕ) (e : Entity) → entity_of i g ≡ Some e → (i ≡ Some e.index) × (g ≡ Some e.generation)
+entity_of-was None g e h = absurd (let k : None ≡ Some e = h in cc)
+entity_of-was (Some i) None e h = absurd (let k : None ≡ Some e = h in cc)
+entity_of-was (Some i) (Some g) e h =
+    let k : Some (record { index = i; generation = g }) ≡ Some e = h in
+    let same : record { index = i; generation = g } ≡ e = cc in
+    (ap (λ (x : Entity). Some x.index) same, ap (λ (x : Entity). Some x.generation) same)
+
+-- what stands round the first v is an index and a generation
+entity_of_parts : (bytes : List ℕ) (o : Option (List ℕ × List ℕ)) (e : Entity) → cut_at 118 bytes ≡ o → option_and_then (λ p. entity_of (count_in p.0) (count_in p.1)) o ≡ Some e
+    → (e.index < 2 ^ 32) × (e.generation < 2 ^ 32) × (bytes ≡ entity_text e.index e.generation)
+entity_of_parts bytes None e h k = absurd (let l : None ≡ Some e = k in cc)
+entity_of_parts bytes (Some p) e h k =
+    let both_there = entity_of-was (count_in p.0) (count_in p.1) e k in
+    let front = count_in-was p.0 e.index both_there.0 in
+    let back = count_in-was p.1 e.generation both_there.1 in
+    (front.1, back.1, cut_at-joins 118 bytes p.0 p.1 h ∙ (ap (λ xs. xs ++ (118 ∷ p.1)) front.0 ∙ ap (λ ys. decimal e.index ++ (118 ∷ ys)) back.0))
+
+-- bytes that are an entity are its text
+pub entity_in-was : (bytes : List ℕ) (e : Entity) → entity_in bytes ≡ Some e → (e.index < 2 ^ 32) × (e.generation < 2 ^ 32) × (bytes ≡ entity_text e.index e.generation)
+entity_in-was bytes e h = entity_of_parts bytes (cut_at 118 bytes) e refl h
+
+-- what has just the texts of entities is `entity_in`
+pub entity_is : (bytes : List ℕ) (r : Option Entity) → IfSome r (λ e. (e.index < 2 ^ 32) × (e.generation < 2 ^ 32)) → IfSome r (λ e. bytes ≡ entity_text e.index e.generation)
+    → ((i g : ℕ) → i < 2 ^ 32 → g < 2 ^ 32 → bytes ≡ entity_text i g → r ≡ Some (record { index = i; generation = g })) → r ≡ entity_in bytes
+entity_is bytes (Some e) small found only = sym (entity_in-text bytes e.index e.generation small.0 small.1 found)
+entity_is bytes None small found only =
+    elim (entity_in bytes) as (λ o. entity_in bytes ≡ o → None ≡ o) [
+      | None ↦ λ h. refl
+      | Some e ↦ λ h. let was = entity_in-was bytes e h in absurd (let k : None ≡ Some (record { index = e.index; generation = e.generation }) = only e.index e.generation was.0 was.1 was.2 in cc)
+    ] refl

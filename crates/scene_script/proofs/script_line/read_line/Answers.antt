@@ -1,0 +1,16 @@
+use Rattle.std.proofs.Common.{rules}
+use Rattle.std.specs.Str.{is_utf8}
+use Rattle.std.proofs.lemmas.Bool.{false_from_ne_true}
+use Rattle.std.proofs.lemmas.Str.{is_utf8-from_IsUtf8, IsUtf8-from_is_utf8}
+use Rattle.scene_script.proofs.script_line.read_line.Goals as goal
+
+pub returns-in-Err : goal.returns-in-Err
+returns-in-Err c =
+    let bytes = c.args.bytes.now in
+    let bad = false_from_ne_true (is_utf8 bytes) (λ q. c.in-Err.ensures.cases.0 (IsUtf8-from_is_utf8 bytes q)) in
+    search (rules, bad)
+
+pub returns-in_ok-words-in-Ok : goal.returns-in_ok-words-in-Ok
+returns-in_ok-words-in-Ok c =
+    let good = is_utf8-from_IsUtf8 c.args.bytes.now c.in-Ok.ensures.cases.1 in
+    search (rules, good)

@@ -1,0 +1,95 @@
+//! The printed texts of values, cells and rows.
+ghost use Rattle.std.specs.Prelude.{◌≡◌, ◌++◌, OnOk, string_bytes};
+ghost use Rattle.scene_script.specs.Printed.{json_text, vec3_text, value_text, assigned_text, cell_text, row_text, cells_text};
+
+use scene_kinds::{Cell, Row, Schema, Value};
+use std::alloc::{AllocError, Global};
+
+/// Adds a text as a JSON string, as `serde_json` writes it.
+pub fn write_json_text(alloc: Global, out: &mut String, text: &str) -> Result<(), AllocError>
+    ensures { OnOk result (string_bytes out.new ≡ string_bytes out.old ++ json_text text.now) }
+{
+    let quoted = serde_json::Value::try_from_str(alloc, text)?.to_string(alloc)?;
+    out.push_str(quoted.as_str())
+}
+
+/// Adds three whole numbers with commas between them.
+fn write_vec3(out: &mut String, v: &[i64; 3]) -> Result<(), AllocError>
+    ensures { OnOk result (string_bytes out.new ≡ string_bytes out.old ++ vec3_text v.now) }
+{
+    let [x, y, z] = *v;
+    write!(out, "{x},{y},{z}")?;
+    Ok(())
+}
+
+/// Adds a value (docs/SCRIPTS.md, "Output"): whole numbers in decimal, the three of a `Vec3` with commas
+/// between them, a text as a JSON string, a link as an entity text. A tag has no value, and adds nothing.
+pub fn write_value(alloc: Global, out: &mut String, value: &Value) -> Result<(), AllocError>
+    ensures { OnOk result (string_bytes out.new ≡ string_bytes out.old ++ value_text value.now) }
+{
+    match value {
+        Value::Tag => Ok(()),
+        Value::Int(n) => Ok(write!(out, "{n}")?),
+        Value::Vec3(v) => write_vec3(out, v),
+        Value::Text(text) => write_json_text(alloc, out, text.as_str()),
+        Value::Link(entity) => Ok(write!(out, "{entity}")?),
+    }
+}
+
+/// Adds what stands behind a name: nothing for a tag, else `=` and the value.
+fn write_assigned(alloc: Global, out: &mut String, value: &Value) -> Result<(), AllocError>
+    ensures { OnOk result (string_bytes out.new ≡ string_bytes out.old ++ assigned_text value.now) }
+{
+    if let Value::Tag = value {
+        return Ok(());
+    }
+    out.push_str("=")?;
+    write_value(alloc, out, value)
+}
+
+/// Adds a cell with its name: `NAME=VALUE@ADDED/CHANGED`, or `NAME@ADDED/CHANGED` for a tag (docs/SCRIPTS.md,
+/// "Output").
+pub fn write_cell(
+    alloc: Global,
+    out: &mut String,
+    name: &str,
+    cell: &Cell,
+) -> Result<(), AllocError>
+    ensures { OnOk result (string_bytes out.new ≡ string_bytes out.old ++ cell_text name.now cell.now) }
+{
+    out.push_str(name)?;
+    write_assigned(alloc, out, &cell.value)?;
+    write!(out, "@{}/{}", cell.added, cell.changed)?;
+    Ok(())
+}
+
+/// Adds cells, each after a space and with the name of its kind.
+fn write_cells(
+    alloc: Global,
+    out: &mut String,
+    schema: &Schema,
+    cells: &[(u8, Cell)],
+) -> Result<(), AllocError>
+    ensures { OnOk result (string_bytes out.new ≡ string_bytes out.old ++ cells_text schema.now cells.now) }
+{
+    'cells: for (kind, cell) in cells {
+        out.push(' ')?;
+        let name = schema.name_of(*kind).unwrap_or("");
+        write_cell(alloc, out, name, cell)?;
+    }
+    Ok(())
+}
+
+/// Adds a row: `row ENTITY`, and then each cell after a space, named by the schema (docs/SCRIPTS.md,
+/// "Output"). It adds no line feed.
+pub fn write_row(
+    alloc: Global,
+    out: &mut String,
+    schema: &Schema,
+    row: &Row,
+) -> Result<(), AllocError>
+    ensures { OnOk result (string_bytes out.new ≡ string_bytes out.old ++ row_text schema.now row.now) }
+{
+    write!(out, "row {}", row.entity)?;
+    write_cells(alloc, out, schema, row.cells.as_slice())
+}

@@ -1,0 +1,25 @@
+//! The words of a line, and where a word is cut.
+ghost use Rattle.std.specs.Prelude.{◌≡◌, ◌<◌, IfOk, map};
+ghost use Rattle.std.specs.Option.{option_map};
+ghost use Rattle.scene_script.specs.Words.{words_of, cut_at};
+
+use std::alloc::{AllocError, Global};
+
+/// The words of a line, which one or more spaces part (docs/SCRIPTS.md, "Words"). Spaces at the ends don't
+/// count, and no other byte parts words. It costs a walk over the line.
+pub fn words(alloc: Global, line: &str) -> Result<Vec<&str>, AllocError>
+    ensures { IfOk result (λ v. map (λ w. w.now) v.items ≡ words_of line.now) }
+{
+    line.split(' ')
+        .filter(|word| !word.is_empty())
+        .collect(alloc)
+}
+
+/// What stands before and after the first such mark in a word, or `None` where the word has none.
+#[tactic(auto, using(crate::proofs::WordLaws::cut_by_split))]
+pub fn cut(word: &str, mark: char) -> Option<(&str, &str)>
+    requires { mark < 128 }
+    ensures { option_map (λ p. (p.0.now, p.1.now)) result ≡ cut_at mark word.now }
+{
+    word.split_once(mark)
+}
