@@ -1,16 +1,17 @@
 -- Laws of cells that are put in and taken out.
-use Rattle.std.proofs.Common.{◌≡◌, ℕ, Bool, true, false, cond, not, ◌&&◌, T, List, [], ◌∷◌, refl, ap, sym, ◌∙◌, arith, Some, None}
+use Rattle.std.proofs.Common.{◌≡◌, ℕ, Bool, true, false, cond, not, T, List, [], ◌∷◌, refl, ap, sym, ◌∙◌, arith, Some, None}
 use Rattle.std.specs.List.{list_all}
 use Rattle.std.specs.Ordering.{nat_cmp, eq_by_cmp, is_lt, is_eq}
-use Rattle.std.specs.declared.cmp.Ordering.{Ordering}
 use Rattle.std.specs.declared.cmp.Ordering.TheVariants.{Less, Equal, Greater}
-use Rattle.std.specs.FinMap.Entries.{put, by_order, below_all, is_sorted, is_sorted-put, is_sorted-where_key, find-put, find-where_key}
+use Rattle.std.specs.FinMap.Entries.{put, by_order, below_all, is_sorted, is_sorted-put, is_sorted-where_key, find-put}
 use Rattle.std.proofs.lemmas.Bool.Decides.{nat_tests}
 use Rattle.std.proofs.lemmas.Cmp.{nat_cmp_total}
 use Rattle.std.proofs.lemmas.Bool.{and_parts}
 use Rattle.std.specs.Cmp.Derive.{both_true}
 use Rattle.scene_kinds.specs.declared.cell.Cell.{Cell}
 use Rattle.scene_kinds.specs.Cells.{IsAscending, cell_of, with_cell, without_cell}
+use Rattle.scene_kinds.proofs.Maps.{find-without}
+use Rattle.scene_kinds.proofs.Choices.{test_parts, less}
 
 -- cells that ascend still do with a cell put in
 pub ascending-with_cell : (cells : List (ℕ × Cell)) (kind : ℕ) (cell : Cell) → IsAscending cells → IsAscending (with_cell cells kind cell)
@@ -24,18 +25,9 @@ ascending-without_cell cells kind h = is_sorted-where_key nat_cmp (λ k. not (eq
 pub cell_of-with_cell : (cells : List (ℕ × Cell)) (kind : ℕ) (cell : Cell) (q : ℕ) → cell_of (with_cell cells kind cell) q ≡ cond (eq_by_cmp nat_cmp q kind) (Some cell) (cell_of cells q)
 cell_of-with_cell cells kind cell q = find-put nat_cmp nat_cmp_total q kind cell cells
 
--- kinds that tie are told from a third alike
-alike : (kind q x : ℕ) → nat_cmp q x ≡ Equal → not (eq_by_cmp nat_cmp kind x) ≡ not (eq_by_cmp nat_cmp kind q)
-alike kind q x e = let s : q ≡ x = grind (arith, nat_tests) in ap (λ (k : ℕ). not (eq_by_cmp nat_cmp kind k)) (sym s)
-
--- a choice by two kinds being apart is the turned choice by their being one
-unlike : {A : Type 0} (kind q : ℕ) (x y : A) → cond (not (eq_by_cmp nat_cmp kind q)) x y ≡ cond (eq_by_cmp nat_cmp q kind) y x
-unlike kind q x y = let s : eq_by_cmp nat_cmp kind q ≡ eq_by_cmp nat_cmp q kind = grind (arith, nat_tests) in
-    ap (λ b. cond (not b) x y) s ∙ elim (eq_by_cmp nat_cmp q kind) as (λ b. cond (not b) x y ≡ cond b y x) [ true ↦ refl | false ↦ refl ]
-
 -- the cell of a kind after a kind was taken out
 pub cell_of-without_cell : (cells : List (ℕ × Cell)) (kind q : ℕ) → cell_of (without_cell cells kind) q ≡ cond (eq_by_cmp nat_cmp q kind) None (cell_of cells q)
-cell_of-without_cell cells kind q = find-where_key nat_cmp (λ k. not (eq_by_cmp nat_cmp kind k)) q (alike kind q) cells ∙ unlike kind q (cell_of cells q) None
+cell_of-without_cell cells kind q = find-without nat_cmp_total kind q cells
 
 -- what is true of all cells, and of one that is put in, is true of all that are there then
 pub all-with_cell : (p : ℕ × Cell → Bool) (cells : List (ℕ × Cell)) (kind : ℕ) (cell : Cell) → list_all p cells ≡ true → p (kind, cell) ≡ true → list_all p (with_cell cells kind cell) ≡ true
@@ -69,17 +61,6 @@ none_taken (e ∷ es) kind h =
       | true ↦ λ g. absurd (let f : Some e.1 ≡ None = g in cc)
       | false ↦ λ g. ap (e ∷◌) (none_taken es kind g)
     ] h
-
--- the two tests of one that passes
-pub test_parts : (a b : Bool) → T (a && b) → T a × T b
-test_parts true b h = (tt, h)
-test_parts false b h = absurd h
-
--- what a test for less says
-less : (o : Ordering) → T (is_lt o) → o ≡ Less
-less Less h = refl
-less Equal h = absurd h
-less Greater h = absurd h
 
 -- the first kind is below all others
 pub first_below : (e : ℕ × Cell) (es : List (ℕ × Cell)) → IsAscending (e ∷ es) → T (below_all nat_cmp e.0 es)

@@ -1,4 +1,5 @@
 pub mod CellLaws
+pub mod Choices
 pub mod Lists
 pub mod Maps
 pub mod Masks

@@ -1,5 +1,5 @@
 -- Laws of maps to lists: a list that is put in, taken out or put back.
-use Rattle.std.proofs.Common.{◌≡◌, Bool, true, false, cond, List, [], ◌∷◌, refl, ap, sym, ◌∙◌, Option, Some, None}
+use Rattle.std.proofs.Common.{◌≡◌, true, false, cond, List, [], ◌∷◌, refl, ap, sym, ◌∙◌, Option, Some, None}
 use Rattle.std.specs.declared.cmp.Ordering.{Ordering}
 use Rattle.std.specs.declared.cmp.Ordering.TheVariants.{Less, Equal, Greater}
 use Rattle.std.specs.Ordering.{eq_by_cmp, is_eq}
@@ -9,6 +9,7 @@ use Rattle.scene_kinds.specs.Map as map
 use Rattle.scene_kinds.specs.Map.{Map}
 use Rattle.scene_kinds.specs.Lists.{listed, list_at, with_list}
 use Rattle.scene_kinds.proofs.Maps.{get-insert, get-remove, get_tied, same_map, ties_itself, equal_keys}
+use Rattle.scene_kinds.proofs.Choices.{absorbed, exchanged}
 
 -- a list as a map has it
 abbrev pub kept : {X : Type 0} → List X → Option (X × List X)
@@ -24,18 +25,6 @@ kept-listed (Some p) = refl
 pub listed-kept : {X : Type 0} (xs : List X) → listed (kept xs) ≡ xs
 listed-kept [] = refl
 listed-kept (x ∷ xs) = refl
-
--- of two choices by one test the first decides
-absorbed : {A : Type 0} (b : Bool) (x y z : A) → cond b x (cond b y z) ≡ cond b x z
-absorbed true x y z = refl
-absorbed false x y z = refl
-
--- choices by tests that never both pass may be made in either order
-exchanged : {A : Type 0} (b c : Bool) (x y z : A) → (b ≡ true → c ≡ true → ⊥) → cond b x (cond c y z) ≡ cond c y (cond b x z)
-exchanged true true x y z h = absurd (h refl refl)
-exchanged true false x y z h = refl
-exchanged false true x y z h = refl
-exchanged false false x y z h = refl
 
 module _ {K X : Type 0} {R : K → K → Ordering} (o : IsTotalOrder R) where
   pub get-with_list : (m : Map R (X × List X)) (k : K) (xs : List X) (q : K) → map.get (with_list o m k xs) q ≡ cond (eq_by_cmp R q k) (kept xs) (map.get m q)

@@ -1,5 +1,5 @@
 -- What a map's entries say as kinds.
-use Rattle.std.proofs.Common.{◌≡◌, ℕ, suc, ◌+◌, ◌<◌, ◌≤◌, true, false, cond, List, [], ◌∷◌, ◌++◌, length, refl, ap, ◌∙◌, arith, Option, Some, None, Ok, is_some, string_bytes, String}
+use Rattle.std.proofs.Common.{◌≡◌, ℕ, suc, ◌+◌, ◌<◌, ◌≤◌, true, false, cond, List, [], ◌∷◌, ◌++◌, length, refl, ap, ◌∙◌, arith, Some, Ok, is_some, string_bytes, String}
 use Rattle.std.specs.Prelude.{position, nat_lt}
 use Rattle.std.specs.List.{position_from, AllZip}
 use Rattle.std.specs.Map.{keys_of, lookup}
@@ -63,11 +63,6 @@ kinds_full kinds name shape good there most = let full : nat_lt (length kinds) 6
 -- a good new name where there is room
 pub kind_added : (kinds : Kinds) (name : List ℕ) (shape : Shape) → is_good_name name ≡ true → is_some (number_of kinds name) ≡ false → length kinds < 64 → with_kind kinds name shape ≡ Ok (length kinds, kinds ++ (name, shape) ∷ [])
 kind_added kinds name shape good there few = let room : nat_lt (length kinds) 64 ≡ true = grind (arith, nat_tests) in rw (good, there, room) refl
-
--- what is not there is none
-pub none_of_false : {X : Type 0} (o : Option X) → is_some o ≡ false → o ≡ None
-none_of_false None e = refl
-none_of_false (Some x) e = absurd (let k : true ≡ false = e in cc)
 
 -- a number and a list of kinds that a new kind gives
 pub same_added : (n m : ℕ) (ks ls : Kinds) → n ≡ m → ks ≡ ls → ◌≡◌ {A = Outcome ℕ Kinds} (Ok (n, ks)) (Ok (m, ls))

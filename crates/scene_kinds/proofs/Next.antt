@@ -4,18 +4,12 @@ use Rattle.std.specs.Prelude.{IfSome, IfNone}
 use Rattle.std.specs.List.{position_from}
 use Rattle.std.specs.Ordering.{nat_cmp}
 use Rattle.std.specs.declared.cmp.Ordering.TheVariants.{Less, Equal, Greater}
+use Rattle.std.specs.Cmp.{nat_cmp_is}
 use Rattle.std.specs.FinMap.Entries.{put, by_order}
+use Rattle.std.proofs.lemmas.Bool.{ltb-true}
 use Rattle.std.proofs.lemmas.Bool.Decides.{nat_tests}
 use Rattle.scene_kinds.specs.declared.cell.Cell.{Cell}
 use Rattle.scene_kinds.specs.Cells.{IsNext, GoesLast}
-
--- a kind is above one below it
-above : (a k : ℕ) → nat_lt a k ≡ true → nat_cmp k a ≡ Greater
-above a k h = grind (arith, nat_tests)
-
--- equal kinds tie
-same_cmp : (a k : ℕ) → a ≡ k → nat_cmp k a ≡ Equal
-same_cmp a k h = grind (arith, nat_tests)
 
 -- a kind that is neither at nor above another is below it
 below : (a k : ℕ) → nat_lt a k ≡ false → (a ≡ k → ⊥) → nat_cmp k a ≡ Less
@@ -34,7 +28,7 @@ nexts kind (e ∷ es) n i h =
               omega arith,
               record {
                 within = omega arith;
-                same = λ d v s. ap (λ (k : ℕ). (k, v) ∷ es) (sym s) ∙ ap (λ o. by_order o ((kind, v) ∷ e ∷ es) ((e.0, v) ∷ es) (e ∷ put nat_cmp kind v es)) (sym (same_cmp e.0 kind s));
+                same = λ d v s. ap (λ (k : ℕ). (k, v) ∷ es) (sym s) ∙ ap (λ o. by_order o ((kind, v) ∷ e ∷ es) ((e.0, v) ∷ es) (e ∷ put nat_cmp kind v es)) (nat_cmp_is kind e.0 Equal (sym s));
                 other = λ d v s. ap (λ o. by_order o ((kind, v) ∷ e ∷ es) ((e.0, v) ∷ es) (e ∷ put nat_cmp kind v es)) (sym (below e.0 kind p s));
               },
             ),
@@ -46,8 +40,8 @@ nexts kind (e ∷ es) n i h =
               omega arith,
               record {
                 within = omega (arith, r.1.1.within);
-                same = λ d v s. ap (e ∷◌) (r.1.1.same d v s) ∙ ap (λ o. by_order o ((kind, v) ∷ e ∷ es) ((e.0, v) ∷ es) (e ∷ put nat_cmp kind v es)) (sym (above e.0 kind p));
-                other = λ d v s. ap (e ∷◌) (r.1.1.other d v s) ∙ ap (λ o. by_order o ((kind, v) ∷ e ∷ es) ((e.0, v) ∷ es) (e ∷ put nat_cmp kind v es)) (sym (above e.0 kind p));
+                same = λ d v s. ap (e ∷◌) (r.1.1.same d v s) ∙ ap (λ o. by_order o ((kind, v) ∷ e ∷ es) ((e.0, v) ∷ es) (e ∷ put nat_cmp kind v es)) (nat_cmp_is kind e.0 Greater (ltb-true e.0 kind p));
+                other = λ d v s. ap (e ∷◌) (r.1.1.other d v s) ∙ ap (λ o. by_order o ((kind, v) ∷ e ∷ es) ((e.0, v) ∷ es) (e ∷ put nat_cmp kind v es)) (nat_cmp_is kind e.0 Greater (ltb-true e.0 kind p));
               },
             ),
           )
@@ -66,7 +60,7 @@ none_next kind [] n v h = refl
 none_next kind (e ∷ es) n v h =
     elim (nat_lt e.0 kind) as (λ b. nat_lt e.0 kind ≡ b → e ∷ es ++ (kind, v) ∷ [] ≡ put nat_cmp kind v (e ∷ es)) [
       | false ↦ λ p. absurd (let g : Some n ≡ None = rw p at h in cc)
-      | true ↦ λ p. ap (e ∷◌) (none_next kind es (n + 1) v (rw p at h)) ∙ ap (λ o. by_order o ((kind, v) ∷ e ∷ es) ((e.0, v) ∷ es) (e ∷ put nat_cmp kind v es)) (sym (above e.0 kind p))
+      | true ↦ λ p. ap (e ∷◌) (none_next kind es (n + 1) v (rw p at h)) ∙ ap (λ o. by_order o ((kind, v) ∷ e ∷ es) ((e.0, v) ∷ es) (e ∷ put nat_cmp kind v es)) (nat_cmp_is kind e.0 Greater (ltb-true e.0 kind p))
     ] refl
 
 -- where the search for a place ends with none, a cell of the kind goes last

@@ -1,23 +1,21 @@
 -- The place at which the search for a kind ends, and the cell that stands there.
 use Rattle.std.proofs.Common.{◌≡◌, ℕ, zero, suc, ◌+◌, ◌<◌, true, false, cond, List, [], ◌∷◌, length, refl, ap, subst, sym, ◌∙◌, arith, Option, Some, None, nat_eq}
-use Rattle.std.specs.Prelude.{IfNone, IfSome, slice_set, get_or, T, nat_lt}
+use Rattle.std.specs.Prelude.{IfNone, IfSome, slice_set, get_or, T}
 use Rattle.std.specs.List.{position_from}
+use Rattle.std.proofs.lemmas.Bool.{eqb-true}
 use Rattle.std.proofs.lemmas.Bool.Decides.{nat_tests}
-use Rattle.std.specs.Ordering.{nat_cmp, eq_by_cmp, is_lt}
+use Rattle.std.proofs.lemmas.Cmp.{ranked}
+use Rattle.std.specs.Ordering.{nat_cmp, eq_by_cmp}
 use Rattle.std.specs.Cmp.{nat_cmp_is}
 use Rattle.std.specs.FinMap.Entries.{put, by_order, below_all}
 use Rattle.std.specs.declared.cmp.Ordering.TheVariants.{Less, Equal, Greater}
 use Rattle.scene_kinds.specs.declared.cell.Cell.{Cell}
 use Rattle.scene_kinds.specs.Cells.{IsAscending, cell_of, with_cell, IsPlaceOf}
-use Rattle.scene_kinds.proofs.CellLaws.{test_parts}
+use Rattle.scene_kinds.proofs.Choices.{test_parts, less}
 
 -- the order of numbers tells two apart as equality does
 pub eq_by_cmp-nat_eq : (a b : ℕ) → eq_by_cmp nat_cmp a b ≡ nat_eq a b
 eq_by_cmp-nat_eq a b = grind (arith, nat_tests)
-
--- a test of equality that passes
-eq_of_test : (a b : ℕ) → nat_eq a b ≡ true → a ≡ b
-eq_of_test a b = grind (arith, nat_tests)
 
 -- no place, no cell
 pub no_place : (kind : ℕ) (cells : List (ℕ × Cell)) (n : ℕ) → position_from (λ (e : ℕ × Cell). nat_eq kind e.0) n cells ≡ None → cell_of cells kind ≡ None
@@ -35,7 +33,7 @@ placed kind (e ∷ es) n i h =
       | true ↦ λ t.
           let g : Some n ≡ Some i = rw t at h in
           let m : n ≡ i = cc in
-          (0, (omega arith, record { within = omega arith; found = λ d. ap (λ b. cond b (Some e.1) (cell_of es kind)) (eq_by_cmp-nat_eq kind e.0 ∙ t); key = λ d. sym (eq_of_test kind e.0 t) }))
+          (0, (omega arith, record { within = omega arith; found = λ d. ap (λ b. cond b (Some e.1) (cell_of es kind)) (eq_by_cmp-nat_eq kind e.0 ∙ t); key = λ d. sym (eqb-true kind e.0 t) }))
       | false ↦ λ t.
           let r = placed kind es (n + 1) i (rw t at h) in
           (suc r.0, (omega arith, record { within = omega arith; found = λ d. ap (λ b. cond b (Some e.1) (cell_of es kind)) (eq_by_cmp-nat_eq kind e.0 ∙ t) ∙ r.1.1.found d; key = λ d. r.1.1.key d }))
@@ -55,34 +53,18 @@ pub some_placed : (kind : ℕ) (cells : List (ℕ × Cell)) (r : Option ℕ) →
 some_placed kind cells None e = tt
 some_placed kind cells (Some i) e = found_place kind cells i (sym e)
 
--- the first of two that compare as less is below the second
-less_of_cmp : (a b : ℕ) → T (is_lt (nat_cmp a b)) → a < b
-less_of_cmp a b h =
-    elim (nat_lt a b) as (λ t. nat_lt a b ≡ t → T (is_lt (cond t Less (cond (nat_eq a b) Equal Greater))) → a < b) [
-      | true ↦ λ t g. grind (arith, nat_tests)
-      | false ↦ λ t. elim (nat_eq a b) as (λ u. T (is_lt (cond u Equal Greater)) → a < b) [ true ↦ λ g. absurd g | false ↦ λ g. absurd g ]
-    ] refl h
-
--- the comparison of equal numbers
-cmp_equal : (a b : ℕ) → a ≡ b → nat_cmp a b ≡ Equal
-cmp_equal a b e = sym (nat_cmp_is a b Equal e)
-
--- the comparison with a smaller number
-cmp_greater : (a b : ℕ) → b < a → nat_cmp a b ≡ Greater
-cmp_greater a b h = sym (nat_cmp_is a b Greater h)
-
 -- a key that is below each key of a list is below the one at a place
 below_at : (x : ℕ) (cells : List (ℕ × Cell)) (i : ℕ) (d : ℕ × Cell) → T (below_all nat_cmp x cells) → i < length cells → x < (get_or cells i d).0
 below_at x [] i d h within = absurd (omega arith)
-below_at x (e ∷ es) zero d h within = less_of_cmp x e.0 (test_parts _ _ h).0
+below_at x (e ∷ es) zero d h within = ranked x e.0 Less (sym (less _ (test_parts _ _ h).0))
 below_at x (e ∷ es) (suc i) d h within = below_at x es i d (test_parts _ _ h).1 (omega arith)
 
 -- where kinds ascend, a cell put at its kind is written where that kind stands
 pub put_at_place : (cells : List (ℕ × Cell)) (kind i : ℕ) (cell : Cell) (d : ℕ × Cell) → IsAscending cells → i < length cells → (get_or cells i d).0 ≡ kind → slice_set cells i ((get_or cells i d).0, cell) ≡ with_cell cells kind cell
 put_at_place [] kind i cell d up within is = absurd (omega arith)
 put_at_place (e ∷ es) kind zero cell d up within is =
-    ap (λ o. by_order o ((kind, cell) ∷ e ∷ es) ((e.0, cell) ∷ es) (e ∷ put nat_cmp kind cell es)) (sym (cmp_equal kind e.0 (sym is)))
+    ap (λ o. by_order o ((kind, cell) ∷ e ∷ es) ((e.0, cell) ∷ es) (e ∷ put nat_cmp kind cell es)) (nat_cmp_is kind e.0 Equal (sym is))
 put_at_place (e ∷ es) kind (suc i) cell d up within is =
     let later : e.0 < kind = subst (λ k. e.0 < k) is (below_at e.0 es i d (test_parts _ _ up).0 (omega arith)) in
     ap (λ t. e ∷ t) (put_at_place es kind i cell d (test_parts _ _ up).1 (omega arith) is)
-    ∙ ap (λ o. by_order o ((kind, cell) ∷ e ∷ es) ((e.0, cell) ∷ es) (e ∷ put nat_cmp kind cell es)) (sym (cmp_greater kind e.0 later))
+    ∙ ap (λ o. by_order o ((kind, cell) ∷ e ∷ es) ((e.0, cell) ∷ es) (e ∷ put nat_cmp kind cell es)) (nat_cmp_is kind e.0 Greater later)

@@ -1,5 +1,5 @@
 -- Laws of named cells, and of the map that is seen as them.
-use Rattle.std.proofs.Common.{◌≡◌, ℕ, Bool, true, false, cond, List, [], ◌∷◌, length, refl, ap, sym, ◌∙◌, arith, Option, Some, None, Ok, String, string_bytes}
+use Rattle.std.proofs.Common.{◌≡◌, ℕ, Bool, true, false, cond, List, [], ◌∷◌, length, refl, ap, sym, ◌∙◌, Option, Some, None, Ok, String, string_bytes}
 use Rattle.std.specs.declared.alloc.Global.{Global}
 use Rattle.std.specs.BTreeMap.{BTreeMap, UpdatesBy}
 use Rattle.std.specs.Cmp.{eq_by_cmp_equiv}
@@ -7,11 +7,13 @@ use Rattle.std.specs.List.{AllZip}
 use Rattle.std.specs.Map.{lookup}
 use Rattle.std.specs.Ordering.{eq_by_cmp, is_eq}
 use Rattle.std.specs.String.{string_cmp}
+use Rattle.std.proofs.lemmas.List.{nil_from_length}
 use Rattle.std.proofs.lemmas.Map.Text.{btree_map_updates_text, is_eq-slice_cmp}
 use Rattle.scene_kinds.specs.declared.cell.Cell.{Cell}
 use Rattle.scene_kinds.specs.declared.value.Value.{Value}
 use Rattle.scene_kinds.specs.Map as map
 use Rattle.scene_kinds.proofs.Maps.{get-insert, get-remove, same_map, ties_itself, equal_keys}
+use Rattle.scene_kinds.proofs.Choices.{absorbed}
 use Rattle.scene_resources.specs.Resources.{NamedCells, name_cmp, name_cmp_total, name_cmp_exact, cell_of, put_over, put_of, restore_of, taken, take_of}
 use Rattle.scene_resources.specs.Entries.{named_cells}
 
@@ -24,10 +26,6 @@ is_name a b = eq_by_cmp name_cmp a b
 pub cell_of-restore_of : (r : NamedCells) (name : List ℕ) (cell : Option Cell) (q : List ℕ) → cell_of (restore_of r name cell) q ≡ cond (is_name q name) cell (cell_of r q)
 cell_of-restore_of r name None q = get-remove name_cmp_total r name q
 cell_of-restore_of r name (Some cell) q = get-insert name_cmp_total r name cell q
-
-absorbed : (b : Bool) (x y z : Option Cell) → cond b x (cond b y z) ≡ cond b x z
-absorbed true x y z = refl
-absorbed false x y z = refl
 
 -- only the last cell that a name is given counts
 pub restore_of-restore_of : (r : NamedCells) (name : List ℕ) (c d : Option Cell) → restore_of (restore_of r name c) name d ≡ restore_of r name d
@@ -91,8 +89,7 @@ cells_clone D same (e ∷ es) (f ∷ fs) h = λ i. map.insert name_cmp_total (ce
 
 -- no entries are no cells, and the other way round
 pub no_cells : (es : List (String Global × Cell)) → length es ≡ 0 → named_cells es ≡ map.empty
-no_cells [] h = refl
-no_cells (e ∷ es) h = absurd (omega arith)
+no_cells es h = ap named_cells (nil_from_length es h)
 
 pub no_entries : (es : List (String Global × Cell)) → named_cells es ≡ map.empty → length es ≡ 0
 no_entries [] h = refl

@@ -1,9 +1,8 @@
 -- The names of a map's entries, in order, and the names of named cells.
-use Rattle.std.proofs.Common.{◌≡◌, ℕ, Bool, true, false, cond, List, [], ◌∷◌, refl, ap, sym, ◌∙◌, map, Some, String, string_bytes}
-use Rattle.std.specs.Prelude.{◌&&◌, ◌↔◌, T, Contains, IsSome}
+use Rattle.std.proofs.Common.{◌≡◌, ℕ, cond, List, [], ◌∷◌, refl, ap, sym, ◌∙◌, map, Some, String, string_bytes}
+use Rattle.std.specs.Prelude.{◌↔◌, T, Contains, IsSome}
 use Rattle.std.specs.declared.alloc.Global.{Global}
-use Rattle.std.specs.declared.cmp.Ordering.{Ordering}
-use Rattle.std.specs.declared.cmp.Ordering.TheVariants.{Less, Equal, Greater}
+use Rattle.std.specs.declared.cmp.Ordering.TheVariants.{Less}
 use Rattle.std.specs.Cmp.{eq_by_cmp_equiv}
 use Rattle.std.specs.FinMap.Entries.{put, by_order, find, below_all, is_sorted, is_some-find}
 use Rattle.std.specs.List.{AllByRecursion}
@@ -16,6 +15,7 @@ use Rattle.std.proofs.lemmas.Map.Lookups.{map_keys}
 use Rattle.std.proofs.lemmas.Map.Views.{list_any-from_Contains, Contains-from_any}
 use Rattle.scene_kinds.specs.declared.cell.Cell.{Cell}
 use Rattle.scene_kinds.proofs.Maps.{ties_itself, equal_keys}
+use Rattle.scene_kinds.proofs.Choices.{test_parts, less}
 use Rattle.scene_resources.specs.Resources.{NamedCells, name_cmp, name_cmp_total, name_cmp_exact, cell_of, names_of}
 use Rattle.scene_resources.specs.Entries.{named_cells}
 
@@ -42,15 +42,6 @@ pub names_in_order : (es : List (String Global × Cell)) (r : NamedCells) → na
 names_in_order es r seen h = sym (ap (map (λ e. e.0)) (in_order es h) ∙ names_first es) ∙ ap names_of seen
 
 -- ---- named cells
-
-test_parts : (a b : Bool) → T (a && b) → T a × T b
-test_parts true b h = (tt, h)
-test_parts false b h = absurd h
-
-less : (o : Ordering) → T (is_lt o) → o ≡ Less
-less Less h = refl
-less Equal h = absurd h
-less Greater h = absurd h
 
 -- a name below those of all entries
 below_names : (name : List ℕ) (es : List (List ℕ × Cell)) → T (below_all name_cmp name es) → AllByRecursion (λ k. name_cmp name k ≡ Less) (keys_of es)

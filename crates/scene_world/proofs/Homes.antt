@@ -13,7 +13,7 @@ use Rattle.scene_kinds.specs.declared.entity.Entity.{Entity}
 use Rattle.scene_kinds.specs.declared.cells.Row.{Row}
 use Rattle.scene_kinds.specs.Entity.{entity_cmp_total, entity_cmp_exact, is_same}
 use Rattle.scene_kinds.specs.Lists.{whole, listed}
-use Rattle.scene_kinds.proofs.CellLaws.{test_parts}
+use Rattle.scene_kinds.proofs.Choices.{test_parts}
 use Rattle.scene_kinds.proofs.Maps.{equal_keys, ties_itself}
 use Rattle.scene_world.specs.declared.home.Home.{Home}
 use Rattle.scene_world.specs.World.{Tables, row_at, place_among, home_in}

@@ -1,7 +1,8 @@
 use Rattle.std.proofs.Common.{◌≡◌, ◌≤◌, ◌<◌, ◌++◌, ◌∷◌, [], ◌∙◌, ap, sym, refl, true, false, arith, length, is_some, Err, string_bytes}
 use Rattle.scene_kinds.specs.declared.refusal.Refusal.{Refusal}
 use Rattle.scene_kinds.specs.Schema.{Kinds, is_good_name, number_of, named}
-use Rattle.scene_kinds.proofs.Named.{found_named, kind_taken, kinds_full, kind_added, named_pushed, length_named, none_of_false, same_added}
+use Rattle.scene_kinds.proofs.Named.{found_named, kind_taken, kinds_full, kind_added, named_pushed, length_named, same_added}
+use Rattle.scene_kinds.proofs.Choices.{none_of_false}
 use Rattle.indexmap.proofs.CallerLemmas.{insert_entry-new}
 use Rattle.scene_kinds.proofs.schema.Schema.add.Goals as goal
 
