@@ -1,7 +1,8 @@
 -- A move of slots changes one index.
 use Rattle.std.proofs.Common.{◌≡◌, ◌≢◌, inl, inr, ℕ, ◌+◌, ◌<◌, ◌≤◌, Bool, true, false, ◌||◌, nat_eq, nat_lt, List, [], ◌∷◌, ◌++◌, length, set, Some, Ok, if◌then◌else◌, refl, sym, ap, ◌∙◌, arith, length-append, length-set, get_or-set_other, slice_get}
 use Rattle.std.specs.List.{list_any}
-use Rattle.std.proofs.lemmas.Bool.Decides.{nat_tests}
+use Rattle.std.proofs.lemmas.Bool.{ltb-true, ltb-false, eq-eqb, ne_eqb}
+use Rattle.std.proofs.Math.Bool.{or-false, or-true}
 use Rattle.std.proofs.lemmas.List.{get_or_append_left}
 use Rattle.std.proofs.lemmas.List.Folds.{list_any-append}
 use Rattle.std.proofs.lemmas.Option.{slice_get-get_or, slice_get_past}
@@ -13,14 +14,7 @@ use Rattle.scene_alloc.proofs.Moves.{take_cases, freed, fresh_last, fresh_length
 
 -- a number that isn't the one pushed is in the list as before
 any_push : (xs : List ℕ) (x i : ℕ) → i ≢ x → list_any (nat_eq i) (xs ++ x ∷ []) ≡ list_any (nat_eq i) xs
-any_push xs x i n = list_any-append (nat_eq i) xs (x ∷ []) ∙ (ap (λ b. list_any (nat_eq i) xs || (b || false)) (other i x n) ∙ kept (list_any (nat_eq i) xs))
-  where
-    other : (a b : ℕ) → a ≢ b → nat_eq a b ≡ false
-    other a b n = grind (arith, nat_tests)
-
-    kept : (b : Bool) → (b || (false || false)) ≡ b
-    kept true = refl
-    kept false = refl
+any_push xs x i n = list_any-append (nat_eq i) xs (x ∷ []) ∙ (ap (λ b. list_any (nat_eq i) xs || (b || false)) (ne_eqb i x n) ∙ or-false (list_any (nat_eq i) xs))
 
 -- or the one that was last
 any_front : (xs : List ℕ) (x i : ℕ) → last xs ≡ Some x → i ≢ x → list_any (nat_eq i) (front xs) ≡ list_any (nat_eq i) xs
@@ -28,27 +22,14 @@ any_front xs x i q n = sym (any_push (front xs) x i n) ∙ ap (list_any (nat_eq 
 
 -- the last of a list is in it
 any_last : (xs : List ℕ) (x : ℕ) → last xs ≡ Some x → list_any (nat_eq x) xs ≡ true
-any_last xs x q = ap (list_any (nat_eq x)) (sym (push-last xs x q)) ∙ (list_any-append (nat_eq x) (front xs) (x ∷ []) ∙ (ap (λ b. list_any (nat_eq x) (front xs) || (b || false)) (same x) ∙ yes (list_any (nat_eq x) (front xs))))
-  where
-    same : (a : ℕ) → nat_eq a a ≡ true
-    same a = grind (arith, nat_tests)
-
-    yes : (b : Bool) → (b || (true || false)) ≡ true
-    yes true = refl
-    yes false = refl
+any_last xs x q = ap (list_any (nat_eq x)) (sym (push-last xs x q)) ∙ (list_any-append (nat_eq x) (front xs) (x ∷ []) ∙ (ap (λ b. list_any (nat_eq x) (front xs) || (b || false)) (eq-eqb x x refl) ∙ or-true (list_any (nat_eq x) (front xs))))
 
 -- two lists of one length are read alike where their elements are equal, and past the end
 read_alike : (xs ys : List ℕ) (i : ℕ) → (i < length xs → slice_get ys i ≡ slice_get xs i) → (length xs ≤ i → length ys ≤ i) → slice_get ys i ≡ slice_get xs i
 read_alike xs ys i within past = elim (nat_lt i (length xs)) as (λ b. nat_lt i (length xs) ≡ b → slice_get ys i ≡ slice_get xs i) [
-  | true ↦ λ p. within (below _ _ p)
-  | false ↦ λ p. slice_get_past ys i (past (above _ _ p)) ∙ sym (slice_get_past xs i (above _ _ p))
+  | true ↦ λ p. within (ltb-true _ _ p)
+  | false ↦ λ p. slice_get_past ys i (past (ltb-false _ _ p)) ∙ sym (slice_get_past xs i (ltb-false _ _ p))
 ] refl
-  where
-    below : (a b : ℕ) → nat_lt a b ≡ true → a < b
-    below a b p = grind (arith, nat_tests)
-
-    above : (a b : ℕ) → nat_lt a b ≡ false → b ≤ a
-    above a b p = grind (arith, nat_tests)
 
 get_push : (xs : List ℕ) (x i : ℕ) → i ≢ length xs → slice_get (xs ++ x ∷ []) i ≡ slice_get xs i
 get_push xs x i n =

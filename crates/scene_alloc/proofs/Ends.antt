@@ -1,7 +1,7 @@
 -- The last of a list and its front, against a push.
-use Rattle.std.proofs.Common.{◌≡◌, ℕ, ◌+◌, ◌<◌, false, nat_eq, List, [], ◌∷◌, ◌++◌, length, get_or, Some, None, refl, sym, ap, arith}
+use Rattle.std.proofs.Common.{◌≡◌, ℕ, ◌+◌, ◌<◌, false, nat_eq, List, [], ◌∷◌, ◌++◌, length, get_or, Some, None, refl, sym, ap, ◌∙◌, arith}
 use Rattle.std.specs.List.{list_any, IsDistinct}
-use Rattle.std.proofs.lemmas.Bool.Decides.{nat_tests}
+use Rattle.std.specs.Cmp.{nat_eq_equiv}
 use Rattle.std.proofs.lemmas.Grind.{common_steps}
 use Rattle.std.proofs.lemmas.List.{get_or_append_left}
 use Rattle.std.proofs.lemmas.List.Folds.{list_any_none}
@@ -31,14 +31,11 @@ last-None [] h = refl
 last-None (x ∷ []) h = cc
 last-None (x ∷ y ∷ ys) h = let e : y ∷ ys ≡ [] = last-None (y ∷ ys) h in cc
 
-same_test : (a b : ℕ) → nat_eq a b ≡ false → nat_eq b a ≡ false
-same_test a b h = grind (arith, nat_tests)
-
 -- a number that stands last in a list of distinct numbers stands nowhere else there
 pub distinct_before : (xs : List ℕ) (x : ℕ) → IsDistinct nat_eq (xs ++ x ∷ []) → IsDistinct nat_eq xs × (list_any (nat_eq x) xs ≡ false)
 distinct_before xs x h = (
   IsDistinct-from_apart nat_eq xs (λ i j d a b. apart i j d a b),
-  list_any_none (nat_eq x) xs (λ k d l. same_test _ _ (other k d l)),
+  list_any_none (nat_eq x) xs (λ k d l. nat_eq_equiv.symm x (get_or xs k d) ∙ other k d l),
 )
   where
     longer : length (xs ++ x ∷ []) ≡ length xs + 1

@@ -1,3 +1,4 @@
 pub mod Elsewhere
 pub mod Ends
 pub mod Moves
+pub mod Written

@@ -1,6 +1,7 @@
 -- The four moves of slots, and their ways back.
 use Rattle.std.proofs.Common.{◌≡◌, ℕ, ◌+◌, ◌<◌, ◌≤◌, Bool, true, false, not, nat_eq, nat_lt, List, [], ◌∷◌, ◌++◌, length, get_or, set, Some, None, Ok, All, get_or-set_same, if◌then◌else◌, refl, sym, ap, ◌∙◌, subst, subst₂, arith, length-append, length-set, set-set, slice_get, slice_index}
 use Rattle.std.specs.List.{list_any, IsDistinct}
+use Rattle.std.proofs.lemmas.Bool.{ltb-true, lt-ltb, eqb-true}
 use Rattle.std.proofs.lemmas.Bool.Decides.{nat_tests}
 use Rattle.std.proofs.lemmas.Grind.{common_steps, elements}
 use Rattle.std.proofs.lemmas.List.{set-get_or}
@@ -41,14 +42,11 @@ pub take_cases : (s : SlotState) (P : Entity → SlotState → Type 0) → ((i :
 take_cases s P reuse new e t h =
     elim (last s.free) as (λ o. last s.free ≡ o → take_from s o ≡ Ok (e, t) → P e t) [
       | None ↦ λ q g. elim (nat_lt (length s.generations) s.limit) as (λ b. nat_lt (length s.generations) s.limit ≡ b → ◌≡◌ {A = Outcome Entity SlotState} (if b then Ok (created s, after_new s) else refuse EntitiesFull) (Ok (e, t)) → P e t) [
-        | true ↦ λ p k. same_answer P (created s) e (after_new s) t k (new (last-None s.free q) (below _ _ p))
+        | true ↦ λ p k. same_answer P (created s) e (after_new s) t k (new (last-None s.free q) (ltb-true _ _ p))
         | false ↦ λ p k. absurd (let r : ◌≡◌ {A = Outcome Entity SlotState} (refuse EntitiesFull) (Ok (e, t)) = k in cc)
       ] refl g
       | Some i ↦ λ q g. same_answer P (reused s i) e (after_reuse s) t g (reuse i q)
     ] refl h
-  where
-    below : (a b : ℕ) → nat_lt a b ≡ true → a < b
-    below a b p = grind (arith, nat_tests)
 
 -- two states are equal where their parts are
 pub same_state : (s t : SlotState) → s.limit ≡ t.limit → s.generations ≡ t.generations → s.free ≡ t.free → s ≡ t
@@ -65,6 +63,38 @@ IsSlots-new limit a b = record {
   in_range = All-nil (λ i. i < 0);
   distinct = IsDistinct-from_apart nat_eq [] (λ i j d a b. absurd (omega arith));
 }
+
+-- slots with another free list are sound
+refreed : (s : SlotState) (free : List ℕ) → IsSlots s → All (λ k. k < length s.generations) free → IsDistinct nat_eq free → IsSlots (record s { free = free })
+refreed s free v in_range distinct = record {
+  some_limit = v.some_limit;
+  low_limit = v.low_limit;
+  few = v.few;
+  begun = v.begun;
+  low = v.low;
+  in_range = in_range;
+  distinct = distinct;
+}
+
+-- slots of which one has another generation are sound
+regenerated : (s : SlotState) (i g : ℕ) → IsSlots s → 1 ≤ g → g ≤ highest → IsSlots (record s { generations = set s.generations i g })
+regenerated s i g v begun low =
+    let n = length-set s.generations i g in
+    record {
+      some_limit = v.some_limit;
+      low_limit = v.low_limit;
+      few = omega (arith, v.few);
+      begun = All-set (λ g. 1 ≤ g) s.generations i g begun v.begun;
+      low = All-set (λ g. g ≤ highest) s.generations i g low v.low;
+      in_range = subst (λ m. All (λ k. k < m) s.free) (sym n) v.in_range;
+      distinct = v.distinct;
+    }
+
+-- slots with one more free index are sound
+freed_last : (s : SlotState) (i g : ℕ) → IsSlots s → slice_get s.generations i ≡ Some g → list_any (nat_eq i) s.free ≡ false → IsSlots (record s { free = s.free ++ i ∷ [] })
+freed_last s i g v there once = refreed s (s.free ++ i ∷ []) v
+    (All-push (λ k. k < length s.generations) s.free i v.in_range (slice_get_within s.generations i g there))
+    (IsDistinct-push nat_eq_equiv s.free i v.distinct once)
 
 -- ---- a take and its way back
 
@@ -100,15 +130,7 @@ last_free s i v q =
 
 pub IsSlots-take : (s t : SlotState) (e : Entity) → IsSlots s → take_of s ≡ Ok (e, t) → IsSlots t
 IsSlots-take s t e v h = take_cases s (λ _ t. IsSlots t)
-    (λ i q. let l = last_free s i v q in record {
-      some_limit = v.some_limit;
-      low_limit = v.low_limit;
-      few = v.few;
-      begun = v.begun;
-      low = v.low;
-      in_range = l.others_in_range;
-      distinct = l.others_distinct;
-    })
+    (λ i q. let l = last_free s i v q in refreed s (front s.free) v l.others_in_range l.others_distinct)
     (λ none l. record {
       some_limit = v.some_limit;
       low_limit = v.low_limit;
@@ -168,12 +190,9 @@ pub take-untake : (s : SlotState) (e : Entity) (fresh : Bool) → IsSlots s → 
 take-untake s e true v c =
     let f = c.newest refl in
     let n = fresh_length s e c in
-    let t : nat_lt (length (front s.generations)) s.limit ≡ true = below _ _ (omega (arith, v.few)) in
+    let t : nat_lt (length (front s.generations)) s.limit ≡ true = lt-ltb _ _ (omega (arith, v.few)) in
     let i : length (front s.generations) ≡ e.index = omega (arith, f.last_slot) in
     ap (λ o. take_from (untake_of s e true) (last o)) f.none_free ∙ (ap (λ b. if b then Ok (created (untake_of s e true), after_new (untake_of s e true)) else refuse EntitiesFull) t ∙ (λ j. Ok (record { index = i j; generation = sym f.first j }, record { limit = s.limit; generations = fresh_last s e c j; free = s.free })))
-  where
-    below : (a b : ℕ) → a < b → nat_lt a b ≡ true
-    below a b l = grind (arith, nat_tests)
 take-untake s e false v c =
     ap (take_from (untake_of s e false)) (last-push s.free e.index) ∙ (λ j. Ok (record { index = e.index; generation = get_or_from_slice_get s.generations e.index e.generation 0 c.current j }, record { limit = s.limit; generations = s.generations; free = front-push s.free e.index j }))
 
@@ -195,15 +214,7 @@ IsSlots-untake s e true v c =
       in_range = λ k d w. absurd (let z : length s.free ≡ 0 = ap length f.none_free in omega arith);
       distinct = v.distinct;
     }
-IsSlots-untake s e false v c = record {
-  some_limit = v.some_limit;
-  low_limit = v.low_limit;
-  few = v.few;
-  begun = v.begun;
-  low = v.low;
-  in_range = All-push (λ k. k < length s.generations) s.free e.index v.in_range (slice_get_within s.generations e.index e.generation c.current);
-  distinct = IsDistinct-push nat_eq_equiv s.free e.index v.distinct c.not_free;
-}
+IsSlots-untake s e false v c = freed_last s e.index e.generation v c.current c.not_free
 
 -- ---- a release and its way back
 
@@ -249,16 +260,9 @@ raised_low g l t = grind (arith, nat_tests)
 -- an entity below the highest generation isn't the last of its index
 pub IsSlots-freed : (s : SlotState) (e : Entity) → IsSlots s → CanRelease s e → retires e ≡ false → IsSlots (freed s e)
 IsSlots-freed s e v c r =
-    let n = length-set s.generations e.index (e.generation + 1) in
-    record {
-      some_limit = v.some_limit;
-      low_limit = v.low_limit;
-      few = omega (arith, v.few);
-      begun = All-set (λ g. 1 ≤ g) s.generations e.index (e.generation + 1) (omega arith) v.begun;
-      low = All-set (λ g. g ≤ highest) s.generations e.index (e.generation + 1) (raised_low e.generation (read_fact (λ g. g ≤ highest) s.generations e.index e.generation v.low c.current) r) v.low;
-      in_range = subst (λ m. All (λ k. k < m) (s.free ++ e.index ∷ [])) (sym n) (All-push (λ k. k < length s.generations) s.free e.index v.in_range (slice_get_within s.generations e.index e.generation c.current));
-      distinct = IsDistinct-push nat_eq_equiv s.free e.index v.distinct c.not_free;
-    }
+    let low = raised_low e.generation (read_fact (λ g. g ≤ highest) s.generations e.index e.generation v.low c.current) r in
+    freed_last (record s { generations = set s.generations e.index (e.generation + 1) }) e.index (e.generation + 1) (regenerated s e.index (e.generation + 1) v (omega arith) low)
+    (slice_get-set s.generations e.index e.generation (e.generation + 1) c.current) c.not_free
 
 pub IsSlots-release : (s : SlotState) (e : Entity) → IsSlots s → CanRelease s e → IsSlots (release_of s e)
 IsSlots-release s e v c = elim (retires e) as (λ b. retires e ≡ b → IsSlots (if b then s else freed s e)) [
@@ -292,17 +296,8 @@ IsSlots-unrelease s e true v c = v
 IsSlots-unrelease s e false v c =
     let r = c.raised refl in
     let l = last_free s e.index v r.last_free in
-    let n = length-set s.generations e.index e.generation in
     let h = read_fact (λ g. g ≤ highest) s.generations e.index (e.generation + 1) v.low r.raised in
-    record {
-      some_limit = v.some_limit;
-      low_limit = v.low_limit;
-      few = omega (arith, v.few);
-      begun = All-set (λ g. 1 ≤ g) s.generations e.index e.generation c.begun v.begun;
-      low = All-set (λ g. g ≤ highest) s.generations e.index e.generation (omega arith) v.low;
-      in_range = subst (λ m. All (λ k. k < m) (front s.free)) (sym n) l.others_in_range;
-      distinct = l.others_distinct;
-    }
+    regenerated (record s { free = front s.free }) e.index e.generation (refreed s (front s.free) v l.others_in_range l.others_distinct) c.begun (omega arith)
 
 -- ---- the free list has room
 
@@ -310,10 +305,7 @@ IsSlots-unrelease s e false v c =
 pub few_distinct : (n : ℕ) (xs : List ℕ) → IsDistinct nat_eq xs → All (λ i. i < n) xs → length xs ≤ n
 few_distinct n xs d a = length-le_from_distinct_below xs n d (λ q h.
     let w = Any-from_list_any (nat_eq q) xs h in
-    below q w.1 (subst (λ x. x < n) w.3 (a w.0 w.1 w.2)) w.4)
-  where
-    below : (q x : ℕ) → x < n → nat_eq q x ≡ true → q < n
-    below q x l t = grind (arith, nat_tests)
+    subst (λ x. x < n) (w.3 ∙ sym (eqb-true q w.1 w.4)) (a w.0 w.1 w.2))
 
 -- where an entity may be released, some index isn't free
 pub room_left : (s : SlotState) (e : Entity) → IsSlots s → CanRelease s e → length s.free < length s.generations
