@@ -1,6 +1,8 @@
 -- How many rows a kind set of a valid world has: no more than there are slots.
 use Rattle.std.proofs.Common.{◌≡◌, ℕ, zero, suc, ◌<◌, ◌≤◌, true, false, nat_eq, List, [], ◌∷◌, length, get_or, Some, refl, ap, sym, subst, ◌∙◌, arith, slice_get}
 use Rattle.std.specs.Prelude.{map as each, All}
+use Rattle.std.proofs.lemmas.Bool.{eqb-true}
+use Rattle.std.proofs.lemmas.List.{length-map}
 use Rattle.std.proofs.lemmas.Map.Keys.{IsDistinct-from_apart}
 use Rattle.std.proofs.lemmas.Option.{slice_get_within}
 use Rattle.scene_kinds.specs.declared.entity.Entity.{Entity}
@@ -9,16 +11,10 @@ use Rattle.scene_alloc.proofs.Moves.{few_distinct}
 use Rattle.scene_world.specs.declared.home.Home.{Home}
 use Rattle.scene_world.specs.World.{World, rows_at, row_at}
 use Rattle.scene_world.specs.Valid.{IsValid}
-use Rattle.scene_world.proofs.Stored.{eq_of_test}
 
 -- the indices of the entities of rows
 abbrev indices : List Row → List ℕ
 indices rows = each (λ r. r.entity.index) rows
-
--- there are as many as rows
-length_indices : (rows : List Row) → length (indices rows) ≡ length rows
-length_indices [] = refl
-length_indices (r ∷ rows) = ap suc (length_indices rows)
 
 -- a row within its list is there, and its index is read at its place
 row_there : (rows : List Row) (i d : ℕ) → i < length rows → (r : Row) × ((slice_get rows i ≡ Some r) × (get_or (indices rows) i d ≡ r.entity.index))
@@ -36,22 +32,22 @@ same_entity generations a b x y e =
 -- the rows of a kind set have distinct indices below the number of slots
 pub rows_few : (w : World) → IsValid w → (mask : ℕ) → length (rows_at w.tables mask) ≤ length w.slots.generations
 rows_few w v mask =
-    subst (λ n. n ≤ length w.slots.generations) (length_indices (rows_at w.tables mask))
+    subst (λ n. n ≤ length w.slots.generations) (length-map (rows_at w.tables mask) (λ r. r.entity.index))
     (few_distinct (length w.slots.generations) (indices (rows_at w.tables mask)) (IsDistinct-from_apart nat_eq (indices (rows_at w.tables mask)) apart) below)
   where
     below : All (λ i. i < length w.slots.generations) (indices (rows_at w.tables mask))
     below i d l =
-        let g = row_there (rows_at w.tables mask) i d (subst (λ n. i < n) (length_indices (rows_at w.tables mask)) l) in
+        let g = row_there (rows_at w.tables mask) i d (subst (λ n. i < n) (length-map (rows_at w.tables mask) (λ r. r.entity.index)) l) in
         subst (λ x. x < length w.slots.generations) (sym g.1.1) (slice_get_within w.slots.generations g.0.entity.index g.0.entity.generation (v.current (record { mask = mask; place = i }) g.0 g.1.0))
 
     apart : (i j d : ℕ) → i < j → j < length (indices (rows_at w.tables mask)) → nat_eq (get_or (indices (rows_at w.tables mask)) i d) (get_or (indices (rows_at w.tables mask)) j d) ≡ false
     apart i j d l m =
-        let n = length_indices (rows_at w.tables mask) in
+        let n = length-map (rows_at w.tables mask) (λ r. r.entity.index) in
         let a = row_there (rows_at w.tables mask) i d (omega arith) in
         let b = row_there (rows_at w.tables mask) j d (omega arith) in
         elim (nat_eq (get_or (indices (rows_at w.tables mask)) i d) (get_or (indices (rows_at w.tables mask)) j d)) as (λ t. nat_eq (get_or (indices (rows_at w.tables mask)) i d) (get_or (indices (rows_at w.tables mask)) j d) ≡ t → t ≡ false) [
           | true ↦ λ p.
-              let index : a.0.entity.index ≡ b.0.entity.index = sym a.1.1 ∙ (eq_of_test _ _ p ∙ b.1.1) in
+              let index : a.0.entity.index ≡ b.0.entity.index = sym a.1.1 ∙ (eqb-true _ _ p ∙ b.1.1) in
               let entity = same_entity w.slots.generations a.0.entity b.0.entity (v.current (record { mask = mask; place = i }) a.0 a.1.0) (v.current (record { mask = mask; place = j }) b.0 b.1.0) index in
               let home = v.once (record { mask = mask; place = i }) (record { mask = mask; place = j }) a.0 b.0 a.1.0 b.1.0 entity in
               let place : i ≡ j = ap (λ (h : Home). h.place) home in

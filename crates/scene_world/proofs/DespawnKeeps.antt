@@ -2,7 +2,8 @@
 use Rattle.std.proofs.Common.{◌≡◌, ℕ, ◌+◌, ◌<◌, true, false, ◌||◌, nat_eq, List, [], ◌∷◌, length, refl, ap, subst, sym, ◌∙◌, arith, Some, None, Ok, slice_get, slice_index, length-set, if◌then◌else◌}
 use Rattle.std.specs.Prelude.{Result, Err, is_some, ◌==◌}
 use Rattle.std.specs.List.{list_all, list_any}
-use Rattle.std.proofs.lemmas.Bool.{or_right}
+use Rattle.std.proofs.lemmas.Bool.{or_right, eq-eqb, ne_eqb, eqb-true, eqb-false}
+use Rattle.std.proofs.Math.Bool.{or-false}
 use Rattle.std.proofs.lemmas.Bool.Decides.{nat_tests}
 use Rattle.scene_kinds.specs.declared.entity.Entity.{Entity}
 use Rattle.scene_kinds.specs.declared.cell.Cell.{Cell}
@@ -24,9 +25,9 @@ use Rattle.scene_world.specs.Laws.{DespawnKeeps}
 use Rattle.scene_world.proofs.Outcomes.{not_ok, same_world, with_row_of}
 use Rattle.scene_world.proofs.RowLists.{written_stays}
 use Rattle.scene_world.proofs.Rows.{each_removed, once_removed, removed_nowhere}
-use Rattle.scene_world.proofs.Lives.{lives, lives_removed, read, there, one_of, first_of_three, second_of_three, third_of_three, last_of_three}
+use Rattle.scene_world.proofs.Lives.{lives, lives_removed, read, there, one_of, first_of_three, second_of_three, last_of_three}
 use Rattle.scene_world.proofs.SpawnKeeps.{slots_of}
-use Rattle.scene_world.proofs.TakenSlots.{any_pushed, differ, or_false}
+use Rattle.scene_world.proofs.TakenSlots.{any_pushed}
 
 -- what a release leaves, as a world sees it
 pub record IsReleased (s t : SlotState) (e : Entity) : Type 0 where
@@ -52,13 +53,10 @@ released s e v c =
         sound = sound;
         as_many = length-set s.generations e.index (e.generation + 1);
         kept = λ i g ne h. written_stays s.generations e.index (e.generation + 1) i g ne h;
-        others = λ i ne. any_pushed s.free e.index i ∙ ap (λ b. list_any (nat_eq i) s.free || b) (differ i e.index ne) ∙ or_false (list_any (nat_eq i) s.free);
-        settled = ap (λ b. b || is_retired (freed s e) e.index) (any_pushed s.free e.index e.index ∙ ap (λ b. list_any (nat_eq e.index) s.free || b) (itself e.index) ∙ or_right (list_any (nat_eq e.index) s.free) true refl);
+        others = λ i ne. any_pushed s.free e.index i ∙ ap (λ b. list_any (nat_eq i) s.free || b) (ne_eqb i e.index ne) ∙ or-false (list_any (nat_eq i) s.free);
+        settled = ap (λ b. b || is_retired (freed s e) e.index) (any_pushed s.free e.index e.index ∙ ap (λ b. list_any (nat_eq e.index) s.free || b) (eq-eqb e.index e.index refl) ∙ or_right (list_any (nat_eq e.index) s.free) true refl);
       }
     ] refl (IsSlots-release s e v c)
-  where
-    itself : (i : ℕ) → nat_eq i i ≡ true
-    itself i = grind (arith, nat_tests)
 
 -- a live entity may be released
 pub can_release : (w : World) (h : Home) (row : Row) → IsValid w → row_at w.tables h ≡ Some row → CanRelease w.slots row.entity
@@ -86,24 +84,18 @@ accounted_gone w h row v at k i l =
     let t = release_of w.slots row.entity in
     elim (nat_eq i row.entity.index) as (λ b. nat_eq i row.entity.index ≡ b → (is_live_index (gone w h row.entity) i || is_free (release_of w.slots row.entity) i || is_retired (release_of w.slots row.entity) i) ≡ true) [
       | true ↦ λ e.
-          let s : i ≡ row.entity.index = same i row.entity.index e in
+          let s : i ≡ row.entity.index = eqb-true i row.entity.index e in
           ap (λ (n : ℕ). is_live_index (gone w h row.entity) n || is_free (release_of w.slots row.entity) n || is_retired (release_of w.slots row.entity) n) s
           ∙ last_of_three (is_live_index (gone w h row.entity) row.entity.index) (is_free t row.entity.index) (is_retired t row.entity.index) k.settled
       | false ↦ λ e.
-          let ne = apart i row.entity.index e in
+          let ne = eqb-false i row.entity.index e in
           let kept : slice_index t.generations i ≡ slice_index w.slots.generations i = read t.generations i _ (k.kept i _ ne (there w.slots.generations i l)) in
           one_of _ (is_live_index w i) (is_free w.slots i) (is_retired w.slots i) (v.accounted i l)
           (λ a. first_of_three _ _ _ (ap (λ (g : ℕ). lives (without_row w.tables h) (record { index = i; generation = g })) kept
           ∙ lives_removed w.tables h row (record { index = i; generation = slice_index w.slots.generations i }) at (λ u. ne (sym (ap (λ (x : Entity). x.index) u))) a))
           (λ b. second_of_three (is_live_index (gone w h row.entity) i) _ _ (k.others i ne ∙ b))
-          (λ c. third_of_three (is_live_index (gone w h row.entity) i) (is_free t i) _ (ap (λ (g : ℕ). nat_eq g 4294967295) kept ∙ c))
+          (λ c. or_right (is_live_index (gone w h row.entity) i || is_free t i) _ (ap (λ (g : ℕ). nat_eq g 4294967295) kept ∙ c))
     ] refl
-  where
-    same : (a b : ℕ) → nat_eq a b ≡ true → a ≡ b
-    same a b h = grind (arith, nat_tests)
-
-    apart : (a b : ℕ) → nat_eq a b ≡ false → a ≡ b → ⊥
-    apart a b h e = grind (arith, nat_tests)
 
 -- the world after a despawn is valid
 pub gone_valid : (w : World) (h : Home) (row : Row) → IsValid w → row_at w.tables h ≡ Some row → is_some (map.get w.children row.entity) ≡ false → IsValid (gone w h row.entity)

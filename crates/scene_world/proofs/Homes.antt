@@ -1,14 +1,14 @@
 -- The home of an entity: where the search finds it its row stands, and an entity that has a row is found.
-use Rattle.std.proofs.Common.{◌≡◌, ℕ, zero, suc, ◌+◌, true, false, cond, T, List, [], ◌∷◌, refl, ap, subst, sym, ◌∙◌, arith, Some, None}
+use Rattle.std.proofs.Common.{◌≡◌, ℕ, zero, suc, true, false, cond, T, List, [], ◌∷◌, refl, ap, subst, sym, ◌∙◌, Some, None}
 use Rattle.std.specs.Prelude.{slice_get, option_map, is_some}
 use Rattle.std.specs.Option.{option_or}
-use Rattle.std.specs.List.{position_from}
 use Rattle.std.specs.Ordering.{nat_cmp, eq_by_cmp, is_eq, is_lt}
 use Rattle.std.specs.Cmp.{nat_cmp_total}
 use Rattle.std.specs.declared.cmp.Ordering.{Ordering}
 use Rattle.std.specs.declared.cmp.Ordering.TheVariants.{Less, Equal, Greater}
 use Rattle.std.specs.FinMap.{nat_cmp-IsAntisymmetric}
 use Rattle.std.specs.FinMap.Entries.{find, is_sorted, below_all}
+use Rattle.std.proofs.lemmas.Option.{same_Some}
 use Rattle.scene_kinds.specs.declared.entity.Entity.{Entity}
 use Rattle.scene_kinds.specs.declared.cells.Row.{Row}
 use Rattle.scene_kinds.specs.Entity.{entity_cmp_total, entity_cmp_exact, is_same}
@@ -18,6 +18,7 @@ use Rattle.scene_kinds.proofs.Maps.{equal_keys, ties_itself}
 use Rattle.scene_world.specs.declared.home.Home.{Home}
 use Rattle.scene_world.specs.World.{Tables, row_at, place_among, home_in}
 use Rattle.scene_world.specs.Valid.{StandsOnce}
+use Rattle.scene_world.proofs.Positions.{found, missed}
 
 -- the row at a place of a list has an entity
 pub record HasAt (rows : List Row) (p : ℕ) (e : Entity) : Type 0 where
@@ -25,47 +26,26 @@ pub record HasAt (rows : List Row) (p : ℕ) (e : Entity) : Type 0 where
   pub there : slice_get rows p ≡ Some row
   pub same : row.entity ≡ e
 
-later : (x : Row) (xs : List Row) (p : ℕ) (e : Entity) → HasAt xs p e → HasAt (x ∷ xs) (suc p) e
-later x xs p e h = record { row = h.row; there = h.there; same = h.same }
-
-placed : (e : Entity) (rows : List Row) (n i : ℕ) → position_from (λ (r : Row). is_same r.entity e) n rows ≡ Some i → (k : ℕ) × ((i ≡ n + k) × HasAt rows k e)
-placed e [] n i h = cc
-placed e (r ∷ rs) n i h =
-    elim (is_same r.entity e) as (λ b. is_same r.entity e ≡ b → (k : ℕ) × ((i ≡ n + k) × HasAt (r ∷ rs) k e)) [
-      | true ↦ λ p.
-          let g : Some n ≡ Some i = rw p at h in
-          let m : n ≡ i = cc in
-          (0, (omega arith, record { row = r; there = refl; same = equal_keys entity_cmp_exact r.entity e p }))
-      | false ↦ λ p.
-          let q = placed e rs (n + 1) i (rw p at h) in
-          (suc q.0, (omega arith, later r rs q.0 e q.1.1))
-    ] refl
+pub nowhere : (p : ℕ) (e : Entity) → HasAt [] p e → ⊥
+nowhere p e h = absurd (let k : None ≡ Some h.row = h.there in cc)
 
 -- a place that was found has the entity
 pub place_found : (e : Entity) (rows : List Row) (i : ℕ) → place_among e rows ≡ Some i → HasAt rows i e
-place_found e rows i h =
-    let q = placed e rows 0 i h in
-    let s : q.0 ≡ i = omega arith in subst (λ k. HasAt rows k e) s q.1.1
+place_found e rows i h = found (λ (r : Row). is_same r.entity e) (λ xs k. HasAt xs k e)
+    (λ r rs t. record { row = r; there = refl; same = equal_keys entity_cmp_exact r.entity e t })
+    (λ r rs k t g. record { row = g.row; there = g.there; same = g.same })
+    rows i h
 
-missed : (e : Entity) (rows : List Row) (n : ℕ) → position_from (λ (r : Row). is_same r.entity e) n rows ≡ None → (p : ℕ) → HasAt rows p e → ⊥
-missed e [] n h p g = absurd (let k : None ≡ Some g.row = g.there in cc)
-missed e (r ∷ rs) n h zero g =
-    elim (is_same r.entity e) as (λ b. is_same r.entity e ≡ b → ⊥) [
-      | true ↦ λ t. absurd (let k : Some n ≡ None = rw t at h in cc)
-      | false ↦ λ t.
-          let s : Some r ≡ Some g.row = g.there in
-          let u : r ≡ g.row = cc in
-          let v : true ≡ false = sym (ties_itself entity_cmp_total e) ∙ ap (λ x. is_same x e) (sym (ap (λ x. x.entity) u ∙ g.same)) ∙ t in absurd (cc)
-    ] refl
-missed e (r ∷ rs) n h (suc p) g =
-    elim (is_same r.entity e) as (λ b. is_same r.entity e ≡ b → ⊥) [
-      | true ↦ λ t. absurd (let k : Some n ≡ None = rw t at h in cc)
-      | false ↦ λ t. missed e rs (n + 1) (rw t at h) p (record { row = g.row; there = g.there; same = g.same })
-    ] refl
+-- a row of another entity before a list leaves it where it was, or nowhere
+nowhere_more : (r : Row) (rs : List Row) (e : Entity) → is_same r.entity e ≡ false → ((p : ℕ) → HasAt rs p e → ⊥) → (p : ℕ) → HasAt (r ∷ rs) p e → ⊥
+nowhere_more r rs e t none zero g =
+    let u = same_Some r g.row g.there in
+    let v : true ≡ false = sym (ties_itself entity_cmp_total e) ∙ ap (λ x. is_same x e) (sym (ap (λ x. x.entity) u ∙ g.same)) ∙ t in absurd (cc)
+nowhere_more r rs e t none (suc p) g = none p (record { row = g.row; there = g.there; same = g.same })
 
 -- where no place was found the entity has none
 pub place_missed : (e : Entity) (rows : List Row) → place_among e rows ≡ None → (p : ℕ) → HasAt rows p e → ⊥
-place_missed e rows h p g = missed e rows 0 h p g
+place_missed e rows h = missed (λ (r : Row). is_same r.entity e) (λ xs. (p : ℕ) → HasAt xs p e → ⊥) (λ p g. nowhere p e g) (λ r rs t none. nowhere_more r rs e t none) rows h
 
 is_less : (o : Ordering) → T (is_lt o) → is_eq o ≡ false
 is_less Less p = refl
@@ -82,9 +62,6 @@ below_none m (t ∷ ts) h =
 -- the rows of a kind set among entries
 abbrev pub rows_in : List (ℕ × (Row × List Row)) → ℕ → List Row
 rows_in es m = listed (find nat_cmp m es)
-
-pub nowhere : (p : ℕ) (e : Entity) → HasAt [] p e → ⊥
-nowhere p e h = absurd (let k : None ≡ Some h.row = h.there in cc)
 
 pub home_sound : (e : Entity) (es : List (ℕ × (Row × List Row))) → T (is_sorted nat_cmp es) → (h : Home) → home_in e es ≡ Some h → HasAt (rows_in es h.mask) h.place e
 home_sound e [] rising h is = absurd (let k : None ≡ Some h = is in cc)

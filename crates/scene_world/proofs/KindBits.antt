@@ -1,11 +1,11 @@
 -- The kind set of a row as a number, when one kind comes or goes.
-use Rattle.std.proofs.Common.{◌≡◌, ℕ, zero, suc, ◌+◌, ◌-◌, ◌*◌, ◌%◌, ◌^◌, ◌<◌, ◌≤◌, true, false, ◌&&◌, List, [], ◌∷◌, length, nat_lt, refl, ap, subst, sym, ◌∙◌, arith, Option, Some, None}
+use Rattle.std.proofs.Common.{◌≡◌, ℕ, zero, suc, ◌+◌, ◌-◌, ◌*◌, ◌%◌, ◌^◌, ◌<◌, ◌≤◌, true, false, List, [], ◌∷◌, length, nat_lt, refl, ap, subst, sym, ◌∙◌, arith, Option, Some, None}
 use Rattle.std.specs.Prelude.{slice_get, option_map, IsSome, is_some}
 use Rattle.std.specs.Option.{option_flatten}
 use Rattle.std.specs.List.{list_all}
-use Rattle.std.proofs.lemmas.Bool.{and_parts}
-use Rattle.std.proofs.lemmas.Bool.Decides.{nat_tests}
+use Rattle.std.proofs.lemmas.Bool.{and_parts, and_from, lt-ltb}
 use Rattle.std.proofs.lemmas.Nat.{one_shl}
+use Rattle.std.proofs.lemmas.Option.{slice_get_within}
 use Rattle.scene_kinds.specs.declared.cell.Cell.{Cell}
 use Rattle.scene_kinds.specs.declared.cells.Row.{Row}
 use Rattle.scene_kinds.specs.declared.shape.Shape.{Shape}
@@ -18,7 +18,6 @@ use Rattle.scene_table.specs.Table.{cell_at}
 use Rattle.scene_world.specs.declared.home.Home.{Home}
 use Rattle.scene_world.specs.World.{Tables, rows_at, row_at}
 use Rattle.scene_world.specs.Valid.{IsRowOf}
-use Rattle.scene_world.proofs.RowLists.{within}
 
 -- there is a row at a place below the length
 pub row_there : (t : Tables) (h : Home) → h.place < length (rows_at t h.mask) → (row : Row) × (row_at t h ≡ Some row)
@@ -48,8 +47,7 @@ kind_added mask row kind cell has low none =
 
 pub kind_fits : (row : Row) (mask kind : ℕ) (cell : Cell) → HasKinds mask row → AreKindsBelow 64 row.cells → kind < 64 → mask_of (with_cell row.cells kind cell) < 18446744073709551616
 kind_fits row mask kind cell has below low =
-    let test : nat_lt kind 64 ≡ true = grind (arith, nat_tests) in
-    mask-below 64 (with_cell row.cells kind cell) (ascending-with_cell row.cells kind cell has.ascending) (all-with_cell (λ (c : ℕ × Cell). nat_lt c.0 64) row.cells kind cell below test)
+    mask-below 64 (with_cell row.cells kind cell) (ascending-with_cell row.cells kind cell has.ascending) (all-with_cell (λ (c : ℕ × Cell). nat_lt c.0 64) row.cells kind cell below (lt-ltb kind 64 low))
 
 -- a kind that goes
 pub kind_taken : (mask : ℕ) (row : Row) (kind : ℕ) (c : Cell) → HasKinds mask row → kind < 64 → cell_of row.cells kind ≡ Some c
@@ -70,21 +68,19 @@ is_there (Some x) h = (x, refl)
 pub fits_known : (schema : Kinds) (value : Value) (kind : ℕ) → fits_kind schema value kind ≡ true → kind < length schema
 fits_known schema value kind h = elim (slice_get schema kind) as (λ o. slice_get schema kind ≡ o → has_shape value (option_map (λ (k : List ℕ × Shape). k.1) o) ≡ true → kind < length schema) [
   | None ↦ λ e g. absurd (let k : false ≡ true = g in cc)
-  | Some s ↦ λ e g. within schema kind s e
+  | Some s ↦ λ e g. slice_get_within schema kind s e
 ] refl h
 
 -- the kinds of a row of a world are below 64
 pub row_kinds_low : (schema : Kinds) (mask : ℕ) (row : Row) → IsRowOf schema mask row → length schema ≤ 64 → AreKindsBelow 64 row.cells
 row_kinds_low schema mask row fits l = low_kinds row.cells fits.shapes
   where
-    low : (k n : ℕ) → k < n → n ≤ 64 → nat_lt k 64 ≡ true
-    low k n h l = grind (arith, nat_tests)
-
     low_kinds : (cells : List (ℕ × Cell)) → list_all (λ (c : ℕ × Cell). fits_kind schema c.1.value c.0) cells ≡ true → AreKindsBelow 64 cells
     low_kinds [] h = refl
     low_kinds (c ∷ cs) h =
         let parts = and_parts (fits_kind schema c.1.value c.0) _ h in
-        ap (λ b. b && list_all (λ (c : ℕ × Cell). nat_lt c.0 64) cs) (low c.0 (length schema) (fits_known schema c.1.value c.0 parts.0) l) ∙ low_kinds cs parts.1
+        let known = fits_known schema c.1.value c.0 parts.0 in
+        and_from (nat_lt c.0 64) _ (lt-ltb c.0 64 (omega (arith, known, l))) (low_kinds cs parts.1)
 
 -- an option that was mapped to another is there where that one is
 pub some_mapped : {X Y : Type 0} (f : X → Y) (o : Option X) (p : Option Y) → is_some o ≡ true → option_map f o ≡ p → IsSome p

@@ -9,7 +9,8 @@ use Rattle.std.specs.Cmp.{nat_cmp_total}
 use Rattle.std.specs.declared.cmp.Ordering.TheVariants.{Less}
 use Rattle.std.specs.FinMap.{nat_cmp-IsAntisymmetric}
 use Rattle.std.specs.FinMap.Entries.{find, below_all, is_sorted, is_some-find, same_entries}
-use Rattle.std.proofs.lemmas.Bool.Decides.{nat_tests}
+use Rattle.std.proofs.lemmas.Bool.{ne_eqb}
+use Rattle.std.proofs.lemmas.Cmp.{nat_eq_equiv}
 use Rattle.std.proofs.lemmas.List.{take_more, get_or-map, length-map}
 use Rattle.std.proofs.lemmas.List.Elements.{filter-append, All-filter, All-from_recursion, recursion_from_All}
 use Rattle.std.proofs.lemmas.List.Sorted.{IsPermutation-map, All-permutation, list_any-IsPermutation}
@@ -116,11 +117,8 @@ none_among : (mask : ℕ) (ts : List TableState) → NoneHas mask ts → AllByRe
 none_among mask [] h = tt
 none_among mask (t ∷ ts) h = elim t.rows as (λ rows. AllByRecursion (λ y. nat_eq mask y ≡ false) (masks_seen (record t { rows = rows } ∷ ts))) [
   | [] ↦ none_among mask ts h.1
-  | row ∷ rows ↦ (differ mask t.mask h.0, none_among mask ts h.1)
+  | row ∷ rows ↦ (ne_eqb mask t.mask h.0, none_among mask ts h.1)
 ]
-  where
-    differ : (a b : ℕ) → (a ≡ b → ⊥) → nat_eq a b ≡ false
-    differ a b ne = grind (arith, nat_tests)
 
 -- tables with distinct kind sets give distinct numbers
 masks_distinct : (ts : List TableState) → AreApart ts → IsDistinct nat_eq (masks_seen ts)
@@ -165,13 +163,10 @@ numbers_in_order n (x ∷ xs) h i j d l under =
 pub sorted_masks : (ts ys : List TableState) → AreApart ts → IsPermutation (with_some ts) ys → IsNonDecreasing (each (λ t. t.mask) ys) → each (λ t. t.mask) ys ≡ masks_of (tables_of ts)
 sorted_masks ts ys h moved sorted =
     let moved_masks = IsPermutation-map (λ (t : TableState). t.mask) (with_some ts) ys moved in
-    let distinct = IsDistinct-IsPermutation nat_eq flips (masks_seen ts) (each (λ t. t.mask) ys) moved_masks (masks_distinct ts h) in
+    let distinct = IsDistinct-IsPermutation nat_eq nat_eq_equiv.symm (masks_seen ts) (each (λ t. t.mask) ys) moved_masks (masks_distinct ts h) in
     let rising = sorted_from_strictly_increasing (each (λ t. t.mask) ys) (IsStrictlyIncreasing-from_distinct (each (λ t. t.mask) ys) sorted distinct) in
     keys_alike (each (λ t. t.mask) ys) (tables_of ts).entries rising (tables_of ts).sorted
     (λ q. sym (list_any-IsPermutation (eq_by_cmp nat_cmp q) (masks_seen ts) (each (λ t. t.mask) ys) moved_masks) ∙ among_seen q ts h)
-  where
-    flips : (a b : ℕ) → nat_eq a b ≡ nat_eq b a
-    flips a b = grind (arith, nat_tests)
 
 -- ---- their rows
 

@@ -13,6 +13,7 @@ pub mod NewCells
 pub mod Onto
 pub mod Outcomes
 pub mod Parts
+pub mod Positions
 pub mod ResourceKeeps
 pub mod RowLists
 pub mod Rows

@@ -1,7 +1,8 @@
 -- Who is alive after a row was added, taken out or written.
 use Rattle.std.proofs.Common.{◌≡◌, ℕ, ◌<◌, Bool, true, false, ◌||◌, refl, ap, sym, ◌∙◌, Some, List, length, slice_index, slice_get}
 use Rattle.std.specs.Prelude.{is_some}
-use Rattle.std.proofs.lemmas.Option.{get_or_from_slice_get, slice_get-get_or}
+use Rattle.std.proofs.lemmas.Bool.{or_left, or_right}
+use Rattle.std.proofs.lemmas.Option.{same_Some, get_or_from_slice_get, slice_get-get_or}
 use Rattle.scene_kinds.specs.declared.entity.Entity.{Entity}
 use Rattle.scene_kinds.specs.declared.cells.Row.{Row}
 use Rattle.scene_world.specs.declared.home.Home.{Home}
@@ -20,11 +21,8 @@ lives_added t row e l = let h = here_live t e l in live_here (with_row t row) e 
 pub lives_removed : (t : Tables) (h : Home) (gone : Row) (e : Entity) → row_at t h ≡ Some gone → (gone.entity ≡ e → ⊥) → lives t e ≡ true → lives (without_row t h) e ≡ true
 lives_removed t h gone e at ne l =
     let g = here_live t e l in
-    let k = removed_stays t h gone g.0 g.1.row at (λ s. ne (ap (λ (r : Row). r.entity) (same_some gone g.1.row (sym at ∙ ap (row_at t) (sym s) ∙ g.1.there)) ∙ g.1.same)) g.1.there in
+    let k = removed_stays t h gone g.0 g.1.row at (λ s. ne (ap (λ (r : Row). r.entity) (same_Some gone g.1.row (sym at ∙ ap (row_at t) (sym s) ∙ g.1.there)) ∙ g.1.same)) g.1.there in
     live_here (without_row t h) e k.0 g.1.row k.1 g.1.same
-  where
-    same_some : (x y : Row) → Some x ≡ Some y → x ≡ y
-    same_some x y e = cc
 
 pub lives_rewritten : (t : Tables) (h : Home) (was row : Row) (e : Entity) → row_at t h ≡ Some was → row.entity ≡ was.entity → lives t e ≡ true → lives (with_row_at t h row) e ≡ true
 lives_rewritten t h was row e at same l =
@@ -46,16 +44,10 @@ one_of P false true c h f g k = g refl
 one_of P false false c h f g k = k h
 
 pub first_of_three : (a b c : Bool) → a ≡ true → (a || b || c) ≡ true
-first_of_three a b c h = ap (λ x. x || b || c) h
+first_of_three a b c h = or_left (a || b) c (or_left a b h)
 
 pub second_of_three : (a b c : Bool) → b ≡ true → (a || b || c) ≡ true
-second_of_three true b c h = refl
-second_of_three false b c h = ap (λ x. x || c) h
-
-pub third_of_three : (a b c : Bool) → c ≡ true → (a || b || c) ≡ true
-third_of_three true b c h = refl
-third_of_three false true c h = refl
-third_of_three false false c h = h
+second_of_three a b c h = or_left (a || b) c (or_right a b h)
 
 pub last_of_three : (a b c : Bool) → (b || c) ≡ true → (a || b || c) ≡ true
 last_of_three true b c h = refl

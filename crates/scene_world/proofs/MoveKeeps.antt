@@ -1,9 +1,9 @@
 -- Raising the tick, an accepted insert and an accepted remove keep a valid world valid.
-use Rattle.std.proofs.Common.{◌≡◌, ℕ, ◌+◌, ◌≤◌, Bool, true, false, ◌&&◌, nat_eq, List, [], ◌∷◌, refl, ap, subst, sym, ◌∙◌, arith, Option, Some, None, Ok, slice_index, if◌then◌else◌}
+use Rattle.std.proofs.Common.{◌≡◌, ℕ, ◌+◌, ◌≤◌, Bool, true, false, ◌&&◌, ◌||◌, nat_eq, List, [], ◌∷◌, refl, ap, subst, sym, ◌∙◌, arith, Option, Some, None, Ok, slice_index, if◌then◌else◌}
 use Rattle.std.specs.Prelude.{nat_le}
 use Rattle.std.specs.List.{list_all}
 use Rattle.std.specs.Ordering.{nat_cmp, eq_by_cmp}
-use Rattle.std.proofs.lemmas.Bool.{and_parts}
+use Rattle.std.proofs.lemmas.Bool.{and_parts, or_right}
 use Rattle.std.proofs.lemmas.Bool.Decides.{nat_tests}
 use Rattle.scene_kinds.specs.declared.entity.Entity.{Entity}
 use Rattle.scene_kinds.specs.declared.cell.Cell.{Cell}
@@ -27,8 +27,8 @@ use Rattle.scene_world.specs.Laws.{RaiseKeeps, InsertKeeps, RemoveKeeps}
 use Rattle.scene_world.proofs.Outcomes.{no_fault, not_ok, same_world, with_row_of}
 use Rattle.scene_world.proofs.Homes.{live_here}
 use Rattle.scene_world.proofs.Rows.{added_there, each_added, once_added, each_removed, once_removed, removed_nowhere, each_rewritten, once_rewritten}
-use Rattle.scene_world.proofs.Lives.{lives, lives_added, lives_removed, lives_rewritten, one_of, first_of_three, second_of_three, third_of_three}
-use Rattle.scene_world.proofs.NewCells.{timely_now, insert_tests}
+use Rattle.scene_world.proofs.Lives.{lives, lives_added, lives_removed, lives_rewritten, one_of, first_of_three, second_of_three}
+use Rattle.scene_world.proofs.NewCells.{timely_new, timely_there, insert_tests}
 
 -- ---- other tables under the same slots, links and resources
 
@@ -54,7 +54,7 @@ tables_valid w t v k = record {
   accounted = λ i l. one_of _ (is_live_index w i) (is_free w.slots i) (is_retired w.slots i) (v.accounted i l)
       (λ a. first_of_three (is_live_index (with_tables w t) i) (is_free w.slots i) (is_retired w.slots i) (k.alive (record { index = i; generation = slice_index w.slots.generations i }) a))
       (λ b. second_of_three (is_live_index (with_tables w t) i) (is_free w.slots i) (is_retired w.slots i) b)
-      (λ c. third_of_three (is_live_index (with_tables w t) i) (is_free w.slots i) (is_retired w.slots i) c);
+      (λ c. or_right (is_live_index (with_tables w t) i || is_free w.slots i) (is_retired w.slots i) c);
   rows = k.rows;
   links = (λ p c g. (k.alive p (v.links.0 p c g).0, k.alive c (v.links.0 p c g).1), v.links.1);
   names = v.names;
@@ -106,12 +106,6 @@ rewritten_keeps w h row new v at same fits timely = tables_valid w (with_row_at 
 
 -- ---- insert
 
-timely_there : (tick : ℕ) (c : Cell) (value : Value) → is_timely tick c ≡ true → is_timely tick (record { value = value; added = c.added; changed = tick }) ≡ true
-timely_there tick c value h = timely_now tick value c.added (within _ _ _ (and_parts _ _ h).0 (and_parts _ _ h).1)
-  where
-    within : (a b c : ℕ) → nat_le a b ≡ true → nat_le b c ≡ true → nat_le a c ≡ true
-    within a b c h k = grind (arith, nat_tests)
-
 -- a cell that is found passes what all cells pass
 found_passes : (p : Cell → Bool) (cells : List (ℕ × Cell)) (kind : ℕ) (c : Cell) → list_all (λ (x : ℕ × Cell). p x.1) cells ≡ true → cell_of cells kind ≡ Some c → p c ≡ true
 found_passes p [] kind c all there = absurd (let k : None ≡ Some c = there in cc)
@@ -131,10 +125,7 @@ insert_made w h row kind value None e v at fits =
       kinds = record { ascending = ascending-with_cell row.cells kind (new_cell w.tick value) old.kinds.ascending; kinds = refl };
       shapes = all-with_cell (λ (c : ℕ × Cell). fits_kind w.schema c.1.value c.0) row.cells kind (new_cell w.tick value) old.shapes fits;
     })
-    (all-with_cell (λ (c : ℕ × Cell). is_timely w.tick c.1) row.cells kind (new_cell w.tick value) (v.ticks.0 h row at) (timely_now w.tick value w.tick (itself w.tick)))
-  where
-    itself : (n : ℕ) → nat_le n n ≡ true
-    itself n = grind (arith, nat_tests)
+    (all-with_cell (λ (c : ℕ × Cell). is_timely w.tick c.1) row.cells kind (new_cell w.tick value) (v.ticks.0 h row at) (timely_new w.tick value))
 insert_made w h row kind value (Some c) e v at fits =
     let old = v.rows h row at in
     let new : Cell = record { value = value; added = c.added; changed = w.tick } in

@@ -10,9 +10,6 @@ use Rattle.scene_world.specs.World.{World, home_of, row_of, row_at}
 use Rattle.scene_world.specs.Commands.{unless, with_live}
 use Rattle.scene_world.proofs.Homes.{home_found}
 
-pub same_ok : {A E : Type 0} (x y : A) → ◌≡◌ {A = Result A E} (Ok x) (Ok y) → x ≡ y
-same_ok x y e = cc
-
 pub not_ok : {A E : Type 0} (x : A) (r : E) → ◌≡◌ {A = Result A E} (Err r) (Ok x) → ⊥
 not_ok x r e = absurd (cc)
 

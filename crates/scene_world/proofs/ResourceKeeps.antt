@@ -1,7 +1,5 @@
 -- An accepted change of a resource keeps a valid world valid.
-use Rattle.std.proofs.Common.{◌≡◌, ℕ, true, false, ◌&&◌, cond, List, refl, ap, subst, sym, ◌∙◌, arith, Option, Some, None, Ok}
-use Rattle.std.specs.Prelude.{nat_le}
-use Rattle.std.proofs.lemmas.Bool.Decides.{nat_tests}
+use Rattle.std.proofs.Common.{◌≡◌, ℕ, true, false, cond, List, refl, ap, subst, sym, ◌∙◌, Option, Some, None, Ok}
 use Rattle.scene_kinds.specs.declared.cell.Cell.{Cell}
 use Rattle.scene_kinds.specs.declared.value.Value.{Value}
 use Rattle.scene_kinds.specs.Schema.{is_good_name}
@@ -12,7 +10,7 @@ use Rattle.scene_world.specs.World.{World}
 use Rattle.scene_world.specs.Commands.{lifted, with_resources}
 use Rattle.scene_world.specs.Valid.{IsValid, is_timely}
 use Rattle.scene_world.specs.Laws.{PutResourceKeeps, RemoveResourceKeeps}
-use Rattle.scene_world.proofs.NewCells.{timely_now}
+use Rattle.scene_world.proofs.NewCells.{timely_new, timely_there}
 use Rattle.scene_world.proofs.Outcomes.{not_ok, same_world}
 use Rattle.scene_world.proofs.Parts.{allowed, lifted_part, done_part}
 
@@ -49,14 +47,8 @@ restored_valid w name o v new = resources_valid w (restore_of w.resources name o
 
 -- a value put over a cell of before
 put_timely : (tick : ℕ) (value : Value) (o : Option Cell) → ((c : Cell) → o ≡ Some c → is_timely tick c ≡ true) → is_timely tick (put_over o value tick) ≡ true
-put_timely tick value None old = timely_now tick value tick (itself tick)
-  where
-    itself : (n : ℕ) → nat_le n n ≡ true
-    itself n = grind (arith, nat_tests)
-put_timely tick value (Some c) old = timely_now tick value c.added (by_now c.added c.changed tick (old c refl))
-  where
-    by_now : (a b t : ℕ) → (nat_le a b && nat_le b t) ≡ true → nat_le a t ≡ true
-    by_now a b t h = grind (arith, nat_tests)
+put_timely tick value None old = timely_new tick value
+put_timely tick value (Some c) old = timely_there tick c value (old c refl)
 
 -- a value put at a good name
 pub put_valid : (w : World) (name : List ℕ) (value : Value) → IsValid w → is_good_name name ≡ true → IsValid (with_resources w (put_of w.resources name value w.tick))

@@ -3,12 +3,6 @@ use Rattle.std.proofs.Common.{◌≡◌, ℕ, zero, suc, ◌<◌, List, [], ◌�
 use Rattle.std.specs.Prelude.{slice_get, slice_set}
 use Rattle.scene_table.specs.Rows.{swap_out, last_of, front_of}
 
--- a value that stands in a list stands below its length
-pub within : {X : Type 0} (xs : List X) (p : ℕ) (r : X) → slice_get xs p ≡ Some r → p < length xs
-within [] p r h = absurd (let k : None ≡ Some r = h in cc)
-within (x ∷ xs) zero r h = omega arith
-within (x ∷ xs) (suc p) r h = let k = within xs p r h in omega arith
-
 -- after a push: an old value, or the new one at the end
 pub pushed : {X : Type 0} (P : Type 0) (xs : List X) (x : X) (p : ℕ) (r : X) → slice_get (xs ++ x ∷ []) p ≡ Some r
     → (slice_get xs p ≡ Some r → P) → (p ≡ length xs → x ≡ r → P) → P

@@ -4,6 +4,7 @@ use Rattle.std.specs.Prelude.{slice_get, slice_set}
 use Rattle.std.specs.Ordering.{nat_cmp, eq_by_cmp}
 use Rattle.std.specs.Cmp.{nat_cmp_total}
 use Rattle.std.specs.FinMap.{nat_cmp-IsAntisymmetric}
+use Rattle.std.proofs.lemmas.Option.{same_Some, slice_get_within}
 use Rattle.scene_kinds.specs.declared.entity.Entity.{Entity}
 use Rattle.scene_kinds.specs.declared.cells.Row.{Row}
 use Rattle.scene_kinds.specs.Cells.{mask_of}
@@ -13,7 +14,7 @@ use Rattle.scene_table.specs.Rows.{swap_out}
 use Rattle.scene_world.specs.declared.home.Home.{Home}
 use Rattle.scene_world.specs.World.{Tables, rows_at, with_rows, row_at, with_row, without_row, with_row_at}
 use Rattle.scene_world.specs.Valid.{EachRow, StandsOnce}
-use Rattle.scene_world.proofs.RowLists.{within, pushed, pushed_stays, pushed_last, written, written_stays, written_there, swapped, swapped_stays}
+use Rattle.scene_world.proofs.RowLists.{pushed, pushed_stays, pushed_last, written, written_stays, written_there, swapped, swapped_stays}
 
 -- what stands at a home after the rows of a kind set were written
 pub row_at-with_rows : (t : Tables) (m : ℕ) (rows : List Row) (h : Home) → row_at (with_rows t m rows) h ≡ cond (eq_by_cmp nat_cmp h.mask m) (slice_get rows h.place) (row_at t h)
@@ -23,9 +24,6 @@ row_at-with_rows t m rows h = ap (λ (xs : List Row). slice_get xs h.place) (lis
 -- numbers that a test tells apart aren't equal
 pub apart : (a b : ℕ) → eq_by_cmp nat_cmp a b ≡ false → a ≡ b → ⊥
 apart a b f s = let k : true ≡ false = sym (ties_itself nat_cmp_total b) ∙ ap (λ n. eq_by_cmp nat_cmp n b) (sym s) ∙ f in absurd (cc)
-
-same_some : {X : Type 0} (x y : X) → Some x ≡ Some y → x ≡ y
-same_some x y e = cc
 
 -- a row that stands after the rows of a kind set were written is one of those, or stood before under another kind set
 pub written_rows : (P : Type 0) (t : Tables) (m : ℕ) (rows : List Row) (h : Home) (r : Row) → row_at (with_rows t m rows) h ≡ Some r
@@ -105,7 +103,7 @@ pub removed : (P : Type 0) (t : Tables) (h : Home) (gone : Row) (g : Home) (r : 
     → ((g ≡ h → ⊥) → (g.mask ≡ h.mask → suc g.place < length (rows_at t h.mask)) → row_at t g ≡ Some r → P) → P
 removed P t h gone g r at is last old =
     written_rows P t h.mask (swap_out (rows_at t h.mask) h.place) g r is
-    (λ e k. swapped P (rows_at t h.mask) h.place g.place r (within (rows_at t h.mask) h.place gone at) k
+    (λ e k. swapped P (rows_at t h.mask) h.place g.place r (slice_get_within (rows_at t h.mask) h.place gone at) k
     (λ f q l m n. last e f q l m n)
     (λ ne m n. old (λ s. ne (ap (λ x. x.place) s)) (λ u. m) (from_list t h.mask g r e n)))
     (λ ne k. old (λ s. ne (ap (λ x. x.mask) s)) (λ u. absurd (ne u)) k)
@@ -149,7 +147,7 @@ removed_stays t h gone g r at ne is =
     elim (eq_by_cmp nat_cmp g.mask h.mask) as (λ b. eq_by_cmp nat_cmp g.mask h.mask ≡ b → (k : Home) × (row_at (without_row t h) k ≡ Some r)) [
       | true ↦ λ e.
           let s = equal_keys nat_cmp-IsAntisymmetric g.mask h.mask e in
-          let k = swapped_stays (rows_at t h.mask) h.place g.place r (within (rows_at t h.mask) h.place gone at) (λ f. ne (same_home g h s f)) (in_list t h.mask g r s is) in
+          let k = swapped_stays (rows_at t h.mask) h.place g.place r (slice_get_within (rows_at t h.mask) h.place gone at) (λ f. ne (same_home g h s f)) (in_list t h.mask g r s is) in
           (record { mask = h.mask; place = k.0 }, there_written t h.mask (swap_out (rows_at t h.mask) h.place) (record { mask = h.mask; place = k.0 }) r refl k.1)
       | false ↦ λ e. (g, there_apart t h.mask (swap_out (rows_at t h.mask) h.place) g r (apart _ h.mask e) is)
     ] refl
@@ -192,7 +190,7 @@ rewritten_stays t h was row g r at same is =
             | true ↦ λ f.
                 let n = equal_keys nat_cmp-IsAntisymmetric g.place h.place f in
                 let u : g ≡ h = same_home g h m n in
-                let v : was ≡ r = same_some was r (sym at ∙ ap (row_at t) (sym u) ∙ is) in
+                let v : was ≡ r = same_Some was r (sym at ∙ ap (row_at t) (sym u) ∙ is) in
                 (row, (ap (row_at (with_row_at t h row)) u ∙ there_written t h.mask (slice_set (rows_at t h.mask) h.place row) h row refl (written_there (rows_at t h.mask) h.place row was at), same ∙ ap (λ x. x.entity) v))
             | false ↦ λ f. (
               r,

@@ -4,6 +4,8 @@ use Rattle.std.specs.Prelude.{option_map, option_and_then, IfSome}
 use Rattle.std.specs.Option.{option_or}
 use Rattle.std.specs.Cmp.{nat_cmp_total}
 use Rattle.std.specs.FinMap.{nat_cmp-IsAntisymmetric}
+use Rattle.std.proofs.lemmas.Bool.{eqb-true, eqb-false}
+use Rattle.std.proofs.lemmas.Option.{slice_get_within}
 use Rattle.scene_kinds.specs.declared.entity.Entity.{Entity}
 use Rattle.scene_kinds.specs.declared.cells.Row.{Row}
 use Rattle.scene_kinds.proofs.Lists.{list_at_same, list_at_apart}
@@ -17,8 +19,7 @@ use Rattle.scene_links.specs.Forest.{Forest}
 use Rattle.scene_resources.specs.Resources.{NamedCells}
 use Rattle.scene_world.specs.Stored.{tables_of, AreApart, scan, seen, IsSound, IsHomeOf}
 use Rattle.scene_world.proofs.Homes.{HasAt, home_found, place_found, place_missed, home_is, home_none, nowhere}
-use Rattle.scene_world.proofs.RowLists.{within}
-use Rattle.scene_world.proofs.Stored.{eq_of_test, ne_of_test, none_seen}
+use Rattle.scene_world.proofs.Stored.{none_seen}
 
 scan_sound : (e : Entity) (ts : List TableState) → AreApart ts → (h : Home) → scan e ts ≡ Some h → HasAt (rows_at (tables_of ts) h.mask) h.place e
 scan_sound e [] apart h is = absurd (let k : None ≡ Some h = is in cc)
@@ -30,8 +31,8 @@ scan_sound e (t ∷ ts) apart h is =
       | None ↦ λ q s.
           let there = scan_sound e ts apart.1 h s in
           elim (nat_eq h.mask t.mask) as (λ b. nat_eq h.mask t.mask ≡ b → HasAt (rows_at (tables_of (t ∷ ts)) h.mask) h.place e) [
-            | true ↦ λ v. absurd (nowhere h.place e (subst (λ rows. HasAt rows h.place e) (ap (rows_at (tables_of ts)) (eq_of_test h.mask t.mask v) ∙ none_seen t.mask ts apart.0) there))
-            | false ↦ λ v. subst (λ rows. HasAt rows h.place e) (sym (list_at_apart nat_cmp_total nat_cmp-IsAntisymmetric (tables_of ts) t.mask h.mask t.rows (ne_of_test h.mask t.mask v))) there
+            | true ↦ λ v. absurd (nowhere h.place e (subst (λ rows. HasAt rows h.place e) (ap (rows_at (tables_of ts)) (eqb-true h.mask t.mask v) ∙ none_seen t.mask ts apart.0) there))
+            | false ↦ λ v. subst (λ rows. HasAt rows h.place e) (sym (list_at_apart nat_cmp_total nat_cmp-IsAntisymmetric (tables_of ts) t.mask h.mask t.rows (eqb-false h.mask t.mask v))) there
           ] refl
     ] refl is
 
@@ -41,8 +42,8 @@ scan_complete e (t ∷ ts) is h g =
     elim (place_among e t.rows) as (λ o. place_among e t.rows ≡ o → option_or (option_map (λ (p : ℕ). record { mask = t.mask; place = p }) o) (scan e ts) ≡ None → ⊥) [
       | Some k ↦ λ q s. absurd (cc)
       | None ↦ λ q s. elim (nat_eq h.mask t.mask) as (λ b. nat_eq h.mask t.mask ≡ b → ⊥) [
-        | true ↦ λ v. place_missed e t.rows q h.place (subst (λ rows. HasAt rows h.place e) (ap (rows_at (tables_of (t ∷ ts))) (eq_of_test h.mask t.mask v) ∙ list_at_same nat_cmp_total (tables_of ts) t.mask t.rows) g)
-        | false ↦ λ v. scan_complete e ts s h (subst (λ rows. HasAt rows h.place e) (list_at_apart nat_cmp_total nat_cmp-IsAntisymmetric (tables_of ts) t.mask h.mask t.rows (ne_of_test h.mask t.mask v)) g)
+        | true ↦ λ v. place_missed e t.rows q h.place (subst (λ rows. HasAt rows h.place e) (ap (rows_at (tables_of (t ∷ ts))) (eqb-true h.mask t.mask v) ∙ list_at_same nat_cmp_total (tables_of ts) t.mask t.rows) g)
+        | false ↦ λ v. scan_complete e ts s h (subst (λ rows. HasAt rows h.place e) (list_at_apart nat_cmp_total nat_cmp-IsAntisymmetric (tables_of ts) t.mask h.mask t.rows (eqb-false h.mask t.mask v)) g)
       ] refl
     ] refl is
 
@@ -61,7 +62,7 @@ home_facts w e h is =
       row = k.row;
       there = k.there;
       same = k.same;
-      within = within (rows_at w.tables h.mask) h.place k.row k.there;
+      within = slice_get_within (rows_at w.tables h.mask) h.place k.row k.there;
       found = ap (λ (o : Option Home). option_and_then (λ (g : Home). option_map (λ (row : Row). (g, row)) (row_at w.tables g)) o) (sym is) ∙ ap (λ (o : Option Row). option_map (λ (row : Row). (h, row)) o) k.there;
     }
 

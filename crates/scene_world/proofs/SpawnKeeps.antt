@@ -1,8 +1,8 @@
 -- An accepted spawn keeps a valid world valid.
-use Rattle.std.proofs.Common.{◌≡◌, ℕ, ◌<◌, true, false, ◌||◌, nat_eq, List, length, refl, ap, subst, sym, ◌∙◌, arith, Some, None, Ok, slice_get, slice_index, ⊎_elim}
+use Rattle.std.proofs.Common.{◌≡◌, ℕ, ◌<◌, true, false, ◌||◌, nat_eq, List, length, refl, ap, subst, sym, ◌∙◌, Some, None, Ok, slice_get, slice_index, ⊎_elim}
 use Rattle.std.specs.Prelude.{Err}
 use Rattle.std.specs.List.{list_all}
-use Rattle.std.proofs.lemmas.Bool.Decides.{nat_tests}
+use Rattle.std.proofs.lemmas.Bool.{or_right, eqb-true, eqb-false}
 use Rattle.scene_kinds.specs.declared.entity.Entity.{Entity}
 use Rattle.scene_kinds.specs.declared.cell.Cell.{Cell}
 use Rattle.scene_kinds.specs.declared.cells.Row.{Row}
@@ -17,7 +17,7 @@ use Rattle.scene_world.specs.Laws.{SpawnKeeps}
 use Rattle.scene_world.proofs.Outcomes.{no_fault, not_ok, same_world}
 use Rattle.scene_world.proofs.Homes.{live_here}
 use Rattle.scene_world.proofs.Rows.{StandsNowhere, added_there, each_added, once_added}
-use Rattle.scene_world.proofs.Lives.{lives, lives_added, read, there, one_of, first_of_three, second_of_three, third_of_three}
+use Rattle.scene_world.proofs.Lives.{lives, lives_added, read, there, one_of, first_of_three, second_of_three}
 use Rattle.scene_world.proofs.NewCells.{new_ascending, new_shapes, new_timely, spawn_tests}
 use Rattle.scene_world.proofs.TakenSlots.{IsTaken, taken}
 
@@ -52,7 +52,7 @@ old_accounted w s row v t i l ne =
     one_of _ (is_live_index w i) (is_free w.slots i) (is_retired w.slots i) (v.accounted i l)
     (λ a. first_of_three _ _ _ (ap (λ (g : ℕ). lives (with_row w.tables row) (record { index = i; generation = g })) kept ∙ lives_added w.tables row _ a))
     (λ b. second_of_three (is_live_index (grown w s row) i) _ _ (t.others i ne b))
-    (λ c. third_of_three (is_live_index (grown w s row) i) (is_free s i) _ (ap (λ (g : ℕ). nat_eq g 4294967295) kept ∙ c))
+    (λ c. or_right (is_live_index (grown w s row) i || is_free s i) _ (ap (λ (g : ℕ). nat_eq g 4294967295) kept ∙ c))
 
 new_accounted : (w : World) (s : SlotState) (row : Row) → IsTaken w.slots s row.entity → (i : ℕ) → i ≡ row.entity.index
     → (is_live_index (grown w s row) i || is_free s i || is_retired s i) ≡ true
@@ -71,8 +71,8 @@ grown_valid w s row v t fits timely = record {
   once = once_added w.tables row v.once (taken_nowhere w s row.entity v t);
   free = (t.sound.in_range, (t.sound.distinct, each_added (λ m r. is_free s r.entity.index ≡ false) w.tables row (λ h r g. t.fewer r.entity.index (v.free.1.1 h r g)) t.busy));
   accounted = λ i l. elim (nat_eq i row.entity.index) as (λ b. nat_eq i row.entity.index ≡ b → (is_live_index (grown w s row) i || is_free s i || is_retired s i) ≡ true) [
-    | true ↦ λ e. new_accounted w s row t i (equal i row.entity.index e)
-    | false ↦ λ e. old_accounted w s row v t i (t.older i l (unequal i row.entity.index e)) (unequal i row.entity.index e)
+    | true ↦ λ e. new_accounted w s row t i (eqb-true i row.entity.index e)
+    | false ↦ λ e. old_accounted w s row v t i (t.older i l (eqb-false i row.entity.index e)) (eqb-false i row.entity.index e)
   ] refl;
   rows = each_added (IsRowOf w.schema) w.tables row v.rows fits;
   links = (λ p c k. (lives_added w.tables row p (v.links.0 p c k).0, lives_added w.tables row c (v.links.0 p c k).1), v.links.1);
@@ -82,12 +82,6 @@ grown_valid w s row v t fits timely = record {
   generations_low = t.sound.low;
   tick_low = v.tick_low;
 }
-  where
-    equal : (a b : ℕ) → nat_eq a b ≡ true → a ≡ b
-    equal a b h = grind (arith, nat_tests)
-
-    unequal : (a b : ℕ) → nat_eq a b ≡ false → a ≡ b → ⊥
-    unequal a b h e = grind (arith, nat_tests)
 
 -- what an accepted spawn took
 spawn_parts : (P : Type 0) (w v : World) (cells : List (ℕ × Cell)) (e : Entity) (o : Outcome Entity SlotState) → spawned w cells o ≡ Ok (e, v)

@@ -1,11 +1,11 @@
 -- The tables of the code after one of them was made, grown or written.
-use Rattle.std.proofs.Common.{◌≡◌, ℕ, zero, suc, ◌+◌, ◌<◌, ◌≤◌, Bool, true, false, cond, List, [], ◌∷◌, ◌++◌, length, refl, ap, subst, sym, ◌∙◌, arith, Option, Some, None, Ok, nat_eq, length-set, get_or-set_same}
+use Rattle.std.proofs.Common.{◌≡◌, ℕ, zero, suc, ◌<◌, ◌≤◌, Bool, true, false, cond, List, [], ◌∷◌, ◌++◌, length, refl, ap, subst, sym, ◌∙◌, arith, Option, Some, None, Ok, nat_eq, length-set, get_or-set_same}
 use Rattle.std.specs.Prelude.{slice_set, slice_index_or, Result, Err, OnOk, IfOk, IfSome, IfNone, option_map}
 use Rattle.std.specs.List.{position_from}
 use Rattle.std.specs.Ordering.{nat_cmp}
 use Rattle.std.specs.Cmp.{nat_cmp_total}
 use Rattle.std.specs.FinMap.{nat_cmp-IsAntisymmetric}
-use Rattle.std.proofs.lemmas.Bool.Decides.{nat_tests}
+use Rattle.std.proofs.lemmas.Bool.{eqb-true, eqb-false}
 use Rattle.scene_kinds.specs.declared.cells.Row.{Row}
 use Rattle.scene_kinds.specs.Lists.{whole, listed}
 use Rattle.scene_kinds.specs.Map as map
@@ -14,12 +14,7 @@ use Rattle.scene_kinds.proofs.Maps.{same_map}
 use Rattle.scene_table.specs.Table.{TableState}
 use Rattle.scene_world.specs.World.{Tables, rows_at, with_rows}
 use Rattle.scene_world.specs.Stored.{tables_of, IsFirstOf, StandsAt, HasRoomAt, NoneHas, AreApart}
-
-pub eq_of_test : (a b : ℕ) → nat_eq a b ≡ true → a ≡ b
-eq_of_test a b h = grind (arith, nat_tests)
-
-pub ne_of_test : (a b : ℕ) → nat_eq a b ≡ false → a ≡ b → ⊥
-ne_of_test a b h e = grind (arith, nat_tests)
+use Rattle.scene_world.proofs.Positions.{found, missed}
 
 -- ---- which rows are seen
 
@@ -55,36 +50,16 @@ tables_of_same (t ∷ ts) (suc i) d new e f = ap (λ z. with_rows z t.mask t.row
 
 -- ---- where the table of a kind set stands
 
-placed : (mask : ℕ) (ts : List TableState) (n i : ℕ) → position_from (λ (t : TableState). nat_eq t.mask mask) n ts ≡ Some i → (k : ℕ) × ((i ≡ n + k) × StandsAt ts mask k)
-placed mask [] n i h = cc
-placed mask (t ∷ ts) n i h =
-    elim (nat_eq t.mask mask) as (λ b. nat_eq t.mask mask ≡ b → (k : ℕ) × ((i ≡ n + k) × StandsAt (t ∷ ts) mask k)) [
-      | true ↦ λ p.
-          let g : Some n ≡ Some i = rw p at h in
-          let m : n ≡ i = cc in
-          (0, (omega arith, record { within = omega arith; first = eq_of_test t.mask mask p }))
-      | false ↦ λ p.
-          let r = placed mask ts (n + 1) i (rw p at h) in
-          (suc r.0, (omega arith, record { within = omega (arith, r.1.1.within); first = (ne_of_test t.mask mask p, r.1.1.first) }))
-    ] refl
-
 -- a search from the front ends at the table's index
 pub found_table : (mask : ℕ) (ts : List TableState) (i : ℕ) → Some i ≡ position_from (λ (t : TableState). nat_eq t.mask mask) 0 ts → StandsAt ts mask i
-found_table mask ts i h =
-    let r = placed mask ts 0 i (sym h) in
-    let e : r.0 ≡ i = omega arith in subst (StandsAt ts mask) e r.1.1
-
-none_from : (mask : ℕ) (ts : List TableState) (n : ℕ) → position_from (λ (t : TableState). nat_eq t.mask mask) n ts ≡ None → NoneHas mask ts
-none_from mask [] n h = tt
-none_from mask (t ∷ ts) n h =
-    elim (nat_eq t.mask mask) as (λ b. nat_eq t.mask mask ≡ b → NoneHas mask (t ∷ ts)) [
-      | true ↦ λ p. absurd (let g : Some n ≡ None = rw p at h in cc)
-      | false ↦ λ p. ((λ e. ne_of_test t.mask mask p (sym e)), none_from mask ts (n + 1) (rw p at h))
-    ] refl
+found_table mask ts i h = found (λ (t : TableState). nat_eq t.mask mask) (λ us k. StandsAt us mask k)
+    (λ t us p. record { within = omega arith; first = eqb-true t.mask mask p })
+    (λ t us k p s. record { within = omega (arith, s.within); first = (eqb-false t.mask mask p, s.first) })
+    ts i (sym h)
 
 -- where the search finds nothing no table has the kind set
 pub none_found : (mask : ℕ) (ts : List TableState) → None ≡ position_from (λ (t : TableState). nat_eq t.mask mask) 0 ts → NoneHas mask ts
-none_found mask ts h = none_from mask ts 0 (sym h)
+none_found mask ts h = missed (λ (t : TableState). nat_eq t.mask mask) (NoneHas mask) tt (λ t us p none. ((λ e. eqb-false t.mask mask p (sym e)), none)) ts (sym h)
 
 -- and no rows of it are seen
 pub none_seen : (mask : ℕ) (ts : List TableState) → NoneHas mask ts → rows_at (tables_of ts) mask ≡ []

@@ -1,8 +1,10 @@
 -- What a take of a slot leaves, as a world sees it.
 use Rattle.std.proofs.Common.{◌≡◌, ℕ, ◌<◌, Bool, true, false, ◌||◌, nat_eq, List, [], ◌∷◌, ◌++◌, length, refl, ap, sym, ◌∙◌, arith, Some, None, Ok, length-append, slice_get, ◌⊎◌, inl, inr}
 use Rattle.std.specs.List.{list_any}
-use Rattle.std.proofs.lemmas.Bool.{or_parts, or_right}
-use Rattle.std.proofs.lemmas.Bool.Decides.{nat_tests}
+use Rattle.std.proofs.lemmas.Bool.{or_parts, or_right, eq-eqb, ne_eqb}
+use Rattle.std.proofs.lemmas.List.Folds.{list_any-append}
+use Rattle.std.proofs.lemmas.Option.{slice_get_past}
+use Rattle.std.proofs.Math.Bool.{or-false}
 use Rattle.scene_kinds.specs.declared.entity.Entity.{Entity}
 use Rattle.scene_alloc.specs.Ends.{last, front}
 use Rattle.scene_alloc.specs.Slots.{SlotState, IsSlots, is_free, take_of}
@@ -24,36 +26,12 @@ pub record IsTaken (s t : SlotState) (e : Entity) : Type 0 where
   -- the entity's index was free, or no slot yet
   pub unused : (is_free s e.index ≡ true) ⊎ (slice_get s.generations e.index ≡ None)
 
-pub or_false : (b : Bool) → (b || false) ≡ b
-or_false true = refl
-or_false false = refl
-
 -- a number among a list with one more
 pub any_pushed : (xs : List ℕ) (x i : ℕ) → list_any (nat_eq i) (xs ++ x ∷ []) ≡ (list_any (nat_eq i) xs || nat_eq i x)
-any_pushed [] x i = or_false (nat_eq i x)
-any_pushed (y ∷ ys) x i = ap (λ b. nat_eq i y || b) (any_pushed ys x i) ∙ assoc (nat_eq i y) (list_any (nat_eq i) ys) (nat_eq i x)
-  where
-    assoc : (a b c : Bool) → (a || (b || c)) ≡ ((a || b) || c)
-    assoc true b c = refl
-    assoc false b c = refl
+any_pushed xs x i = list_any-append (nat_eq i) xs (x ∷ []) ∙ ap (λ b. list_any (nat_eq i) xs || b) (or-false (nat_eq i x))
 
 or_else : (a b : Bool) → (a || b) ≡ true → b ≡ false → a ≡ true
-or_else true b h e = refl
-or_else false b h e = absurd (let k : true ≡ false = sym h ∙ e in cc)
-
-same_itself : (i : ℕ) → nat_eq i i ≡ true
-same_itself i = grind (arith, nat_tests)
-
--- numbers that differ are told apart
-pub differ : (i j : ℕ) → (i ≡ j → ⊥) → nat_eq i j ≡ false
-differ i j ne = elim (nat_eq i j) as (λ b. nat_eq i j ≡ b → b ≡ false) [ true ↦ λ e. absurd (ne (test_eq i j e)) | false ↦ λ e. refl ] refl
-  where
-    test_eq : (i j : ℕ) → nat_eq i j ≡ true → i ≡ j
-    test_eq i j e = grind (arith, nat_tests)
-
-none_past : (xs : List ℕ) → slice_get xs (length xs) ≡ None
-none_past [] = refl
-none_past (x ∷ xs) = none_past xs
+or_else a b h e = sym (or-false a) ∙ ap (λ c. a || c) (sym e) ∙ h
 
 free_before : (s : SlotState) (i k : ℕ) → last s.free ≡ Some i → is_free s k ≡ (list_any (nat_eq k) (front s.free) || nat_eq k i)
 free_before s i k q = ap (λ f. list_any (nat_eq k) f) (sym (push-last s.free i q)) ∙ any_pushed (front s.free) i k
@@ -70,15 +48,15 @@ taken s t e v h =
       (λ k g f. f),
       (λ k l ne. l),
       (λ k f. (or_parts (list_any (nat_eq k) (front s.free)) (nat_eq k i) (sym (free_before s i k q) ∙ f)).0),
-      (λ k ne f. or_else (list_any (nat_eq k) (front s.free)) (nat_eq k i) (sym (free_before s i k q) ∙ f) (differ k i ne)),
-      inl (free_before s i i q ∙ ap (λ b. list_any (nat_eq i) (front s.free) || b) (same_itself i) ∙ or_right (list_any (nat_eq i) (front s.free)) true refl),
+      (λ k ne f. or_else (list_any (nat_eq k) (front s.free)) (nat_eq k i) (sym (free_before s i k q) ∙ f) (ne_eqb k i ne)),
+      inl (free_before s i i q ∙ ap (λ b. list_any (nat_eq i) (front s.free) || b) (eq-eqb i i refl) ∙ or_right (list_any (nat_eq i) (front s.free)) true refl),
     ))
     (λ none l. (
       (λ k g f. pushed_stays s.generations 1 k g f),
       (λ k m ne. let n : k < length (s.generations ++ 1 ∷ []) = m in omega (arith, length-append s.generations (1 ∷ []))),
       (λ k f. f),
       (λ k ne f. f),
-      inr (none_past s.generations),
+      inr (slice_get_past s.generations (length s.generations) (omega arith)),
     ))
     e t h in
     record {
