@@ -3,18 +3,14 @@ use Rattle.std.proofs.Common.{◌≡◌, ◌<◌, ℕ, true, ◌&&◌, nat_eq, m
 use Rattle.std.specs.Prelude.{IsTrue, ◌↔◌, bit_and}
 use Rattle.std.specs.Int.{bit_at}
 use Rattle.std.specs.Int.Bits.{and_zero_r}
-use Rattle.std.proofs.lemmas.Bool.{and_parts}
-use Rattle.std.proofs.lemmas.Bool.Decides.{nat_tests}
+use Rattle.std.proofs.lemmas.Bool.{and_parts, and_from, eq-eqb, eqb-true}
 use Rattle.std.proofs.lemmas.Nat.Bits.{bit_at_and, bit_at-zero, bit_at-lt, same_from_bits}
 use Rattle.scene_pass.specs.declared.filter.Filter.{Filter}
 use Rattle.scene_pass.specs.Filter.{HasKind, is_match, SaysEachKind}
 
 -- two tests of numbers that hold
 both_equal : (a b c d : ℕ) → a ≡ b → c ≡ d → (nat_eq a b && nat_eq c d) ≡ true
-both_equal a b c d p q = grind (arith, nat_tests)
-
-equal_of : (a b : ℕ) → nat_eq a b ≡ true → a ≡ b
-equal_of a b t = grind (arith, nat_tests)
+both_equal a b c d p q = and_from (nat_eq a b) (nat_eq c d) (eq-eqb a b p) (eq-eqb c d q)
 
 -- a filter that asks for nothing matches every kind set
 pub nothing_asked : (f : Filter) → f.need ≡ 0 → f.without ≡ 0 → (mask : ℕ) → is_match f mask ≡ true
@@ -41,7 +37,7 @@ each_kind f mask = (says, holds)
     says : IsTrue (is_match f mask) → SaysEachKind f mask
     says t kind =
         let parts = and_parts _ _ t in
-        (all_bits mask f.need kind (equal_of _ _ parts.0), no_bits mask f.without kind (equal_of _ _ parts.1))
+        (all_bits mask f.need kind (eqb-true _ _ parts.0), no_bits mask f.without kind (eqb-true _ _ parts.1))
 
     holds : SaysEachKind f mask → IsTrue (is_match f mask)
     holds s = both_equal _ _ _ _

@@ -1,11 +1,11 @@
 -- What the passes over a world list: the rows whose kind sets match, and their cells that pass a test.
-use Rattle.std.proofs.Common.{◌≡◌, ◌<◌, ℕ, Bool, true, false, cond, List, [], ◌∷◌, length, refl, ap, subst, sym, ◌∙◌, nat_lt, arith, Some, None, Ok, Err}
+use Rattle.std.proofs.Common.{◌≡◌, ◌<◌, ℕ, Bool, true, false, cond, List, [], ◌∷◌, length, refl, ap, subst, sym, ◌∙◌, nat_lt, Some, None, Ok, Err}
 use Rattle.std.specs.Prelude.{slice_get, option_map, ◌↔◌, if◌then◌else◌}
 use Rattle.std.specs.List.{Contains, filter}
 use Rattle.std.specs.Ordering.{nat_cmp, eq_by_cmp}
 use Rattle.std.specs.Cmp.{nat_cmp_total}
 use Rattle.std.specs.FinMap.{nat_cmp-IsAntisymmetric}
-use Rattle.std.proofs.lemmas.Bool.Decides.{nat_tests}
+use Rattle.std.proofs.lemmas.Bool.{not_from_true, ltb-true, lt-ltb}
 use Rattle.scene_kinds.specs.declared.entity.Entity.{Entity}
 use Rattle.scene_kinds.specs.declared.cell.Cell.{Cell}
 use Rattle.scene_kinds.specs.declared.cells.Row.{Row}
@@ -126,7 +126,7 @@ cell_found (c ∷ cs) kind cell h g =
 -- the cell of a kind that is in the schema, as a reader finds it
 cell_read : (schema : Kinds) (p : Home × Row) (kind : ℕ) (cell : Cell) → kind < length schema → cell_of p.1.cells kind ≡ Some cell → cell_in schema kind (Some p) ≡ Ok cell
 cell_read schema p kind cell low there =
-    let known : is_unknown schema kind ≡ false = grind (arith, nat_tests) in
+    let known : is_unknown schema kind ≡ false = not_from_true _ (lt-ltb kind (length schema) low) in
     ap (λ b. if b then Err (refusal_of NoSuchKind) else present (cell_of p.1.cells kind)) known ∙ ap present there
 
 read_cell : (schema : Kinds) (p : Home × Row) (kind : ℕ) (cell : Cell) → cell_in schema kind (Some p) ≡ Ok cell → cell_of p.1.cells kind ≡ Some cell
@@ -169,4 +169,4 @@ cells_listed test P says w f n valid = (from, to)
 
 -- what a test of order says
 pub above : (a b : ℕ) → (nat_lt a b ≡ true) ↔ (a < b)
-above a b = (grind (arith, nat_tests), grind (arith, nat_tests))
+above a b = (ltb-true a b, lt-ltb a b)
