@@ -48,10 +48,13 @@ pub fn run_script<R: Read, W: Write>(
     ensures prefix { OnErr result (IfSome (R.remaining (reader_of source.old)) (λ script. AppendsPrefix (W.contents (writer_of sink.old)) (W.contents (writer_of sink.new)) (output script))) }
     ensures nothing { IfErr result (λ f. f ≢ WriteFault → sink.new ≡ sink.old) }
     ensures read { (result ≡ Err ReadFault) ↔ (read_failed source.new ≡ true) }
+    ensures marked { read_failed source.old ≡ true → source.new ≡ source.old }
     ensures called { read_failed source.old ≡ false → IfErr result (λ f. f ≡ ReadFault → turns_left source.new < turns_left source.old) }
     ensures long { IfErr result (λ f. f ≡ TooLong
         → (turns_left source.new ≡ 0) ⊎ IfSome (R.remaining (reader_of source.old)) (λ script. MOST_BYTES < length script)) }
     ensures write { write_failed sink.old ≡ false → (result ≡ Err WriteFault) ↔ (write_failed sink.new ≡ true) }
+    ensures refused { write_failed sink.old ≡ true → sink.new ≡ sink.old }
+    ensures unmarked { OnOk result (write_failed sink.new ≡ false) }
 {
     let script = source.read_all(alloc)?;
     let (out, bad_lines) = played(alloc, script.as_slice())?;
