@@ -11,7 +11,7 @@ use std::marker::Model;
 /// were freed, and how many slots there may be.
 ///
 /// The free list has room for every slot, so that freeing an index takes no memory.
-#[derive(Drop)]
+#[derive(Drop, Debug)]
 pub struct Slots {
     limit: u32,
     generations: Vec<u32>,

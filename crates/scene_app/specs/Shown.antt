@@ -1,9 +1,10 @@
 -- How a world prints.
-use Rattle.std.specs.Prelude.{ℕ, ◌+◌, ◌/◌, ◌%◌, ◌^◌, List, [], ◌∷◌, ◌++◌, Bool, Option, Some, None, if◌then◌else◌, nat_eq, codes, decimal}
+use Rattle.std.specs.Prelude.{ℕ, ◌+◌, List, [], ◌∷◌, ◌++◌, Option, Some, None, if◌then◌else◌, codes, decimal}
 use Rattle.scene_kinds.specs.declared.cells.Row.{Row}
 use Rattle.scene_kinds.specs.declared.cell.Cell.{Cell}
 use Rattle.scene_kinds.specs.declared.entity.Entity.{Entity}
 use Rattle.scene_kinds.specs.Entity.{entity_text}
+use Rattle.scene_kinds.specs.KindSet.{has_kind}
 use Rattle.scene_kinds.specs.Schema.{Kinds, name_of}
 use Rattle.scene_kinds.specs.Shape.{shape_name, shape_of_value}
 use Rattle.scene_links.specs.Forest.{Forest, children_of, parents}
@@ -15,10 +16,6 @@ use Rattle.scene_script.specs.Printed.{cell_text, row_text}
 abbrev pub numbers_text : List ℕ → List ℕ
 numbers_text [] = []
 numbers_text (n ∷ ns) = 32 ∷ (decimal n ++ numbers_text ns)
-
--- whether a kind set has kind k, which is bit k
-abbrev pub has_kind : ℕ → ℕ → Bool
-has_kind mask k = nat_eq (mask / 2 ^ k % 2) 1
 
 -- the name of a kind that a kind set has
 abbrev pub name_in : Kinds → ℕ → ℕ → Option (List ℕ)

@@ -3,9 +3,9 @@ ghost use Rattle.std.specs.Prelude.{◌≡◌, ◌++◌, ◌<◌, OnOk, IfOk, ma
 ghost use Rattle.scene_world.specs.World.{kind_sets, rows_at, row_of};
 ghost use Rattle.scene_links.specs.Forest.{parents};
 ghost use Rattle.scene_resources.specs.Resources.{cell_of};
-ghost use Rattle.scene_app.specs.Shown.{numbers_text, has_kind, name_in, one_name, names_from, more_names, names_text, rows_text, table_text, tables_text, entities_text, link_text, links_text, resource_text, one_resource, named_text, resources_text, head_text, show_text};
+ghost use Rattle.scene_app.specs.Shown.{numbers_text, name_in, one_name, names_from, more_names, names_text, rows_text, table_text, tables_text, entities_text, link_text, links_text, resource_text, one_resource, named_text, resources_text, head_text, show_text};
 
-use scene_kinds::{Cell, Entity, Row, Schema};
+use scene_kinds::{Cell, Entity, Row, Schema, has_kind};
 use scene_links::Links;
 use scene_resources::Resources;
 use scene_script::{write_cell, write_row};
@@ -20,14 +20,6 @@ fn write_numbers(out: &mut String, numbers: &[u32]) -> Result<(), AllocError>
         write!(out, " {n}")?;
     }
     Ok(())
-}
-
-/// Whether a kind set has a kind.
-fn has_kind(mask: u64, kind: u8) -> bool
-    requires { kind < 64 }
-    ensures { result ≡ has_kind mask kind }
-{
-    (mask >> kind) % 2 == 1
 }
 
 /// The name of a kind that a kind set has.

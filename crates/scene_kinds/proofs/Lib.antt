@@ -1,5 +1,7 @@
 pub mod CellLaws
 pub mod Choices
+pub mod Elements
+pub mod KindSets
 pub mod Lists
 pub mod Maps
 pub mod Masks
@@ -7,4 +9,7 @@ pub mod Named
 pub mod Next
 pub mod Numbers
 pub mod Places
+pub mod Positions
+pub mod Ranges
+pub mod Schemas
 pub mod Taken

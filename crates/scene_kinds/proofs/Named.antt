@@ -1,6 +1,6 @@
 -- What a map's entries say as kinds.
-use Rattle.std.proofs.Common.{◌≡◌, ℕ, suc, ◌+◌, ◌<◌, ◌≤◌, true, false, cond, List, [], ◌∷◌, ◌++◌, length, refl, ap, ◌∙◌, arith, Some, Ok, is_some, string_bytes, String}
-use Rattle.std.specs.Prelude.{position, nat_lt}
+use Rattle.std.proofs.Common.{◌≡◌, ℕ, zero, suc, ◌+◌, ◌<◌, ◌≤◌, true, false, cond, List, [], ◌∷◌, ◌++◌, length, refl, ap, ◌∙◌, arith, Some, Ok, is_some, string_bytes, String}
+use Rattle.std.specs.Prelude.{position, nat_lt, option_map, slice_get}
 use Rattle.std.specs.List.{position_from, AllZip}
 use Rattle.std.specs.Map.{keys_of, lookup}
 use Rattle.std.specs.Str.{bytes_eq}
@@ -10,7 +10,7 @@ use Rattle.std.proofs.lemmas.Bool.Decides.{nat_tests}
 use Rattle.scene_kinds.specs.declared.shape.Shape.{Shape}
 use Rattle.scene_kinds.specs.declared.fault.Fault.TheVariants.{KindTaken, KindsFull}
 use Rattle.scene_kinds.specs.Answers.{Outcome, refuse}
-use Rattle.scene_kinds.specs.Schema.{Kinds, named, number_of, is_good_name, with_kind}
+use Rattle.scene_kinds.specs.Schema.{Kinds, named, number_of, shape_of, is_good_name, with_kind}
 
 -- the index of a key, counted from any number
 from_keys : (name : List ℕ) (es : List (String Global × Shape)) (n : ℕ) → position_from (λ k. bytes_eq name (string_bytes k)) n (keys_of es) ≡ position_from (λ k. bytes_eq name k.0) n (named es)
@@ -25,6 +25,12 @@ number_of_keys name es = position_from-zero (λ k. bytes_eq name (string_bytes k
 pub length_named : (es : List (String Global × Shape)) → length (named es) ≡ length es
 length_named [] = refl
 length_named (e ∷ es) = ap (λ n. suc n) (length_named es)
+
+-- the shape of a kind is that of the entry at its place
+pub shape_named_at : (es : List (String Global × Shape)) (i : ℕ) → option_map (λ (e : String Global × Shape). e.1) (slice_get es i) ≡ shape_of (named es) i
+shape_named_at [] i = refl
+shape_named_at (e ∷ es) zero = refl
+shape_named_at (e ∷ es) (suc i) = shape_named_at es i
 
 -- whether a key is found, counted from any number
 taken : (name : List ℕ) (es : List (String Global × Shape)) (n : ℕ) → is_some (lookup (λ k. bytes_eq name (string_bytes k)) es) ≡ is_some (position_from (λ k. bytes_eq name k.0) n (named es))

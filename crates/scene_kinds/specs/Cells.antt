@@ -1,11 +1,21 @@
 -- The cells of a row, a list of kinds with cells, and the kind set that they make.
-use Rattle.std.specs.Prelude.{◌≡◌, ◌<◌, ℕ, ◌^◌, T, true, List, [], ◌∷◌, ◌++◌, Option, Some, not, nat_lt, length, slice_index_or, slice_set, insert, remove, sum_by}
+use Rattle.std.specs.Prelude.{◌≡◌, ◌<◌, ℕ, ◌^◌, T, true, List, [], ◌∷◌, ◌++◌, Option, Some, None, not, nat_lt, length, slice_index_or, slice_set, insert, remove, sum_by}
 use Rattle.std.specs.List.{list_all}
 use Rattle.std.specs.Ordering.{nat_cmp, eq_by_cmp}
 use Rattle.std.specs.FinMap.Entries.{put, find, where_key, is_sorted}
 use Rattle.scene_kinds.specs.declared.cell.Cell.{Cell}
 use Rattle.scene_kinds.specs.declared.cell.CellRef.{CellRef}
 use Rattle.scene_kinds.specs.declared.cells.Row.{Row}
+use Rattle.scene_kinds.specs.declared.value.Value.{Value}
+
+-- a cell that is added at a tick
+abbrev pub new_cell : ℕ → Value → Cell
+new_cell tick value = record { value = value; added = tick; changed = tick }
+
+-- a value put at a tick where a cell may stand: the cell keeps the tick at which it was added
+abbrev pub put_over : Option Cell → Value → ℕ → Cell
+put_over None value tick = new_cell tick value
+put_over (Some old) value tick = record { value = value; added = old.added; changed = tick }
 
 -- the kinds strictly ascend
 abbrev pub IsAscending : List (ℕ × Cell) → Type 0

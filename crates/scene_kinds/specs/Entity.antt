@@ -1,5 +1,5 @@
 -- Entities: their text, their order, and when two are one.
-use Rattle.std.specs.Prelude.{ℕ, List, ◌∷◌, ◌++◌, Bool, decimal}
+use Rattle.std.specs.Prelude.{◌≡◌, ◌<◌, ◌^◌, ℕ, List, ◌∷◌, ◌++◌, Bool, decimal, Option, Some, IfSome}
 use Rattle.std.proofs.Common.{ap}
 use Rattle.std.specs.declared.cmp.Ordering.{Ordering}
 use Rattle.std.specs.Ordering.{nat_cmp, eq_by_cmp, ordering_then}
@@ -12,6 +12,12 @@ use Rattle.scene_kinds.specs.declared.entity.Entity.{Entity}
 -- INDEXvGENERATION (118 is the letter v)
 abbrev pub entity_text : ℕ → ℕ → List ℕ
 entity_text index generation = decimal index ++ (118 ∷ decimal generation)
+
+-- the entity that a text says, where it says one
+pub record SaysEntity (text : List ℕ) (read : Option Entity) : Type 0 where
+  pub found : IfSome read (λ e. text ≡ entity_text e.index e.generation)
+  pub only : (index generation : ℕ) → index < 2 ^ 32 → generation < 2 ^ 32 → text ≡ entity_text index generation
+      → read ≡ Some (record { index = index; generation = generation })
 
 -- by index, then by generation
 abbrev pub entity_cmp : Entity → Entity → Ordering

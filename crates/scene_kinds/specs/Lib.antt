@@ -2,8 +2,10 @@ pub mod Answers
 pub mod Cells
 pub mod Entity
 pub mod Fault
+pub mod KindSet
 pub mod Lists
 pub mod Map
 pub mod Number
+pub mod Ranges
 pub mod Schema
 pub mod Shape

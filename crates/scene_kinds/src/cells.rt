@@ -10,7 +10,7 @@ use std::alloc::{AllocError, Global};
 use std::marker::Model;
 
 /// The cells of a row, each with its kind. In a row that stands in a table the kinds ascend.
-#[derive(Drop, Clone)]
+#[derive(Drop, Clone, Debug)]
 pub struct Cells {
     items: Vec<(u8, Cell)>,
 }
@@ -220,7 +220,7 @@ fn mask_of_kinds(items: &[(u8, Cell)]) -> u64
 }
 
 /// An entity with its cells. In a table they are just the table's kinds, ascending.
-#[derive(Drop, Clone)]
+#[derive(Drop, Clone, Debug)]
 pub struct Row {
     pub entity: Entity,
     pub cells: Cells,

@@ -1,9 +1,11 @@
 //! Entities and their text.
 ghost use Rattle.std.specs.Prelude.{◌≡◌, ◌^◌, ◌<◌, ℕ, Some, IfSome};
-ghost use Rattle.scene_kinds.specs.Entity.{entity_text};
+ghost use Rattle.std.specs.Result.{result_ok};
 
 use crate::number::plain_number;
+use std::error::Error;
 use std::fmt;
+use std::str::FromStr;
 
 /// The identity of an entity: an index, and a generation that tells the entities apart that had the
 /// index one after another (docs/MODEL.md, "The rule of entity texts").
@@ -16,34 +18,56 @@ pub struct Entity {
 }
 
 impl Entity {
-    ghost use Rattle.scene_kinds.specs.Entity.{entity_text};
+    ghost use Rattle.scene_kinds.specs.Entity.{SaysEntity, entity_text};
 
     /// The entity whose text these bytes are: `INDEXvGENERATION`, both in decimal without leading zeros.
     ///
     /// `None` only where the bytes are no entity text. Reading back what `Display` wrote gives the entity.
     pub fn parse(bytes: &[u8]) -> Option<Entity>
-        ensures found { IfSome result (λ e. bytes.now ≡ entity_text e.index e.generation) }
-        ensures only { (index generation : ℕ) → index < 2 ^ 32 → generation < 2 ^ 32
-            → bytes.now ≡ entity_text index generation
-            → result ≡ Some (record { index = index; generation = generation }) }
+        ensures { SaysEntity bytes.now result }
     {
         let text = str::from_utf8(bytes).ok()?;
-        parse_text(text)
+        Entity::parse_text(text)
+    }
+
+    /// `parse` of bytes that are a text.
+    fn parse_text(text: &str) -> Option<Entity>
+        ensures found { IfSome result (λ e. text.now ≡ entity_text e.index e.generation) }
+        ensures only { (index generation : ℕ) → index < 2 ^ 32 → generation < 2 ^ 32
+            → text.now ≡ entity_text index generation
+            → result ≡ Some (record { index = index; generation = generation }) }
+    {
+        let (index, generation) = text.split_once('v')?;
+        Some(Entity {
+            index: plain_number(index)?,
+            generation: plain_number(generation)?,
+        })
     }
 }
 
-/// `Entity::parse` of bytes that are a text.
-fn parse_text(text: &str) -> Option<Entity>
-    ensures found { IfSome result (λ e. text.now ≡ entity_text e.index e.generation) }
-    ensures only { (index generation : ℕ) → index < 2 ^ 32 → generation < 2 ^ 32
-        → text.now ≡ entity_text index generation
-        → result ≡ Some (record { index = index; generation = generation }) }
-{
-    let (index, generation) = text.split_once('v')?;
-    Some(Entity {
-        index: plain_number(index)?,
-        generation: plain_number(generation)?,
-    })
+/// A text that is no entity's.
+#[derive(Clone, Copy, Debug, PartialEq, Eq)]
+pub struct ParseEntityError;
+
+impl fmt::Display for ParseEntityError {
+    fn fmt<W: fmt::Write>(&self, f: &mut fmt::Formatter<W>) -> fmt::Result {
+        write!(f, "no entity text, as 3v1")
+    }
+}
+
+impl Error for ParseEntityError {}
+
+/// Reads an entity's text, as `Entity::parse`.
+impl FromStr for Entity {
+    type Err = ParseEntityError;
+
+    ghost use Rattle.scene_kinds.specs.Entity.{SaysEntity};
+
+    ghost from_str_gives = { λ text r. SaysEntity text (result_ok r) };
+
+    fn from_str(text: &str) -> Result<Entity, ParseEntityError> {
+        Entity::parse_text(text).ok_or(ParseEntityError)
+    }
 }
 
 impl fmt::Display for Entity {

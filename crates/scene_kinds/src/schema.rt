@@ -3,7 +3,7 @@ ghost use Rattle.std.specs.Prelude.{◌≡◌, ◌≤◌, ◌↔◌, ℕ, List, 
 ghost use Rattle.std.specs.List.{list_all};
 ghost use Rattle.std.specs.Option.{option_map};
 ghost use Rattle.scene_kinds.specs.Answers.{Answers};
-ghost use Rattle.scene_kinds.specs.Schema.{is_good_name, is_name_byte, number_of, shape_of, name_of, fits_kind, with_kind};
+ghost use Rattle.scene_kinds.specs.Schema.{IsSchema, is_good_name, is_name_byte, number_of, shape_of, name_of, fits_kind, with_kind};
 
 use crate::fault::Fault;
 use crate::refusal::Refusal;
@@ -27,23 +27,23 @@ pub fn good_name(name: &str) -> bool
 /// The kinds of components: each has a name, a shape, and its place as its number. There are at most 64, so
 /// that a set of kinds is a `u64` in which kind k is bit k (docs/MODEL.md, "The rule of kinds").
 ///
-/// Contracts see it as the list of names with shapes.
-#[derive(Drop)]
+/// Contracts see it as the list of names with shapes. Their names are always good and distinct.
+#[derive(Drop, Debug)]
 pub struct Schema {
     kinds: IndexMap<String, Shape>,
 }
 
 impl Model for Schema {
-    ghost use Rattle.std.specs.Prelude.{ℕ, List, ◌≤◌, length};
+    ghost use Rattle.std.specs.Prelude.{ℕ, List};
     ghost use Rattle.scene_kinds.specs.declared.shape.Shape.{Shape};
 
     ghost Value = { List (List ℕ × Shape) };
 
-    ghost use Rattle.scene_kinds.specs.Schema.{named};
+    ghost use Rattle.scene_kinds.specs.Schema.{named, IsSchema};
 
     ghost view = { λ s. named s.kinds.entries };
 
-    ghost invariant = { λ s. length s.kinds.entries ≤ 64 };
+    ghost invariant = { λ s. IsSchema (named s.kinds.entries) };
 }
 
 impl Schema {
@@ -101,10 +101,10 @@ impl Schema {
         Some(name.as_str())
     }
 
-    /// How many kinds there are.
+    /// How many kinds there are, and what always holds of them.
     pub fn len(&self) -> usize
         ensures count { result ≡ length self.now }
-        ensures most { result ≤ 64 }
+        ensures sound { IsSchema self.now }
     {
         self.kinds.len()
     }
@@ -116,7 +116,8 @@ impl Schema {
         self.kinds.is_empty()
     }
 
-    /// Whether a value has the shape of a kind. Nothing fits a kind that isn't there.
+    /// Whether a value has the shape of a kind. Nothing fits a kind that isn't there (docs/MODEL.md, "The rule of
+    /// kinds").
     pub fn fits(&self, value: &Value, kind: u8) -> bool
         ensures { result ≡ fits_kind self.now value.now kind }
     {

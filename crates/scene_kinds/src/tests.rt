@@ -216,7 +216,7 @@ fn names_shapes(rt: HostRuntime) -> Result<(), Fail> {
         index: 7,
         generation: 1,
     };
-    let text = Text::from_string(String::from_str(alloc, "t")?);
+    let text = Text::from(String::from_str(alloc, "t")?);
     let shapes = [
         (Value::Tag, "Tag"),
         (Value::Int(-1), "Int"),
@@ -247,7 +247,7 @@ fn same_value(a: &Value, b: &Value) -> bool {
 /// A cell with a text.
 fn text_cell(alloc: Global, text: &str, added: u64, changed: u64) -> Result<Cell, Fail> {
     Ok(Cell {
-        value: Value::Text(Text::from_string(String::from_str(alloc, text)?)),
+        value: Value::Text(Text::from(String::from_str(alloc, text)?)),
         added,
         changed,
     })

@@ -2,6 +2,7 @@
 ghost use Rattle.std.specs.Prelude.{◌≡◌, IfOk, string_bytes};
 
 use std::alloc::AllocError;
+use std::fmt;
 use std::marker::Model;
 
 /// A UTF-8 text. Contracts see it as its bytes, so two texts are equal where their bytes are, however
@@ -20,13 +21,6 @@ impl Model for Text {
 }
 
 impl Text {
-    /// The text of a string. It takes no memory.
-    pub fn from_string(inner: String) -> Self
-        ensures { result ≡ string_bytes inner }
-    {
-        Text { inner }
-    }
-
     /// The bytes, as the text that they are.
     pub fn as_str(&self) -> &str
         ensures { result.now ≡ self.now }
@@ -39,5 +33,22 @@ impl Text {
         ensures { IfOk result (λ copy. copy ≡ self.now) }
     {
         self.clone()
+    }
+}
+
+/// The text of a string. It takes no memory.
+impl From<String> for Text {
+    ghost from_gives = { λ string text. text ≡ string_bytes string };
+
+    fn from(inner: String) -> Text {
+        Text { inner }
+    }
+}
+
+/// The text in quotes.
+impl fmt::Debug for Text {
+    fn fmt<W: fmt::Write>(&self, f: &mut fmt::Formatter<W>) -> fmt::Result {
+        let text = self.as_str();
+        write!(f, "{text:?}")
     }
 }

@@ -21,7 +21,7 @@ use Rattle.scene_world.specs.declared.home.Home.{Home}
 use Rattle.scene_world.specs.World.{World, rows_at, row_at, row_of, home_of, mask_at, cell_at, cell_in, is_unknown, kind_sets, present}
 use Rattle.scene_world.specs.Valid.{IsValid}
 use Rattle.scene_world.proofs.Homes.{home_is}
-use Rattle.scene_world.proofs.KindBits.{fits_known}
+use Rattle.scene_world.proofs.RowKinds.{fits_known}
 use Rattle.scene_world.proofs.Scans.{some_home}
 use Rattle.scene_pass.specs.declared.filter.Filter.{Filter}
 use Rattle.scene_pass.specs.declared.cell_name.CellName.{CellName}
@@ -69,7 +69,7 @@ record HasRow (w : World) (row : Row) (h : Home) : Type 0 where
 
 row_found : (w : World) (h : Home) (row : Row) → IsValid w → row_at w.tables h ≡ Some row → HasRow w row h
 row_found w h row valid at =
-    let home : home_of w row.entity ≡ Some h = home_is w.tables row.entity h row valid.once at refl in
+    let home : home_of w row.entity ≡ Some h = home_is w.tables row.entity h row valid.rows.once at refl in
     let k = some_home w row.entity (Some h) (sym home) in
     let rows : Some k.row ≡ Some row = sym k.there ∙ at in
     let same : k.row ≡ row = cc in record { mask = ap (option_map (λ g. g.mask)) home; found = k.found ∙ ap (λ r. Some (h, r)) same }
@@ -138,7 +138,7 @@ read_cell schema p kind cell h = elim (is_unknown schema kind) as (λ b. (if b t
 -- a cell of a row of a valid world, as a reader finds it
 cell_seen : (w : World) (h : Home) (row : Row) (kind : ℕ) (cell : Cell) → IsValid w → row_at w.tables h ≡ Some row → Contains row.cells (kind, cell) → cell_at w row.entity kind ≡ Ok cell
 cell_seen w h row kind cell valid at g =
-    let fits = valid.rows h row at in
+    let fits = (valid.rows.each h row at).fits in
     let low = fits_known w.schema cell.value kind (each_passes (λ (c : ℕ × Cell). fits_kind w.schema c.1.value c.0) row.cells (kind, cell) fits.shapes g) in
     ap (cell_in w.schema kind) (row_found w h row valid at).found ∙ cell_read w.schema (h, row) kind cell low (cell_found row.cells kind cell fits.kinds.ascending g)
 

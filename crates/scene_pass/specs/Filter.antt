@@ -1,11 +1,7 @@
 -- What a filter matches. A kind set is a number in which kind k is bit k.
-use Rattle.std.specs.Prelude.{◌≡◌, ℕ, Bool, ◌&&◌, nat_eq, bit_and}
-use Rattle.std.specs.Int.{bit_at}
+use Rattle.std.specs.Prelude.{◌≡◌, ℕ, Bool, true, ◌&&◌, nat_eq, bit_and}
+use Rattle.scene_kinds.specs.KindSet.{has_kind}
 use Rattle.scene_pass.specs.declared.filter.Filter.{Filter}
-
--- a kind set has a kind
-abbrev pub HasKind : ℕ → ℕ → Type 0
-HasKind mask kind = bit_at mask kind ≡ 1
 
 -- a kind set has every kind of another one
 abbrev pub has_all : ℕ → ℕ → Bool
@@ -21,4 +17,5 @@ is_match filter mask = has_all mask filter.need && has_none mask filter.without
 
 -- what that says of each kind
 abbrev pub SaysEachKind : Filter → ℕ → Type 0
-SaysEachKind filter mask = (kind : ℕ) → (HasKind filter.need kind → HasKind mask kind) × (HasKind filter.without kind → HasKind mask kind → ⊥)
+SaysEachKind filter mask = (kind : ℕ)
+    → (has_kind filter.need kind ≡ true → has_kind mask kind ≡ true) × (has_kind filter.without kind ≡ true → has_kind mask kind ≡ true → ⊥)

@@ -14,7 +14,8 @@ use Rattle.scene_kinds.specs.declared.value.Value.{Value}
 use Rattle.scene_kinds.specs.Map as map
 use Rattle.scene_kinds.proofs.Maps.{get-insert, get-remove, same_map, ties_itself, equal_keys}
 use Rattle.scene_kinds.proofs.Choices.{absorbed}
-use Rattle.scene_resources.specs.Resources.{NamedCells, name_cmp, name_cmp_total, name_cmp_exact, cell_of, put_over, put_of, restore_of, taken, take_of}
+use Rattle.scene_resources.specs.Resources.{NamedCells, name_cmp, name_cmp_total, name_cmp_exact, cell_of, put_of, restore_of, taken, take_of}
+use Rattle.scene_kinds.specs.Cells.{put_over}
 use Rattle.scene_resources.specs.Entries.{named_cells}
 
 abbrev pub is_name : List ℕ → List ℕ → Bool

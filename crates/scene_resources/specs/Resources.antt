@@ -10,6 +10,7 @@ use Rattle.scene_kinds.specs.declared.cell.Cell.{Cell}
 use Rattle.scene_kinds.specs.declared.fault.Fault.TheVariants.{NoSuchResource}
 use Rattle.scene_kinds.specs.declared.value.Value.{Value}
 use Rattle.scene_kinds.specs.Answers.{Outcome, refuse}
+use Rattle.scene_kinds.specs.Cells.{put_over}
 use Rattle.scene_kinds.specs.Map as cells
 use Rattle.scene_kinds.specs.Map.{Map}
 
@@ -34,11 +35,6 @@ cell_of r name = cells.get r name
 -- the names, by their bytes
 abbrev pub names_of : NamedCells → List (List ℕ)
 names_of r = map (λ e. e.0) r.entries
-
--- a value put where a cell may stand: the cell keeps the tick at which it was added
-abbrev pub put_over : Option Cell → Value → ℕ → Cell
-put_over None value tick = record { value = value; added = tick; changed = tick }
-put_over (Some old) value tick = record { value = value; added = old.added; changed = tick }
 
 -- the value put at a name
 abbrev pub put_of : NamedCells → List ℕ → Value → ℕ → NamedCells

@@ -1,7 +1,8 @@
 //! Resources: cells by name.
-ghost use Rattle.std.specs.Prelude.{◌≡◌, ◌↔◌, IfOk, OnOk, OnErr, IsOk, IsSome, IsTrue, Some, None, map as each, option_copied, string_bytes};
+ghost use Rattle.std.specs.Prelude.{◌≡◌, ◌↔◌, IfOk, OnOk, OnErr, IsOk, IsSome, IsTrue, Some, None, map as each, option_copied, string_bytes, true};
 ghost use Rattle.scene_kinds.specs.Answers.{Gives};
 ghost use Rattle.scene_kinds.specs.Map as map;
+ghost use Rattle.scene_kinds.specs.Ranges.{is_in_range};
 ghost use Rattle.scene_resources.specs.Resources.{cell_of, names_of, put_of, take_of, restore_of};
 
 use scene_kinds::{Cell, Fault, Refusal, Value};
@@ -11,7 +12,7 @@ use std::marker::Model;
 
 /// Values that are tied to no entity, each with a name and its ticks (docs/MODEL.md, "The rule of
 /// resources"). Contracts see the cell of each name.
-#[derive(Drop)]
+#[derive(Drop, Debug)]
 pub struct Resources {
     alloc: Global,
     cells: BTreeMap<String, Cell>,
@@ -87,7 +88,7 @@ impl Resources {
     /// Puts a value at a name, at a tick, and answers the cell that stood there (docs/MODEL.md, "The rule of
     /// resources"). A new name gets a cell of that tick; a name that is there keeps the tick at which it was added
     /// and gets this one as that of its change, and the value may have another shape. Any text will do as a name:
-    /// which names are good is for the caller to ask.
+    /// which names are good is for the caller to ask. A value that code holds is in the range of its type.
     ///
     /// An error only where the name is new and no memory was found: then the resources are as they were, and the
     /// value is dropped. A put at a name that is there writes in place and takes no memory.
@@ -96,19 +97,13 @@ impl Resources {
         ensures done { OnOk result (self.new ≡ put_of self.old name.now value tick) }
         ensures full { OnErr result (self.new ≡ self.old) }
         ensures there { IsSome (cell_of self.old name.now) → IsOk result }
+        ensures in_range { is_in_range value ≡ true }
     {
-        let added = match self.get(name) {
-            Some(cell) => cell.added,
-            None => tick,
-        };
-        self.set(
-            name,
-            Cell {
-                value,
-                added,
-                changed: tick,
-            },
-        )
+        let mut cell = Cell::new(value, tick);
+        if let Some(old) = self.get(name) {
+            cell.added = old.added;
+        }
+        self.set(name, cell)
     }
 
     /// Takes the resource of a name away, and answers its cell (docs/MODEL.md, "The rule of resources"). It takes

@@ -1,25 +1,15 @@
 -- Which words are cells and targets, and of what value.
-use Rattle.std.specs.Prelude.{ℕ, ◌==◌, ℤ, List, [], ◌∷◌, Option, Some, None, if◌then◌else◌, option_map, option_and_then, codes}
-use Rattle.std.specs.Str.{bytes_eq}
+use Rattle.std.specs.Prelude.{ℕ, ◌==◌, ℤ, List, [], ◌∷◌, Option, Some, None, if◌then◌else◌, option_map, option_and_then}
 use Rattle.scene_kinds.specs.declared.shape.Shape.{Shape}
 use Rattle.scene_kinds.specs.declared.shape.Shape.TheVariants as shape
 use Rattle.scene_kinds.specs.declared.value.Value.{Value}
 use Rattle.scene_kinds.specs.declared.value.Value.TheVariants as value
 use Rattle.scene_kinds.specs.Schema.{Kinds, number_of, shape_of, fits_kind}
+use Rattle.scene_kinds.specs.Shape.{shape_named}
 use Rattle.scene_script.specs.declared.target.TargetWord.{TargetWord}
 use Rattle.scene_script.specs.declared.target.TargetWord.TheVariants as target
 use Rattle.scene_script.specs.Words.{cut_at}
 use Rattle.scene_script.specs.Numbers.{number_in, count_in, entity_in}
-
--- the shape of a name
-abbrev pub shape_in : List ℕ → Option Shape
-shape_in bytes =
-    if bytes_eq bytes (codes "Tag") then Some shape.Tag
-    else if bytes_eq bytes (codes "Int") then Some shape.Int
-    else if bytes_eq bytes (codes "Vec3") then Some shape.Vec3
-    else if bytes_eq bytes (codes "Text") then Some shape.Text
-    else if bytes_eq bytes (codes "Link") then Some shape.Link
-    else None
 
 -- three coordinates, where each is there
 abbrev pub vec3_of : Option ℤ → Option ℤ → Option ℤ → Option (List ℤ)
@@ -61,8 +51,8 @@ lone_shape s = None
 
 -- a word without = (61), and one with what stands before and after it
 abbrev pub shaped_of_parts : List ℕ → Option (List ℕ × List ℕ) → Option Value
-shaped_of_parts word None = option_and_then lone_shape (shape_in word)
-shaped_of_parts word (Some p) = option_and_then (λ s. value_in s p.1) (shape_in p.0)
+shaped_of_parts word None = option_and_then lone_shape (shape_named word)
+shaped_of_parts word (Some p) = option_and_then (λ s. value_in s p.1) (shape_named p.0)
 
 -- the value that a word names with its shape: SHAPE of a tag, else SHAPE=VALUE
 abbrev pub shaped_value_in : List ℕ → Option Value

@@ -7,7 +7,8 @@ use Rattle.scene_script.specs.declared.target.TargetWord.{TargetWord}
 use Rattle.scene_script.specs.declared.command.Command.TheVariants.{Spawn, Insert, Despawn, Remove, SetParent, RemoveParent, DespawnAll, PutResource, RemoveResource}
 use Rattle.scene_script.specs.declared.script_line.Line.{Line}
 use Rattle.scene_script.specs.declared.script_line.Line.TheVariants.{Empty, Bad, Kind, Slots, Do, Undo, Redo, Show, Get, Mark, Changed, Added}
-use Rattle.scene_script.specs.Cells.{shape_in, cell_in, shaped_value_in, target_in}
+use Rattle.scene_kinds.specs.Shape.{shape_named}
+use Rattle.scene_script.specs.Cells.{cell_in, shaped_value_in, target_in}
 use Rattle.scene_script.specs.Numbers.{count_in, entity_in}
 use Rattle.scene_script.specs.Words.{words_of}
 
@@ -18,7 +19,7 @@ or_bad (Some line) = line
 
 -- `kind NAME SHAPE`
 abbrev pub kind_line : List (List ℕ) → Line
-kind_line (name ∷ shape ∷ []) = or_bad (option_map (λ s. Kind name s) (shape_in shape))
+kind_line (name ∷ shape ∷ []) = or_bad (option_map (λ s. Kind name s) (shape_named shape))
 kind_line words = Bad
 
 -- the slot limit that a number is

@@ -1,26 +1,12 @@
 //! Values and cells as words.
 ghost use Rattle.std.specs.Prelude.{◌≡◌, IfOk, option_and_then};
 ghost use Rattle.scene_kinds.specs.Schema.{number_of};
-ghost use Rattle.scene_script.specs.Cells.{shape_in, vec3_in, value_in, tag_of, cell_in, lone_shape, shaped_value_in};
+ghost use Rattle.scene_script.specs.Cells.{vec3_in, value_in, tag_of, cell_in, lone_shape, shaped_value_in};
 
 use crate::number::{read_entity, read_number};
 use crate::word::cut;
-use scene_kinds::{Schema, Shape, Text, Value};
+use scene_kinds::{ParseShapeError, Schema, Shape, Text, Value};
 use std::alloc::{AllocError, Global};
-
-/// The shape that a word names (docs/SCRIPTS.md, "Words"). `None` only where it is no shape's name.
-pub fn read_shape(word: &str) -> Option<Shape>
-    ensures { result ≡ shape_in word.now }
-{
-    match word {
-        "Tag" => Some(Shape::Tag),
-        "Int" => Some(Shape::Int),
-        "Vec3" => Some(Shape::Vec3),
-        "Text" => Some(Shape::Text),
-        "Link" => Some(Shape::Link),
-        _ => None,
-    }
-}
 
 /// Three whole numbers with commas between them.
 fn vec3(text: &str) -> Option<[i64; 3]>
@@ -43,7 +29,7 @@ pub fn read_value(alloc: Global, shape: Shape, text: &str) -> Result<Option<Valu
         Shape::Vec3 => Ok(vec3(text).map(Value::Vec3)),
         Shape::Text => {
             let owned = String::from_str(alloc, text)?;
-            Ok(Some(Value::Text(Text::from_string(owned))))
+            Ok(Some(Value::Text(Text::from(owned))))
         }
         Shape::Link => Ok(read_entity(text).map(Value::Link)),
     }
@@ -99,10 +85,10 @@ pub fn read_shaped_value(alloc: Global, word: &str) -> Result<Option<Value>, All
     ensures { IfOk result (λ r. r ≡ shaped_value_in word.now) }
 {
     let Some((name, text)) = cut(word, '=') else {
-        return Ok(read_shape(word).and_then(lone_shape));
+        return Ok(word.parse().ok().and_then(lone_shape));
     };
-    match read_shape(name) {
-        None => Ok(None),
-        Some(shape) => read_value(alloc, shape, text),
+    match name.parse() {
+        Err(ParseShapeError) => Ok(None),
+        Ok(shape) => read_value(alloc, shape, text),
     }
 }

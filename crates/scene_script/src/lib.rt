@@ -17,7 +17,7 @@ mod slot_limit;
 mod target;
 mod word;
 
-pub use cell_word::{read_cell, read_shape, read_shaped_value, read_value};
+pub use cell_word::{read_cell, read_shaped_value, read_value};
 pub use command::{Command, Given};
 pub use line::first_line;
 pub use number::{read_count, read_entity, read_number};

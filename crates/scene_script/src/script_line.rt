@@ -2,13 +2,13 @@
 ghost use Rattle.std.specs.Prelude.{◌≡◌, IfOk, map};
 ghost use Rattle.scene_script.specs.Script.{line_in, line_of_words, named_line, kind_line, slots_line, cells_in, spawn_line, insert_line, lone_target, despawn_line, remove_line, parent_line, unparent_line, despawnall_line, put_line, drop_line, get_line, lone};
 
-use crate::cell_word::{read_cell, read_shape, read_shaped_value};
+use crate::cell_word::{read_cell, read_shaped_value};
 use crate::command::{Command, Given};
 use crate::number::{read_count, read_entity};
 use crate::slot_limit::SlotLimit;
 use crate::target::{TargetWord, read_target};
 use crate::word::words;
-use scene_kinds::{Entity, Schema, Shape, Text};
+use scene_kinds::{Entity, ParseShapeError, Schema, Shape, Text};
 use std::alloc::{AllocError, Global};
 
 /// The meaning of a line (docs/SCRIPTS.md, "Lines").
@@ -40,9 +40,9 @@ fn kind_line(alloc: Global, rest: &[&str]) -> Result<Line, AllocError>
     let [name, shape] = rest else {
         return Ok(Line::Bad);
     };
-    match read_shape(shape) {
-        None => Ok(Line::Bad),
-        Some(shape) => Ok(Line::Kind(Text::from_string(String::from_str(alloc, name)?), shape)),
+    match shape.parse() {
+        Err(ParseShapeError) => Ok(Line::Bad),
+        Ok(shape) => Ok(Line::Kind(Text::from(String::from_str(alloc, name)?), shape)),
     }
 }
 
@@ -184,7 +184,7 @@ fn put_line(alloc: Global, rest: &[&str]) -> Result<Line, AllocError>
     match read_shaped_value(alloc, value)? {
         None => Ok(Line::Bad),
         Some(value) => {
-            let name = Text::from_string(String::from_str(alloc, name)?);
+            let name = Text::from(String::from_str(alloc, name)?);
             Ok(Line::Do(Command::PutResource(name, value)))
         }
     }
@@ -197,7 +197,7 @@ fn drop_line(alloc: Global, rest: &[&str]) -> Result<Line, AllocError>
     let [name] = rest else {
         return Ok(Line::Bad);
     };
-    let name = Text::from_string(String::from_str(alloc, name)?);
+    let name = Text::from(String::from_str(alloc, name)?);
     Ok(Line::Do(Command::RemoveResource(name)))
 }
 

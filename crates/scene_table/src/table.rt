@@ -13,7 +13,7 @@ use std::marker::Model;
 /// is the number of a row, from 0.
 ///
 /// Contracts see the kind set, the rows, and the room, which is for how many more rows there is memory.
-#[derive(Drop)]
+#[derive(Drop, Debug)]
 pub struct Table {
     mask: u64,
     rows: Vec<Row>,

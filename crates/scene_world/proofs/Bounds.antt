@@ -38,7 +38,7 @@ rows_few w v mask =
     below : All (λ i. i < length w.slots.generations) (indices (rows_at w.tables mask))
     below i d l =
         let g = row_there (rows_at w.tables mask) i d (subst (λ n. i < n) (length-map (rows_at w.tables mask) (λ r. r.entity.index)) l) in
-        subst (λ x. x < length w.slots.generations) (sym g.1.1) (slice_get_within w.slots.generations g.0.entity.index g.0.entity.generation (v.current (record { mask = mask; place = i }) g.0 g.1.0))
+        subst (λ x. x < length w.slots.generations) (sym g.1.1) (slice_get_within w.slots.generations g.0.entity.index g.0.entity.generation (v.rows.each (record { mask = mask; place = i }) g.0 g.1.0).current)
 
     apart : (i j d : ℕ) → i < j → j < length (indices (rows_at w.tables mask)) → nat_eq (get_or (indices (rows_at w.tables mask)) i d) (get_or (indices (rows_at w.tables mask)) j d) ≡ false
     apart i j d l m =
@@ -48,8 +48,8 @@ rows_few w v mask =
         elim (nat_eq (get_or (indices (rows_at w.tables mask)) i d) (get_or (indices (rows_at w.tables mask)) j d)) as (λ t. nat_eq (get_or (indices (rows_at w.tables mask)) i d) (get_or (indices (rows_at w.tables mask)) j d) ≡ t → t ≡ false) [
           | true ↦ λ p.
               let index : a.0.entity.index ≡ b.0.entity.index = sym a.1.1 ∙ (eqb-true _ _ p ∙ b.1.1) in
-              let entity = same_entity w.slots.generations a.0.entity b.0.entity (v.current (record { mask = mask; place = i }) a.0 a.1.0) (v.current (record { mask = mask; place = j }) b.0 b.1.0) index in
-              let home = v.once (record { mask = mask; place = i }) (record { mask = mask; place = j }) a.0 b.0 a.1.0 b.1.0 entity in
+              let entity = same_entity w.slots.generations a.0.entity b.0.entity (v.rows.each (record { mask = mask; place = i }) a.0 a.1.0).current (v.rows.each (record { mask = mask; place = j }) b.0 b.1.0).current index in
+              let home = v.rows.once (record { mask = mask; place = i }) (record { mask = mask; place = j }) a.0 b.0 a.1.0 b.1.0 entity in
               let place : i ≡ j = ap (λ (h : Home). h.place) home in
               absurd (omega arith)
           | false ↦ λ p. refl
@@ -59,4 +59,4 @@ rows_few w v mask =
 pub place_low : (w : World) → IsValid w → (h : Home) (r : Row) → row_at w.tables h ≡ Some r → h.place < 1048576
 place_low w v h r e =
     let within = slice_get_within (rows_at w.tables h.mask) h.place r e in
-    omega (arith, rows_few w v h.mask, v.limit.1.0, v.limit.1.1)
+    omega (arith, rows_few w v h.mask, v.slots.low_limit, v.slots.few)

@@ -19,12 +19,12 @@ answered f (Ok p) b v h = (p.0, λ i. Ok (p.0, (same_world (f p.0) b p.1 v h).1 
 answered f (Err r) b v h = absurd (not_ok (b, v) r h)
 
 pub commands_keep : CommandsKeep
-commands_keep w v (Spawn cells) a valid is = let k = answered _ (spawn w cells) a v is in spawn_keeps w v cells k.0 valid k.1
-commands_keep w v (Despawn e) a valid is = despawn_keeps w v e valid (answered _ (despawn w e) a v is).1
-commands_keep w v (DespawnRecursive e) a valid is = recursive_keeps w v e valid (answered _ (despawn_recursive w e) a v is).1
-commands_keep w v (Insert e kind value) a valid is = insert_keeps w v e kind value valid (answered _ (insert w e kind value) a v is).1
-commands_keep w v (Remove e kind) a valid is = remove_keeps w v e kind valid (answered _ (remove w e kind) a v is).1
-commands_keep w v (SetParent c p) a valid is = set_parent_keeps w v c p valid (answered _ (set_parent w c p) a v is).1
-commands_keep w v (RemoveParent c) a valid is = remove_parent_keeps w v c valid (answered _ (remove_parent w c) a v is).1
-commands_keep w v (PutResource name value) a valid is = put_resource_keeps w v name value valid (answered _ (put_resource w name value) a v is).1
-commands_keep w v (RemoveResource name) a valid is = remove_resource_keeps w v name valid (answered _ (remove_resource w name) a v is).1
+commands_keep w v (Spawn cells) a valid held is = let k = answered _ (spawn w cells) a v is in spawn_keeps w v cells k.0 valid k.1
+commands_keep w v (Despawn e) a valid held is = despawn_keeps w v e valid (answered _ (despawn w e) a v is).1
+commands_keep w v (DespawnRecursive e) a valid held is = recursive_keeps w v e valid (answered _ (despawn_recursive w e) a v is).1
+commands_keep w v (Insert e kind value) a valid held is = insert_keeps w v e kind value valid (answered _ (insert w e kind value) a v is).1
+commands_keep w v (Remove e kind) a valid held is = remove_keeps w v e kind valid (answered _ (remove w e kind) a v is).1
+commands_keep w v (SetParent c p) a valid held is = set_parent_keeps w v c p valid (answered _ (set_parent w c p) a v is).1
+commands_keep w v (RemoveParent c) a valid held is = remove_parent_keeps w v c valid (answered _ (remove_parent w c) a v is).1
+commands_keep w v (PutResource name value) a valid held is = put_resource_keeps w v name value valid held (answered _ (put_resource w name value) a v is).1
+commands_keep w v (RemoveResource name) a valid held is = remove_resource_keeps w v name valid (answered _ (remove_resource w name) a v is).1

@@ -20,7 +20,7 @@ use Rattle.scene_world.specs.World.{World, home_of, is_live}
 use Rattle.scene_world.specs.Commands.{with_live, and_then, gone, despawn, despawn_each, despawn_recursive}
 use Rattle.scene_world.specs.Stored.{IsHomeOf}
 use Rattle.scene_world.specs.Valid.{IsValid}
-use Rattle.scene_world.specs.Laws.{DespawnRecursiveKeeps, DespawnRecursiveIsWhole}
+use Rattle.scene_world.specs.Laws.{DespawnRecursiveIsWhole}
 use Rattle.scene_world.proofs.Homes.{live_here}
 use Rattle.scene_world.proofs.Lives.{lives_removed}
 use Rattle.scene_world.proofs.Outcomes.{not_ok, same_world, with_row_of}
@@ -78,9 +78,9 @@ all_go w (e ∷ es) c =
 pub subtree_can_go : (w : World) (e : Entity) → IsValid w → is_live w e ≡ true → CanGo w (post w.children e)
 subtree_can_go w e v l = record {
   valid = v;
-  live = λ x i. post_cases (is_live w x ≡ true) w.children e x v.links.1 i (λ s. ap (is_live w) s ∙ l) (λ p n. (v.links.0 p x n).1);
-  once = post_distinct w.children e v.links.1;
-  bare = post_unravels w.children e v.links.1;
+  live = λ x i. post_cases (is_live w x ≡ true) w.children e x v.links.forest i (λ s. ap (is_live w) s ∙ l) (λ p n. (v.links.live p x n).1);
+  once = post_distinct w.children e v.links.forest;
+  bare = post_unravels w.children e v.links.forest;
 }
 
 -- a recursive despawn of a live entity despawns the order from it
@@ -90,7 +90,7 @@ recursive_each w e l = let h = live_home w e l in ap (λ o. with_live o (λ h ro
 pub recursive_is_whole : DespawnRecursiveIsWhole
 recursive_is_whole w e valid l = let r = all_go w (post w.children e) (subtree_can_go w e valid l) in (r.0, recursive_each w e l ∙ r.1.0)
 
-pub recursive_keeps : DespawnRecursiveKeeps
+pub recursive_keeps : (w v : World) (e : Entity) → IsValid w → despawn_recursive w e ≡ Ok (tt, v) → IsValid v
 recursive_keeps w v e valid is =
     with_row_of (IsValid v) w e _ (tt, v) is (λ h row at same made.
     let r = all_go w (post w.children e) (subtree_can_go w e valid (live_here w.tables e h row at same)) in

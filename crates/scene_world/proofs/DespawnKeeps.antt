@@ -1,12 +1,11 @@
 -- An accepted despawn keeps a valid world valid.
 use Rattle.std.proofs.Common.{◌≡◌, ℕ, ◌+◌, ◌<◌, true, false, ◌||◌, nat_eq, List, [], ◌∷◌, length, refl, ap, subst, sym, ◌∙◌, arith, Some, None, Ok, slice_get, slice_index, length-set, if◌then◌else◌}
 use Rattle.std.specs.Prelude.{Result, Err, is_some, ◌==◌}
-use Rattle.std.specs.List.{list_all, list_any}
+use Rattle.std.specs.List.{list_any}
 use Rattle.std.proofs.lemmas.Bool.{or_right, eq-eqb, ne_eqb, eqb-true, eqb-false}
 use Rattle.std.proofs.Math.Bool.{or-false}
 use Rattle.std.proofs.lemmas.Bool.Decides.{nat_tests}
 use Rattle.scene_kinds.specs.declared.entity.Entity.{Entity}
-use Rattle.scene_kinds.specs.declared.cell.Cell.{Cell}
 use Rattle.scene_kinds.specs.declared.cells.Row.{Row}
 use Rattle.scene_kinds.specs.declared.fault.Fault.TheVariants.{HasChildren}
 use Rattle.scene_kinds.specs.declared.refusal.Refusal.{Refusal}
@@ -18,15 +17,13 @@ use Rattle.scene_alloc.proofs.Moves.{freed, IsSlots-release}
 use Rattle.scene_links.specs.Forest.{Forest, cut, cut_from, children_of, parent_of, unlinked, unlink_of}
 use Rattle.scene_links.proofs.Cuts.{cut_forest, cut_part, left_out}
 use Rattle.scene_world.specs.declared.home.Home.{Home}
-use Rattle.scene_world.specs.World.{World, row_at, without_row}
-use Rattle.scene_world.specs.Commands.{gone}
-use Rattle.scene_world.specs.Valid.{IsValid, IsRowOf, IsCurrent, is_live_index, is_retired, is_timely}
-use Rattle.scene_world.specs.Laws.{DespawnKeeps}
+use Rattle.scene_world.specs.World.{World, lives, row_at, without_row}
+use Rattle.scene_world.specs.Commands.{gone, despawn}
+use Rattle.scene_world.specs.Valid.{IsValid, IsSoundRow, is_live_index, is_retired}
 use Rattle.scene_world.proofs.Outcomes.{not_ok, same_world, with_row_of}
-use Rattle.scene_world.proofs.RowLists.{written_stays}
+use Rattle.scene_kinds.proofs.Elements.{written_stays}
 use Rattle.scene_world.proofs.Rows.{each_removed, once_removed, removed_nowhere}
-use Rattle.scene_world.proofs.Lives.{lives, lives_removed, read, there, one_of, first_of_three, second_of_three, last_of_three}
-use Rattle.scene_world.proofs.SpawnKeeps.{slots_of}
+use Rattle.scene_world.proofs.Lives.{lives_removed, read, there, one_of, first_of_three, second_of_three, last_of_three}
 use Rattle.scene_world.proofs.TakenSlots.{any_pushed}
 
 -- what a release leaves, as a world sees it
@@ -60,16 +57,16 @@ released s e v c =
 
 -- a live entity may be released
 pub can_release : (w : World) (h : Home) (row : Row) → IsValid w → row_at w.tables h ≡ Some row → CanRelease w.slots row.entity
-can_release w h row v at = record { current = v.current h row at; not_free = v.free.1.1 h row at }
+can_release w h row v at = let k = v.rows.each h row at in record { current = k.current; not_free = k.busy }
 
 -- after a row was taken out no row has its index
 index_gone : (w : World) (h : Home) (row : Row) → IsValid w → row_at w.tables h ≡ Some row → (g : Home) (r : Row) → row_at (without_row w.tables h) g ≡ Some r → r.entity.index ≡ row.entity.index → ⊥
 index_gone w h row v at g r is e =
-    let mine = each_removed (λ m r. IsCurrent w.slots r.entity) w.tables h row at v.current g r is in
-    let theirs = v.current h row at in
+    let mine = (each_removed (IsSoundRow w.schema w.slots w.tick) w.tables h row at v.rows.each g r is).current in
+    let theirs = (v.rows.each h row at).current in
     let k : Some r.entity.generation ≡ Some row.entity.generation = sym mine ∙ ap (slice_get w.slots.generations) e ∙ theirs in
     let f : r.entity.generation ≡ row.entity.generation = cc in
-    removed_nowhere w.tables h row at v.once g r is (λ i. record { index = e i; generation = f i })
+    removed_nowhere w.tables h row at v.rows.once g r is (λ i. record { index = e i; generation = f i })
 
 no_children : (f : Forest) (e : Entity) → is_some (map.get f e) ≡ false → children_of f e ≡ []
 no_children f e n = elim (map.get f e) as (λ o. is_some o ≡ false → listed o ≡ []) [
@@ -79,22 +76,22 @@ no_children f e n = elim (map.get f e) as (λ o. is_some o ≡ false → listed 
 
 -- an index other than the one that left is accounted for as before, and that one is free or retired
 accounted_gone : (w : World) (h : Home) (row : Row) → IsValid w → row_at w.tables h ≡ Some row → IsReleased w.slots (release_of w.slots row.entity) row.entity → (i : ℕ) → i < length w.slots.generations
-    → (is_live_index (gone w h row.entity) i || is_free (release_of w.slots row.entity) i || is_retired (release_of w.slots row.entity) i) ≡ true
+    → (is_live_index (release_of w.slots row.entity) (without_row w.tables h) i || is_free (release_of w.slots row.entity) i || is_retired (release_of w.slots row.entity) i) ≡ true
 accounted_gone w h row v at k i l =
     let t = release_of w.slots row.entity in
-    elim (nat_eq i row.entity.index) as (λ b. nat_eq i row.entity.index ≡ b → (is_live_index (gone w h row.entity) i || is_free (release_of w.slots row.entity) i || is_retired (release_of w.slots row.entity) i) ≡ true) [
+    elim (nat_eq i row.entity.index) as (λ b. nat_eq i row.entity.index ≡ b → (is_live_index (release_of w.slots row.entity) (without_row w.tables h) i || is_free (release_of w.slots row.entity) i || is_retired (release_of w.slots row.entity) i) ≡ true) [
       | true ↦ λ e.
           let s : i ≡ row.entity.index = eqb-true i row.entity.index e in
-          ap (λ (n : ℕ). is_live_index (gone w h row.entity) n || is_free (release_of w.slots row.entity) n || is_retired (release_of w.slots row.entity) n) s
-          ∙ last_of_three (is_live_index (gone w h row.entity) row.entity.index) (is_free t row.entity.index) (is_retired t row.entity.index) k.settled
+          ap (λ (n : ℕ). is_live_index (release_of w.slots row.entity) (without_row w.tables h) n || is_free (release_of w.slots row.entity) n || is_retired (release_of w.slots row.entity) n) s
+          ∙ last_of_three (is_live_index t (without_row w.tables h) row.entity.index) (is_free t row.entity.index) (is_retired t row.entity.index) k.settled
       | false ↦ λ e.
           let ne = eqb-false i row.entity.index e in
           let kept : slice_index t.generations i ≡ slice_index w.slots.generations i = read t.generations i _ (k.kept i _ ne (there w.slots.generations i l)) in
-          one_of _ (is_live_index w i) (is_free w.slots i) (is_retired w.slots i) (v.accounted i l)
+          one_of _ (is_live_index w.slots w.tables i) (is_free w.slots i) (is_retired w.slots i) (v.accounted i l)
           (λ a. first_of_three _ _ _ (ap (λ (g : ℕ). lives (without_row w.tables h) (record { index = i; generation = g })) kept
           ∙ lives_removed w.tables h row (record { index = i; generation = slice_index w.slots.generations i }) at (λ u. ne (sym (ap (λ (x : Entity). x.index) u))) a))
-          (λ b. second_of_three (is_live_index (gone w h row.entity) i) _ _ (k.others i ne ∙ b))
-          (λ c. or_right (is_live_index (gone w h row.entity) i || is_free t i) _ (ap (λ (g : ℕ). nat_eq g 4294967295) kept ∙ c))
+          (λ b. second_of_three (is_live_index t (without_row w.tables h) i) _ _ (k.others i ne ∙ b))
+          (λ c. or_right (is_live_index t (without_row w.tables h) i || is_free t i) _ (ap (λ (g : ℕ). nat_eq g 4294967295) kept ∙ c))
     ] refl
 
 -- the world after a despawn is valid
@@ -102,28 +99,28 @@ pub gone_valid : (w : World) (h : Home) (row : Row) → IsValid w → row_at w.t
 gone_valid w h row v at childless =
     let e = row.entity in
     let t = release_of w.slots e in
-    let k = released w.slots e (slots_of w v) (can_release w h row v at) in
-    let left = left_out w.children e v.links.1 (no_children w.children e childless) in
+    let k = released w.slots e v.slots (can_release w h row v at) in
+    let left = left_out w.children e v.links.forest (no_children w.children e childless) in
     record {
-      limit = (k.sound.some_limit, (k.sound.low_limit, k.sound.few));
-      generations = k.sound.begun;
-      current = λ g r is. k.kept r.entity.index r.entity.generation (index_gone w h row v at g r is) (each_removed (λ m r. IsCurrent w.slots r.entity) w.tables h row at v.current g r is);
-      once = once_removed w.tables h row at v.once;
-      free = (k.sound.in_range, (k.sound.distinct, λ g r is. k.others r.entity.index (index_gone w h row v at g r is) ∙ each_removed (λ m r. is_free w.slots r.entity.index ≡ false) w.tables h row at v.free.1.1 g r is));
-      accounted = λ i l. accounted_gone w h row v at k i (subst (λ (n : ℕ). i < n) k.as_many l);
-      rows = each_removed (IsRowOf w.schema) w.tables h row at v.rows;
-      links = (
-        (λ p c n.
-            let old = v.links.0 p c (cut_part w.children e p c n) in
-            let other = left p c n in
-            (lives_removed w.tables h row p at (λ s. other.0 (sym s)) old.0, lives_removed w.tables h row c at (λ s. other.1 (sym s)) old.1)),
-        cut_forest w.children e v.links.1,
-      );
-      names = v.names;
-      ticks = (each_removed (λ m r. list_all (λ (c : ℕ × Cell). is_timely w.tick c.1) r.cells ≡ true) w.tables h row at v.ticks.0, v.ticks.1);
       schema = v.schema;
-      generations_low = k.sound.low;
-      tick_low = v.tick_low;
+      slots = k.sound;
+      tick = v.tick;
+      rows = record {
+        each = λ g r is.
+            let old = each_removed (IsSoundRow w.schema w.slots w.tick) w.tables h row at v.rows.each g r is in
+            let other = index_gone w h row v at g r is in
+            record { current = k.kept r.entity.index r.entity.generation other old.current; busy = k.others r.entity.index other ∙ old.busy; fits = old.fits; timely = old.timely };
+        once = once_removed w.tables h row at v.rows.once;
+      };
+      accounted = λ i l. accounted_gone w h row v at k i (subst (λ (n : ℕ). i < n) k.as_many l);
+      links = record {
+        live = λ p c n.
+            let old = v.links.live p c (cut_part w.children e p c n) in
+            let other = left p c n in
+            (lives_removed w.tables h row p at (λ s. other.0 (sym s)) old.0, lives_removed w.tables h row c at (λ s. other.1 (sym s)) old.1);
+        forest = cut_forest w.children e v.links.forest;
+      };
+      resources = v.resources;
     }
 
 -- an entity whose list of children is empty has none
@@ -151,7 +148,7 @@ unlinked_cut f g c r h = elim (parent_of f c) as (λ o. Gives r f g (unlinked f 
     some p (Ok q) k = sym (same_world _ _ _ _ k).1
     some p (Err x) k = absurd (not_ok _ x (sym k.1))
 
-pub despawn_keeps : DespawnKeeps
+pub despawn_keeps : (w v : World) (e : Entity) → IsValid w → despawn w e ≡ Ok (tt, v) → IsValid v
 despawn_keeps w v e valid is =
     with_row_of (IsValid v) w e _ (tt, v) is (λ h r at same made.
     elim (is_some (map.get w.children e)) as (λ b. is_some (map.get w.children e) ≡ b → ◌≡◌ {A = Outcome (Unit {0}) World} (if b then refuse HasChildren else Ok (tt, gone w h e)) (Ok (tt, v)) → IsValid v) [

@@ -18,7 +18,7 @@ use Rattle.scene_kinds.proofs.Maps.{equal_keys, ties_itself}
 use Rattle.scene_world.specs.declared.home.Home.{Home}
 use Rattle.scene_world.specs.World.{Tables, row_at, place_among, home_in}
 use Rattle.scene_world.specs.Valid.{StandsOnce}
-use Rattle.scene_world.proofs.Positions.{found, missed}
+use Rattle.scene_kinds.proofs.Positions.{found, missed}
 
 -- the row at a place of a list has an entity
 pub record HasAt (rows : List Row) (p : ℕ) (e : Entity) : Type 0 where

@@ -4,7 +4,7 @@ pub mod Copies
 pub mod DespawnEach
 pub mod DespawnKeeps
 pub mod Homes
-pub mod KindBits
+pub mod RowKinds
 pub mod KindSets
 pub mod LinkKeeps
 pub mod Lives
@@ -13,7 +13,6 @@ pub mod NewCells
 pub mod Onto
 pub mod Outcomes
 pub mod Parts
-pub mod Positions
 pub mod ResourceKeeps
 pub mod RowLists
 pub mod Rows

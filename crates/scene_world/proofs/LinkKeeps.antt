@@ -10,33 +10,26 @@ use Rattle.scene_links.specs.Forest.{Forest, IsForest, AllLinked, holds, ancesto
 use Rattle.scene_links.proofs.Cuts.{cut_forest, linked-cut, parent_gone}
 use Rattle.scene_links.proofs.Joins.{linked-joined, linked_forest}
 use Rattle.scene_world.specs.World.{World, is_live}
-use Rattle.scene_world.specs.Commands.{lifted, with_children}
+use Rattle.scene_world.specs.Commands.{lifted, with_children, set_parent, remove_parent}
 use Rattle.scene_world.specs.Valid.{IsValid}
-use Rattle.scene_world.specs.Laws.{SetParentKeeps, RemoveParentKeeps}
 use Rattle.scene_world.proofs.Outcomes.{not_ok, same_world}
 use Rattle.scene_world.proofs.Parts.{asked, allowed, lifted_part, done_part}
 
 -- other links keep a valid world valid, where they are a forest of live entities
 pub links_valid : (w : World) (f : Forest) → IsValid w → AllLinked (λ e. is_live w e ≡ true) f → IsForest f → IsValid (with_children w f)
 links_valid w f v live forest = record {
-  limit = v.limit;
-  generations = v.generations;
-  current = v.current;
-  once = v.once;
-  free = v.free;
-  accounted = v.accounted;
-  rows = v.rows;
-  links = (live, forest);
-  names = v.names;
-  ticks = v.ticks;
   schema = v.schema;
-  generations_low = v.generations_low;
-  tick_low = v.tick_low;
+  slots = v.slots;
+  tick = v.tick;
+  rows = v.rows;
+  accounted = v.accounted;
+  links = record { live = live; forest = forest };
+  resources = v.resources;
 }
 
 -- a child leaves its parent's list
 pub cut_valid : (w : World) (c : Entity) → IsValid w → IsValid (with_children w (cut w.children c))
-cut_valid w c v = links_valid w (cut w.children c) v (linked-cut (λ e. is_live w e ≡ true) w.children c v.links.0) (cut_forest w.children c v.links.1)
+cut_valid w c v = links_valid w (cut w.children c) v (linked-cut (λ e. is_live w e ≡ true) w.children c v.links.live) (cut_forest w.children c v.links.forest)
 
 -- a live child goes last in the list of a live parent that isn't below it
 pub joined_valid : (w : World) (c p : Entity) → IsValid w → is_live w c ≡ true → is_live w p ≡ true → is_same c p ≡ false → holds c (ancestors w.children p) ≡ false
@@ -44,8 +37,8 @@ pub joined_valid : (w : World) (c p : Entity) → IsValid w → is_live w c ≡ 
 joined_valid w c p v child parent ne up =
     let f = w.children in
     links_valid w (joined (cut f c) c p) v
-    (linked-joined (λ e. is_live w e ≡ true) (cut f c) c p (cut_forest f c v.links.1) (parent_gone f c v.links.1) parent child (linked-cut (λ e. is_live w e ≡ true) f c v.links.0))
-    (linked_forest f c p v.links.1 ne up)
+    (linked-joined (λ e. is_live w e ≡ true) (cut f c) c p (cut_forest f c v.links.forest) (parent_gone f c v.links.forest) parent child (linked-cut (λ e. is_live w e ≡ true) f c v.links.live))
+    (linked_forest f c p v.links.forest ne up)
 
 -- the links after a link that wasn't refused
 pub linked_valid : (w : World) (c p : Entity) (g : Forest) → IsValid w → is_live w c ≡ true → is_live w p ≡ true → link_of w.children c p ≡ Ok (tt, g) → IsValid (with_children w g)
@@ -67,14 +60,14 @@ unlinked_valid w c l g v made =
       | Some p ↦ λ k h. subst (λ f. IsValid (with_children w f)) (same_world _ l _ g h).1 k
     ] (cut_valid w c v) made
 
-pub set_parent_keeps : SetParentKeeps
+pub set_parent_keeps : (w v : World) (child parent : Entity) → IsValid w → set_parent w child parent ≡ Ok (tt, v) → IsValid v
 set_parent_keeps w v c p valid is =
     let live = allowed (is_live w c && is_live w p) _ _ (tt, v) is in
     let both = and_parts (is_live w c) (is_live w p) live.0 in
     let made = lifted_part (link_of w.children c p) (with_children w) tt v live.1 in
     subst IsValid made.1.1 (linked_valid w c p made.0 valid both.0 both.1 made.1.0)
 
-pub remove_parent_keeps : RemoveParentKeeps
+pub remove_parent_keeps : (w v : World) (child : Entity) → IsValid w → remove_parent w child ≡ Ok (tt, v) → IsValid v
 remove_parent_keeps w v c valid is =
     let live = allowed (is_live w c) _ _ (tt, v) is in
     let told = done_part (lifted (unlink_of w.children c) (with_children w)) v live.1 in

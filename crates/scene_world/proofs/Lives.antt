@@ -1,18 +1,13 @@
 -- Who is alive after a row was added, taken out or written.
 use Rattle.std.proofs.Common.{◌≡◌, ℕ, ◌<◌, Bool, true, false, ◌||◌, refl, ap, sym, ◌∙◌, Some, List, length, slice_index, slice_get}
-use Rattle.std.specs.Prelude.{is_some}
 use Rattle.std.proofs.lemmas.Bool.{or_left, or_right}
 use Rattle.std.proofs.lemmas.Option.{same_Some, get_or_from_slice_get, slice_get-get_or}
 use Rattle.scene_kinds.specs.declared.entity.Entity.{Entity}
 use Rattle.scene_kinds.specs.declared.cells.Row.{Row}
 use Rattle.scene_world.specs.declared.home.Home.{Home}
-use Rattle.scene_world.specs.World.{Tables, row_at, home_in, with_row, without_row, with_row_at}
+use Rattle.scene_world.specs.World.{Tables, row_at, lives, with_row, without_row, with_row_at}
 use Rattle.scene_world.proofs.Homes.{here_live, live_here}
 use Rattle.scene_world.proofs.Rows.{added_stays, removed_stays, rewritten_stays}
-
--- an entity has a row
-abbrev pub lives : Tables → Entity → Bool
-lives t e = is_some (home_in e t.entries)
 
 pub lives_added : (t : Tables) (row : Row) (e : Entity) → lives t e ≡ true → lives (with_row t row) e ≡ true
 lives_added t row e l = let h = here_live t e l in live_here (with_row t row) e h.0 h.1.row (added_stays t row h.0 h.1.row h.1.there) h.1.same

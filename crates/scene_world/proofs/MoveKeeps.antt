@@ -11,7 +11,7 @@ use Rattle.scene_kinds.specs.declared.cells.Row.{Row}
 use Rattle.scene_kinds.specs.declared.value.Value.{Value}
 use Rattle.scene_kinds.specs.declared.fault.Fault.TheVariants.{TickFull}
 use Rattle.scene_kinds.specs.Answers.{Outcome, refuse}
-use Rattle.scene_kinds.specs.Cells.{cell_of, with_cell, without_cell, mask_of}
+use Rattle.scene_kinds.specs.Cells.{new_cell, cell_of, with_cell, without_cell, mask_of}
 use Rattle.scene_kinds.specs.Entity.{entity_cmp_exact, entity_cmp_total, is_same}
 use Rattle.scene_kinds.specs.Schema.{fits_kind}
 use Rattle.scene_kinds.proofs.Maps.{equal_keys, ties_itself}
@@ -20,14 +20,14 @@ use Rattle.scene_kinds.proofs.Masks.{mask-with_cell_there}
 use Rattle.scene_alloc.specs.Slots.{is_free}
 use Rattle.scene_table.specs.Table.{row_with_cell}
 use Rattle.scene_world.specs.declared.home.Home.{Home}
-use Rattle.scene_world.specs.World.{World, Tables, row_at, without_row, with_row_at}
-use Rattle.scene_world.specs.Commands.{highest_tick, moved, inserted, new_cell, insert_fault, remove_fault}
-use Rattle.scene_world.specs.Valid.{IsValid, IsRowOf, IsCurrent, is_live_index, is_retired, is_timely, EachRow}
-use Rattle.scene_world.specs.Laws.{RaiseKeeps, InsertKeeps, RemoveKeeps}
+use Rattle.scene_world.specs.World.{World, Tables, row_at, lives, without_row, with_row_at}
+use Rattle.scene_world.specs.Commands.{highest_tick, moved, inserted, insert, insert_fault, remove, remove_fault}
+use Rattle.scene_world.specs.Valid.{IsValid, IsRowOf, IsSoundRow, RowsAreSound, IsCurrent, is_live_index, is_retired, is_timely}
+use Rattle.scene_world.specs.Laws.{RaiseKeeps}
 use Rattle.scene_world.proofs.Outcomes.{no_fault, not_ok, same_world, with_row_of}
 use Rattle.scene_world.proofs.Homes.{live_here}
 use Rattle.scene_world.proofs.Rows.{added_there, each_added, once_added, each_removed, once_removed, removed_nowhere, each_rewritten, once_rewritten}
-use Rattle.scene_world.proofs.Lives.{lives, lives_added, lives_removed, lives_rewritten, one_of, first_of_three, second_of_three}
+use Rattle.scene_world.proofs.Lives.{lives_added, lives_removed, lives_rewritten, one_of, first_of_three, second_of_three}
 use Rattle.scene_world.proofs.NewCells.{timely_new, timely_there, insert_tests}
 
 -- ---- other tables under the same slots, links and resources
@@ -35,33 +35,19 @@ use Rattle.scene_world.proofs.NewCells.{timely_new, timely_there, insert_tests}
 abbrev pub with_tables : World → Tables → World
 with_tables w t = record w { tables = t }
 
--- what tables have to keep so that a valid world stays valid
-pub record KeepsWorld (w : World) (t : Tables) : Type 0 where
-  pub current : EachRow (λ m r. IsCurrent w.slots r.entity) t
-  pub once : (a b : Home) (r s : Row) → row_at t a ≡ Some r → row_at t b ≡ Some s → r.entity ≡ s.entity → a ≡ b
-  pub busy : EachRow (λ m r. is_free w.slots r.entity.index ≡ false) t
-  pub rows : EachRow (IsRowOf w.schema) t
-  pub timely : EachRow (λ m r. list_all (λ (c : ℕ × Cell). is_timely w.tick c.1) r.cells ≡ true) t
-  pub alive : (e : Entity) → lives w.tables e ≡ true → lives t e ≡ true
-
-pub tables_valid : (w : World) (t : Tables) → IsValid w → KeepsWorld w t → IsValid (with_tables w t)
-tables_valid w t v k = record {
-  limit = v.limit;
-  generations = v.generations;
-  current = k.current;
-  once = k.once;
-  free = (v.free.0, (v.free.1.0, k.busy));
-  accounted = λ i l. one_of _ (is_live_index w i) (is_free w.slots i) (is_retired w.slots i) (v.accounted i l)
-      (λ a. first_of_three (is_live_index (with_tables w t) i) (is_free w.slots i) (is_retired w.slots i) (k.alive (record { index = i; generation = slice_index w.slots.generations i }) a))
-      (λ b. second_of_three (is_live_index (with_tables w t) i) (is_free w.slots i) (is_retired w.slots i) b)
-      (λ c. or_right (is_live_index (with_tables w t) i || is_free w.slots i) (is_retired w.slots i) c);
-  rows = k.rows;
-  links = (λ p c g. (k.alive p (v.links.0 p c g).0, k.alive c (v.links.0 p c g).1), v.links.1);
-  names = v.names;
-  ticks = (k.timely, v.ticks.1);
+-- other tables keep a valid world valid, where they are sound and everybody lives on
+pub tables_valid : (w : World) (t : Tables) → IsValid w → RowsAreSound w.schema w.slots w.tick t → ((e : Entity) → lives w.tables e ≡ true → lives t e ≡ true) → IsValid (with_tables w t)
+tables_valid w t v sound alive = record {
   schema = v.schema;
-  generations_low = v.generations_low;
-  tick_low = v.tick_low;
+  slots = v.slots;
+  tick = v.tick;
+  rows = sound;
+  accounted = λ i l. one_of _ (is_live_index w.slots w.tables i) (is_free w.slots i) (is_retired w.slots i) (v.accounted i l)
+      (λ a. first_of_three (is_live_index w.slots t i) (is_free w.slots i) (is_retired w.slots i) (alive (record { index = i; generation = slice_index w.slots.generations i }) a))
+      (λ b. second_of_three (is_live_index w.slots t i) (is_free w.slots i) (is_retired w.slots i) b)
+      (λ c. or_right (is_live_index w.slots t i || is_free w.slots i) (is_retired w.slots i) c);
+  links = record { live = λ p c g. (alive p (v.links.live p c g).0, alive c (v.links.live p c g).1); forest = v.links.forest };
+  resources = v.resources;
 }
 
 -- a row that moves: everybody lives on
@@ -81,28 +67,32 @@ pub moved_keeps : (w : World) (h : Home) (row : Row) (cells : List (ℕ × Cell)
     → IsValid (with_tables w (moved w.tables h row cells))
 moved_keeps w h row cells v at fits timely =
     let new : Row = record { entity = row.entity; cells = cells } in
-    tables_valid w (moved w.tables h row cells) v (record {
-      current = each_added (λ m r. IsCurrent w.slots r.entity) (without_row w.tables h) new (each_removed (λ m r. IsCurrent w.slots r.entity) w.tables h row at v.current) (v.current h row at);
-      once = once_added (without_row w.tables h) new (once_removed w.tables h row at v.once) (removed_nowhere w.tables h row at v.once);
-      busy = each_added (λ m r. is_free w.slots r.entity.index ≡ false) (without_row w.tables h) new (each_removed (λ m r. is_free w.slots r.entity.index ≡ false) w.tables h row at v.free.1.1) (v.free.1.1 h row at);
-      rows = each_added (IsRowOf w.schema) (without_row w.tables h) new (each_removed (IsRowOf w.schema) w.tables h row at v.rows) fits;
-      timely = each_added (λ m r. list_all (λ (c : ℕ × Cell). is_timely w.tick c.1) r.cells ≡ true) (without_row w.tables h) new
-          (each_removed (λ m r. list_all (λ (c : ℕ × Cell). is_timely w.tick c.1) r.cells ≡ true) w.tables h row at v.ticks.0) timely;
-      alive = λ e l. lives_moved w.tables h row cells e at l;
+    let old = v.rows.each h row at in
+    let Sound = IsSoundRow w.schema w.slots w.tick in
+    tables_valid w (moved w.tables h row cells) v
+    (record {
+      each = each_added Sound (without_row w.tables h) new (each_removed Sound w.tables h row at v.rows.each) (record { current = old.current; busy = old.busy; fits = fits; timely = timely });
+      once = once_added (without_row w.tables h) new (once_removed w.tables h row at v.rows.once) (removed_nowhere w.tables h row at v.rows.once);
     })
+    (λ e l. lives_moved w.tables h row cells e at l)
 
 -- a row that is written in its place
 pub rewritten_keeps : (w : World) (h : Home) (row new : Row) → IsValid w → row_at w.tables h ≡ Some row → new.entity ≡ row.entity
     → IsRowOf w.schema h.mask new → list_all (λ (c : ℕ × Cell). is_timely w.tick c.1) new.cells ≡ true
     → IsValid (with_tables w (with_row_at w.tables h new))
-rewritten_keeps w h row new v at same fits timely = tables_valid w (with_row_at w.tables h new) v (record {
-  current = each_rewritten (λ m r. IsCurrent w.slots r.entity) w.tables h new v.current (subst (IsCurrent w.slots) (sym same) (v.current h row at));
-  once = once_rewritten w.tables h row new at same v.once;
-  busy = each_rewritten (λ m r. is_free w.slots r.entity.index ≡ false) w.tables h new v.free.1.1 (subst (λ (e : Entity). is_free w.slots e.index ≡ false) (sym same) (v.free.1.1 h row at));
-  rows = each_rewritten (IsRowOf w.schema) w.tables h new v.rows fits;
-  timely = each_rewritten (λ m r. list_all (λ (c : ℕ × Cell). is_timely w.tick c.1) r.cells ≡ true) w.tables h new v.ticks.0 timely;
-  alive = λ e l. lives_rewritten w.tables h row new e at same l;
-})
+rewritten_keeps w h row new v at same fits timely =
+    let old = v.rows.each h row at in
+    tables_valid w (with_row_at w.tables h new) v
+    (record {
+      each = each_rewritten (IsSoundRow w.schema w.slots w.tick) w.tables h new v.rows.each (record {
+        current = subst (IsCurrent w.slots) (sym same) old.current;
+        busy = subst (λ (e : Entity). is_free w.slots e.index ≡ false) (sym same) old.busy;
+        fits = fits;
+        timely = timely;
+      });
+      once = once_rewritten w.tables h row new at same v.rows.once;
+    })
+    (λ e l. lives_rewritten w.tables h row new e at same l)
 
 -- ---- insert
 
@@ -119,25 +109,25 @@ found_passes p (e ∷ es) kind c all there =
 pub insert_made : (w : World) (h : Home) (row : Row) (kind : ℕ) (value : Value) (o : Option Cell) → cell_of row.cells kind ≡ o → IsValid w → row_at w.tables h ≡ Some row
     → fits_kind w.schema value kind ≡ true → IsValid (with_tables w (inserted w.tick w.tables h row kind value o))
 insert_made w h row kind value None e v at fits =
-    let old = v.rows h row at in
+    let old = (v.rows.each h row at).fits in
     moved_keeps w h row (with_cell row.cells kind (new_cell w.tick value)) v at
     (record {
       kinds = record { ascending = ascending-with_cell row.cells kind (new_cell w.tick value) old.kinds.ascending; kinds = refl };
       shapes = all-with_cell (λ (c : ℕ × Cell). fits_kind w.schema c.1.value c.0) row.cells kind (new_cell w.tick value) old.shapes fits;
     })
-    (all-with_cell (λ (c : ℕ × Cell). is_timely w.tick c.1) row.cells kind (new_cell w.tick value) (v.ticks.0 h row at) (timely_new w.tick value))
+    (all-with_cell (λ (c : ℕ × Cell). is_timely w.tick c.1) row.cells kind (new_cell w.tick value) (v.rows.each h row at).timely (timely_new w.tick value))
 insert_made w h row kind value (Some c) e v at fits =
-    let old = v.rows h row at in
+    let old = (v.rows.each h row at).fits in
     let new : Cell = record { value = value; added = c.added; changed = w.tick } in
-    let was = found_passes (is_timely w.tick) row.cells kind c (v.ticks.0 h row at) e in
+    let was = found_passes (is_timely w.tick) row.cells kind c (v.rows.each h row at).timely e in
     rewritten_keeps w h row (row_with_cell row kind new) v at refl
     (record {
       kinds = record { ascending = ascending-with_cell row.cells kind new old.kinds.ascending; kinds = mask-with_cell_there row.cells kind c new old.kinds.ascending e ∙ old.kinds.kinds };
       shapes = all-with_cell (λ (c : ℕ × Cell). fits_kind w.schema c.1.value c.0) row.cells kind new old.shapes fits;
     })
-    (all-with_cell (λ (c : ℕ × Cell). is_timely w.tick c.1) row.cells kind new (v.ticks.0 h row at) (timely_there w.tick c value was))
+    (all-with_cell (λ (c : ℕ × Cell). is_timely w.tick c.1) row.cells kind new (v.rows.each h row at).timely (timely_there w.tick c value was))
 
-pub insert_keeps : InsertKeeps
+pub insert_keeps : (w v : World) (e : Entity) (kind : ℕ) (value : Value) → IsValid w → insert w e kind value ≡ Ok (tt, v) → IsValid v
 insert_keeps w v e kind value valid is =
     with_row_of (IsValid v) w e _ (tt, v) is (λ h r at same made.
     let parts = no_fault (insert_fault w.schema kind value) _ (tt, v) made in
@@ -150,15 +140,15 @@ insert_keeps w v e kind value valid is =
 -- the world that a remove leaves
 pub remove_made : (w : World) (h : Home) (row : Row) (kind : ℕ) → IsValid w → row_at w.tables h ≡ Some row → IsValid (with_tables w (moved w.tables h row (without_cell row.cells kind)))
 remove_made w h row kind v at =
-    let old = v.rows h row at in
+    let old = (v.rows.each h row at).fits in
     moved_keeps w h row (without_cell row.cells kind) v at
     (record {
       kinds = record { ascending = ascending-without_cell row.cells kind old.kinds.ascending; kinds = refl };
       shapes = all-without_cell (λ (c : ℕ × Cell). fits_kind w.schema c.1.value c.0) row.cells kind old.shapes;
     })
-    (all-without_cell (λ (c : ℕ × Cell). is_timely w.tick c.1) row.cells kind (v.ticks.0 h row at))
+    (all-without_cell (λ (c : ℕ × Cell). is_timely w.tick c.1) row.cells kind (v.rows.each h row at).timely)
 
-pub remove_keeps : RemoveKeeps
+pub remove_keeps : (w v : World) (e : Entity) (kind : ℕ) → IsValid w → remove w e kind ≡ Ok (tt, v) → IsValid v
 remove_keeps w v e kind valid is =
     with_row_of (IsValid v) w e _ (tt, v) is (λ h r at same made.
     let parts = no_fault (remove_fault w.schema r.cells kind) _ (tt, v) made in
@@ -182,19 +172,16 @@ all_later tick (c ∷ cs) h =
 -- a later tick keeps a world valid
 pub raised_valid : (w : World) → IsValid w → nat_eq w.tick highest_tick ≡ false → IsValid (record w { tick = w.tick + 1 })
 raised_valid w v low = record {
-  limit = v.limit;
-  generations = v.generations;
-  current = v.current;
-  once = v.once;
-  free = v.free;
-  accounted = v.accounted;
-  rows = v.rows;
-  links = v.links;
-  names = v.names;
-  ticks = (λ h r at. all_later w.tick r.cells (v.ticks.0 h r at), λ name cell at. later w.tick cell (v.ticks.1 name cell at));
   schema = v.schema;
-  generations_low = v.generations_low;
-  tick_low = still_low w.tick v.tick_low low;
+  slots = v.slots;
+  tick = still_low w.tick v.tick low;
+  rows = record {
+    each = λ h r at. let old = v.rows.each h r at in record { current = old.current; busy = old.busy; fits = old.fits; timely = all_later w.tick r.cells old.timely };
+    once = v.rows.once;
+  };
+  accounted = v.accounted;
+  links = v.links;
+  resources = λ name cell at. let old = v.resources name cell at in record { good = old.good; in_range = old.in_range; timely = later w.tick cell old.timely };
 }
   where
     still_low : (t : ℕ) → t ≤ highest_tick → nat_eq t highest_tick ≡ false → t + 1 ≤ highest_tick

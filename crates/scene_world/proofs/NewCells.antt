@@ -12,7 +12,8 @@ use Rattle.scene_kinds.specs.Cells.{IsAscending, AreKindsBelow}
 use Rattle.scene_kinds.specs.Schema.{Kinds, fits_kind}
 use Rattle.scene_kinds.proofs.CellLaws.{ascending-with_cell, all-with_cell}
 use Rattle.scene_world.specs.World.{is_unknown}
-use Rattle.scene_world.specs.Commands.{any_twice, spawn_fault, new_cell, new_cells, insert_fault}
+use Rattle.scene_kinds.specs.Cells.{new_cell}
+use Rattle.scene_world.specs.Commands.{any_twice, spawn_fault, new_cells, insert_fault}
 use Rattle.scene_world.specs.Valid.{is_timely}
 
 pub new_ascending : (tick : ℕ) (cells : List (ℕ × Value)) → IsAscending (new_cells tick cells)

@@ -14,7 +14,8 @@ use Rattle.scene_table.specs.Rows.{swap_out}
 use Rattle.scene_world.specs.declared.home.Home.{Home}
 use Rattle.scene_world.specs.World.{Tables, rows_at, with_rows, row_at, with_row, without_row, with_row_at}
 use Rattle.scene_world.specs.Valid.{EachRow, StandsOnce}
-use Rattle.scene_world.proofs.RowLists.{pushed, pushed_stays, pushed_last, written, written_stays, written_there, swapped, swapped_stays}
+use Rattle.scene_kinds.proofs.Elements.{pushed, pushed_stays, pushed_last, written, written_stays, written_there}
+use Rattle.scene_world.proofs.RowLists.{swapped, swapped_stays}
 
 -- what stands at a home after the rows of a kind set were written
 pub row_at-with_rows : (t : Tables) (m : ℕ) (rows : List Row) (h : Home) → row_at (with_rows t m rows) h ≡ cond (eq_by_cmp nat_cmp h.mask m) (slice_get rows h.place) (row_at t h)

@@ -68,7 +68,7 @@ home_facts w e h is =
 
 -- what a scan over the tables of a sound world says of an entity
 pub scan_sound_home : (schema : Kinds) (slots : SlotState) (tick : ℕ) (ts : List TableState) (children : Forest) (resources : NamedCells) → IsSound schema slots tick ts children resources → (e : Entity) → scan e ts ≡ home_of (seen schema slots tick ts children resources) e
-scan_sound_home schema slots tick ts children resources s e = scan_home e ts s.apart s.valid.once
+scan_sound_home schema slots tick ts children resources s e = scan_home e ts s.apart s.valid.rows.once
 
 pub some_home : (w : World) (e : Entity) (o : Option Home) → o ≡ home_of w e → IfSome o (IsHomeOf w e)
 some_home w e None is = tt

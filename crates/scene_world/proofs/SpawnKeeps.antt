@@ -9,35 +9,22 @@ use Rattle.scene_kinds.specs.declared.cells.Row.{Row}
 use Rattle.scene_kinds.specs.declared.value.Value.{Value}
 use Rattle.scene_kinds.specs.Answers.{Outcome}
 use Rattle.scene_kinds.specs.Cells.{mask_of}
-use Rattle.scene_alloc.specs.Slots.{SlotState, IsSlots, is_free, take_of}
-use Rattle.scene_world.specs.World.{World, with_row}
-use Rattle.scene_world.specs.Commands.{spawned, spawn_fault, new_cells}
-use Rattle.scene_world.specs.Valid.{IsValid, IsRowOf, IsCurrent, is_live_index, is_retired, is_timely}
-use Rattle.scene_world.specs.Laws.{SpawnKeeps}
+use Rattle.scene_alloc.specs.Slots.{SlotState, is_free, take_of}
+use Rattle.scene_world.specs.World.{World, lives, with_row}
+use Rattle.scene_world.specs.Commands.{spawn, spawned, spawn_fault, new_cells}
+use Rattle.scene_world.specs.Valid.{IsValid, IsRowOf, IsSoundRow, is_live_index, is_retired, is_timely}
 use Rattle.scene_world.proofs.Outcomes.{no_fault, not_ok, same_world}
 use Rattle.scene_world.proofs.Homes.{live_here}
 use Rattle.scene_world.proofs.Rows.{StandsNowhere, added_there, each_added, once_added}
-use Rattle.scene_world.proofs.Lives.{lives, lives_added, read, there, one_of, first_of_three, second_of_three}
+use Rattle.scene_world.proofs.Lives.{lives_added, read, there, one_of, first_of_three, second_of_three}
 use Rattle.scene_world.proofs.NewCells.{new_ascending, new_shapes, new_timely, spawn_tests}
 use Rattle.scene_world.proofs.TakenSlots.{IsTaken, taken}
-
--- a valid world has sound slots
-pub slots_of : (w : World) → IsValid w → IsSlots w.slots
-slots_of w v = record {
-  some_limit = v.limit.0;
-  low_limit = v.limit.1.0;
-  few = v.limit.1.1;
-  begun = v.generations;
-  low = v.generations_low;
-  in_range = v.free.0;
-  distinct = v.free.1.0;
-}
 
 -- nobody stands with the identity that a take gives
 pub taken_nowhere : (w : World) (s : SlotState) (e : Entity) → IsValid w → IsTaken w.slots s e → StandsNowhere e w.tables
 taken_nowhere w s e v t = λ h r g same. ⊎_elim
-    (λ f. let k : false ≡ true = sym (v.free.1.1 h r g) ∙ ap (λ (x : Entity). is_free w.slots x.index) same ∙ f in absurd (cc))
-    (λ n. let k : Some r.entity.generation ≡ None = sym (v.current h r g) ∙ ap (λ (x : Entity). slice_get w.slots.generations x.index) same ∙ n in absurd (cc))
+    (λ f. let k : false ≡ true = sym (v.rows.each h r g).busy ∙ ap (λ (x : Entity). is_free w.slots x.index) same ∙ f in absurd (cc))
+    (λ n. let k : Some r.entity.generation ≡ None = sym (v.rows.each h r g).current ∙ ap (λ (x : Entity). slice_get w.slots.generations x.index) same ∙ n in absurd (cc))
     t.unused
 
 -- the world after a spawn
@@ -46,16 +33,16 @@ grown w s row = record w { slots = s; tables = with_row w.tables row }
 
 -- an index other than the new one is accounted for as before
 old_accounted : (w : World) (s : SlotState) (row : Row) → IsValid w → IsTaken w.slots s row.entity → (i : ℕ) → i < length w.slots.generations → (i ≡ row.entity.index → ⊥)
-    → (is_live_index (grown w s row) i || is_free s i || is_retired s i) ≡ true
+    → (is_live_index s (with_row w.tables row) i || is_free s i || is_retired s i) ≡ true
 old_accounted w s row v t i l ne =
     let kept : slice_index s.generations i ≡ slice_index w.slots.generations i = read s.generations i _ (t.kept i _ (there w.slots.generations i l)) in
-    one_of _ (is_live_index w i) (is_free w.slots i) (is_retired w.slots i) (v.accounted i l)
+    one_of _ (is_live_index w.slots w.tables i) (is_free w.slots i) (is_retired w.slots i) (v.accounted i l)
     (λ a. first_of_three _ _ _ (ap (λ (g : ℕ). lives (with_row w.tables row) (record { index = i; generation = g })) kept ∙ lives_added w.tables row _ a))
-    (λ b. second_of_three (is_live_index (grown w s row) i) _ _ (t.others i ne b))
-    (λ c. or_right (is_live_index (grown w s row) i || is_free s i) _ (ap (λ (g : ℕ). nat_eq g 4294967295) kept ∙ c))
+    (λ b. second_of_three (is_live_index s (with_row w.tables row) i) _ _ (t.others i ne b))
+    (λ c. or_right (is_live_index s (with_row w.tables row) i || is_free s i) _ (ap (λ (g : ℕ). nat_eq g 4294967295) kept ∙ c))
 
 new_accounted : (w : World) (s : SlotState) (row : Row) → IsTaken w.slots s row.entity → (i : ℕ) → i ≡ row.entity.index
-    → (is_live_index (grown w s row) i || is_free s i || is_retired s i) ≡ true
+    → (is_live_index s (with_row w.tables row) i || is_free s i || is_retired s i) ≡ true
 new_accounted w s row t i e =
     let same : record { index = i; generation = slice_index s.generations i } ≡ row.entity =
     λ j. record { index = e j; generation = (ap (slice_index s.generations) e ∙ read s.generations row.entity.index row.entity.generation t.current) j } in
@@ -65,22 +52,26 @@ new_accounted w s row t i e =
 pub grown_valid : (w : World) (s : SlotState) (row : Row) → IsValid w → IsTaken w.slots s row.entity → IsRowOf w.schema (mask_of row.cells) row
     → list_all (λ (c : ℕ × Cell). is_timely w.tick c.1) row.cells ≡ true → IsValid (grown w s row)
 grown_valid w s row v t fits timely = record {
-  limit = (t.sound.some_limit, (t.sound.low_limit, t.sound.few));
-  generations = t.sound.begun;
-  current = each_added (λ m r. IsCurrent s r.entity) w.tables row (λ h r g. t.kept r.entity.index r.entity.generation (v.current h r g)) t.current;
-  once = once_added w.tables row v.once (taken_nowhere w s row.entity v t);
-  free = (t.sound.in_range, (t.sound.distinct, each_added (λ m r. is_free s r.entity.index ≡ false) w.tables row (λ h r g. t.fewer r.entity.index (v.free.1.1 h r g)) t.busy));
-  accounted = λ i l. elim (nat_eq i row.entity.index) as (λ b. nat_eq i row.entity.index ≡ b → (is_live_index (grown w s row) i || is_free s i || is_retired s i) ≡ true) [
+  schema = v.schema;
+  slots = t.sound;
+  tick = v.tick;
+  rows = record {
+    each = each_added (IsSoundRow w.schema s w.tick) w.tables row
+        (λ h r g. let old = v.rows.each h r g in record {
+          current = t.kept r.entity.index r.entity.generation old.current;
+          busy = t.fewer r.entity.index old.busy;
+          fits = old.fits;
+          timely = old.timely;
+        })
+        (record { current = t.current; busy = t.busy; fits = fits; timely = timely });
+    once = once_added w.tables row v.rows.once (taken_nowhere w s row.entity v t);
+  };
+  accounted = λ i l. elim (nat_eq i row.entity.index) as (λ b. nat_eq i row.entity.index ≡ b → (is_live_index s (with_row w.tables row) i || is_free s i || is_retired s i) ≡ true) [
     | true ↦ λ e. new_accounted w s row t i (eqb-true i row.entity.index e)
     | false ↦ λ e. old_accounted w s row v t i (t.older i l (eqb-false i row.entity.index e)) (eqb-false i row.entity.index e)
   ] refl;
-  rows = each_added (IsRowOf w.schema) w.tables row v.rows fits;
-  links = (λ p c k. (lives_added w.tables row p (v.links.0 p c k).0, lives_added w.tables row c (v.links.0 p c k).1), v.links.1);
-  names = v.names;
-  ticks = (each_added (λ m r. list_all (λ (c : ℕ × Cell). is_timely w.tick c.1) r.cells ≡ true) w.tables row v.ticks.0 timely, v.ticks.1);
-  schema = v.schema;
-  generations_low = t.sound.low;
-  tick_low = v.tick_low;
+  links = record { live = λ p c k. (lives_added w.tables row p (v.links.live p c k).0, lives_added w.tables row c (v.links.live p c k).1); forest = v.links.forest };
+  resources = v.resources;
 }
 
 -- what an accepted spawn took
@@ -97,11 +88,11 @@ pub spawned_valid : (w : World) (given : List (ℕ × Value)) (cells : List (ℕ
 spawned_valid w given cells s e v fits made took =
     let tests = spawn_tests w.schema given fits in
     subst (λ (cs : List (ℕ × Cell)). IsValid (grown w s (record { entity = e; cells = cs }))) (sym made)
-    (grown_valid w s (record { entity = e; cells = new_cells w.tick given }) v (taken w.slots s e (slots_of w v) took)
+    (grown_valid w s (record { entity = e; cells = new_cells w.tick given }) v (taken w.slots s e v.slots took)
     (record { kinds = record { ascending = new_ascending w.tick given; kinds = refl }; shapes = new_shapes w.schema w.tick given tests.2 })
     (new_timely w.tick given))
 
-pub spawn_keeps : SpawnKeeps
+pub spawn_keeps : (w v : World) (cells : List (ℕ × Value)) (e : Entity) → IsValid w → spawn w cells ≡ Ok (e, v) → IsValid v
 spawn_keeps w v cells e valid is =
     let parts = no_fault _ _ (e, v) is in
     spawn_parts (IsValid v) w v (new_cells w.tick cells) e (take_of w.slots) parts.1

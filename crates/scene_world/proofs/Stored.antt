@@ -14,7 +14,7 @@ use Rattle.scene_kinds.proofs.Maps.{same_map}
 use Rattle.scene_table.specs.Table.{TableState}
 use Rattle.scene_world.specs.World.{Tables, rows_at, with_rows}
 use Rattle.scene_world.specs.Stored.{tables_of, IsFirstOf, StandsAt, HasRoomAt, NoneHas, AreApart}
-use Rattle.scene_world.proofs.Positions.{found, missed}
+use Rattle.scene_kinds.proofs.Positions.{found, missed}
 
 -- ---- which rows are seen
 

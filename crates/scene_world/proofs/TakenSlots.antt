@@ -10,7 +10,7 @@ use Rattle.scene_alloc.specs.Ends.{last, front}
 use Rattle.scene_alloc.specs.Slots.{SlotState, IsSlots, is_free, take_of}
 use Rattle.scene_alloc.proofs.Ends.{push-last}
 use Rattle.scene_alloc.proofs.Moves.{take_cases, IsSlots-take, CanUntake-take}
-use Rattle.scene_world.proofs.RowLists.{pushed_stays}
+use Rattle.scene_kinds.proofs.Elements.{pushed_stays}
 
 pub record IsTaken (s t : SlotState) (e : Entity) : Type 0 where
   pub sound : IsSlots t

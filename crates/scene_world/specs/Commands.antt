@@ -8,7 +8,7 @@ use Rattle.scene_kinds.specs.declared.value.Value.{Value}
 use Rattle.scene_kinds.specs.declared.fault.Fault.{Fault}
 use Rattle.scene_kinds.specs.declared.fault.Fault.TheVariants.{NoSuchKind, DuplicateKind, WrongShape, NoSuchEntity, HasChildren, NotPresent, TickFull, BadName}
 use Rattle.scene_kinds.specs.Answers.{Outcome, refuse}
-use Rattle.scene_kinds.specs.Cells.{cell_of, with_cell, without_cell}
+use Rattle.scene_kinds.specs.Cells.{new_cell, put_over, cell_of, with_cell, without_cell}
 use Rattle.scene_kinds.specs.Map as map
 use Rattle.scene_kinds.specs.Schema.{Kinds, fits_kind, is_good_name}
 use Rattle.scene_alloc.specs.Slots.{SlotState, take_of, release_of}
@@ -63,10 +63,6 @@ spawn_fault schema cells =
     else if list_any (λ c. not (fits_kind schema c.1 c.0)) cells then Some WrongShape
     else None
 
--- a cell that is added now
-abbrev pub new_cell : ℕ → Value → Cell
-new_cell tick value = record { value = value; added = tick; changed = tick }
-
 -- the cells of a new row, ascending by kind
 abbrev pub new_cells : ℕ → List (ℕ × Value) → List (ℕ × Cell)
 new_cells tick [] = []
@@ -101,7 +97,7 @@ moved tables h row cells = with_row (without_row tables h) (record { entity = ro
 -- Insert: a kind that is there is written in its place, and keeps its added tick; another one moves the row.
 abbrev pub inserted : ℕ → Tables → Home → Row → ℕ → Value → Option Cell → Tables
 inserted tick tables h row kind value None = moved tables h row (with_cell row.cells kind (new_cell tick value))
-inserted tick tables h row kind value (Some c) = with_row_at tables h (row_with_cell row kind (record { value = value; added = c.added; changed = tick }))
+inserted tick tables h row kind value (Some c) = with_row_at tables h (row_with_cell row kind (put_over (Some c) value tick))
 
 abbrev pub insert_fault : Kinds → ℕ → Value → Option Fault
 insert_fault schema kind value =

@@ -2,8 +2,7 @@
 use Rattle.std.specs.Prelude.{ℕ, List, [], ◌∷◌}
 use Rattle.scene_kinds.specs.declared.cell.Cell.{Cell}
 use Rattle.scene_kinds.specs.declared.value.Value.{Value}
-use Rattle.scene_kinds.specs.Cells.{with_cell}
-use Rattle.scene_world.specs.Commands.{new_cell}
+use Rattle.scene_kinds.specs.Cells.{new_cell, with_cell}
 
 abbrev pub cells_onto : ℕ → List (ℕ × Value) → List (ℕ × Cell) → List (ℕ × Cell)
 cells_onto tick [] cells = cells

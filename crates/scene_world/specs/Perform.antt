@@ -1,8 +1,10 @@
 -- The nine commands as one type, and what each of them does to a world.
-use Rattle.std.specs.Prelude.{ℕ, List, Option, Some, None, Ok, Err}
+use Rattle.std.specs.Prelude.{ℕ, List, Bool, true, Option, Some, None, Ok, Err}
+use Rattle.std.specs.List.{list_all}
 use Rattle.scene_kinds.specs.declared.entity.Entity.{Entity}
 use Rattle.scene_kinds.specs.declared.value.Value.{Value}
 use Rattle.scene_kinds.specs.Answers.{Outcome}
+use Rattle.scene_kinds.specs.Ranges.{is_in_range}
 use Rattle.scene_world.specs.World.{World}
 use Rattle.scene_world.specs.Commands.{spawn, despawn, despawn_recursive, insert, remove, set_parent, remove_parent, put_resource, remove_resource}
 
@@ -19,6 +21,13 @@ pub data Command : Type 0 where
   -- the name, by its bytes
   PutResource : List ℕ → Value → Command
   RemoveResource : List ℕ → Command
+
+-- the values that a command gives are ones that their types can hold, as every value of a program is (`Value::shape` says so)
+abbrev pub are_in_range : Command → Bool
+are_in_range (Spawn cells) = list_all (λ c. is_in_range c.1) cells
+are_in_range (Insert e kind value) = is_in_range value
+are_in_range (PutResource name value) = is_in_range value
+are_in_range c = true
 
 -- an outcome with another answer
 abbrev pub answering : {A B W : Type 0} → (A → B) → Outcome A W → Outcome B W

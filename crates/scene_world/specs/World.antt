@@ -70,8 +70,13 @@ home_in e (t ∷ ts) = option_or (option_map (λ p. record { mask = t.0; place =
 abbrev pub home_of : World → Entity → Option Home
 home_of w e = home_in e w.tables.entries
 
+-- whether an entity has a row
+abbrev pub lives : Tables → Entity → Bool
+lives tables e = is_some (home_in e tables.entries)
+
+-- whether an entity is alive
 abbrev pub is_live : World → Entity → Bool
-is_live w e = is_some (home_of w e)
+is_live w e = lives w.tables e
 
 -- the kind set, and the place in its list, of a live entity
 abbrev pub mask_at : World → Entity → Option ℕ

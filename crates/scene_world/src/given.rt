@@ -85,14 +85,7 @@ pub(crate) fn new_cells(
     let mut given = given;
     let mut cells = Cells::new(alloc);
     while let Some((kind, value)) = given.pop() {
-        cells.put(
-            kind,
-            Cell {
-                value,
-                added: tick,
-                changed: tick,
-            },
-        )?;
+        cells.put(kind, Cell::new(value, tick))?;
     }
     Ok(cells)
 }

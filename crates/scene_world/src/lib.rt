@@ -5,8 +5,7 @@
 //! redo do to whole saved worlds. `worked_examples_hold` has those definitions compute short scripts.
 //!
 //! `World` keeps a table for each kind set; all growth comes before the first change, so that a refusal leaves
-//! the world as it was. `laws` says of all nine commands that an accepted one keeps a valid world valid and a refused
-//! one changes nothing.
+//! the world as it was. `laws` says of all nine commands that an accepted one keeps a valid world valid.
 #![tactic(auto)]
 
 mod clones;
@@ -25,12 +24,5 @@ mod world;
 
 pub use examples::worked_examples_hold;
 pub use home::Home;
-pub use laws::{
-    commands_keep_worlds_valid, despawning_keeps_worlds_valid, inserting_keeps_worlds_valid,
-    putting_resources_keeps_worlds_valid, raising_keeps_worlds_valid,
-    recursive_despawn_is_never_refused_midway, recursive_despawn_keeps_worlds_valid,
-    removing_keeps_worlds_valid, removing_parents_keeps_worlds_valid,
-    removing_resources_keeps_worlds_valid, setting_parents_keeps_worlds_valid,
-    spawning_keeps_worlds_valid,
-};
+pub use laws::{commands_keep_worlds_valid, recursive_despawn_is_never_refused_midway};
 pub use world::World;

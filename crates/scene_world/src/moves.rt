@@ -1,5 +1,5 @@
 //! Rows that move to the table of another kind set. All growth comes before the first change that is seen.
-ghost use Rattle.std.specs.Prelude.{◌≡◌, ◌<◌, ℕ, length, Some, IsSome, OnOk, OnErr};
+ghost use Rattle.std.specs.Prelude.{◌≡◌, ◌<◌, ℕ, length, Some, OnOk, OnErr};
 ghost use Rattle.scene_kinds.specs.Cells.{HasKinds, AreKindsBelow, cell_of, with_cell, without_cell, mask_of};
 ghost use Rattle.scene_kinds.specs.declared.cells.Row.{Row};
 ghost use Rattle.scene_world.specs.World.{rows_at, row_at};
@@ -10,7 +10,7 @@ use crate::home::Home;
 use crate::tables::{
     added_there, cells_there, put_row, room_for, table_there, take_row, write_cell,
 };
-use scene_kinds::{Cell, Row, Value};
+use scene_kinds::{Cell, Row, Value, set_with, set_without};
 use scene_table::Table;
 use std::alloc::{AllocError, Global};
 
@@ -74,7 +74,7 @@ pub(crate) fn insert_at(
     value: Value,
 ) -> Result<(), AllocError>
     requires within { home.place < length (rows_at (tables_of tables.old.items) home.mask) }
-    requires kinds { (row : Row) → row_at (tables_of tables.old.items) home ≡ Some row → HasKinds home.mask row × AreKindsBelow 64 row.cells }
+    requires kinds { (row : Row) → row_at (tables_of tables.old.items) home ≡ Some row → HasKinds home.mask row }
     requires low { kind < 64 }
     ensures ok { OnOk result ((row : Row) → row_at (tables_of tables.old.items) home ≡ Some row → tables_of tables.new.items ≡ inserted tick (tables_of tables.old.items) home row kind value (cell_of row.cells kind)) }
     ensures err { OnErr result (tables_of tables.new.items ≡ tables_of tables.old.items) }
@@ -98,13 +98,8 @@ pub(crate) fn insert_at(
             Ok(())
         }
         None => {
-            let to = home.mask + (1u64 << kind);
-            let cell = Cell {
-                value,
-                added: tick,
-                changed: tick,
-            };
-            move_with(alloc, tables, home, to, kind, cell)
+            let to = set_with(home.mask, kind);
+            move_with(alloc, tables, home, to, kind, Cell::new(value, tick))
         }
     }
 }
@@ -117,12 +112,12 @@ pub(crate) fn remove_at(
     kind: u8,
 ) -> Result<(), AllocError>
     requires within { home.place < length (rows_at (tables_of tables.old.items) home.mask) }
-    requires kinds { (row : Row) → row_at (tables_of tables.old.items) home ≡ Some row → HasKinds home.mask row × IsSome (cell_of row.cells kind) }
+    requires kinds { (row : Row) → row_at (tables_of tables.old.items) home ≡ Some row → HasKinds home.mask row × AreKindsBelow 64 row.cells }
     requires low { kind < 64 }
     ensures ok { OnOk result ((row : Row) → row_at (tables_of tables.old.items) home ≡ Some row → tables_of tables.new.items ≡ moved (tables_of tables.old.items) home row (without_cell row.cells kind)) }
     ensures err { OnErr result (tables_of tables.new.items ≡ tables_of tables.old.items) }
     ensures apart { AreApart tables.old.items → AreApart tables.new.items }
 {
-    let to = home.mask - (1u64 << kind);
+    let to = set_without(home.mask, kind);
     move_without(alloc, tables, home, to, kind)
 }

@@ -55,7 +55,7 @@ fn value_of(alloc: Global, given: Given<'_>) -> Result<Value, AllocError> {
     Ok(match given {
         Given::Tag => Value::Tag,
         Given::Number(number) => Value::Int(number),
-        Given::Text(text) => Value::Text(Text::from_string(String::from_str(alloc, text)?)),
+        Given::Text(text) => Value::Text(Text::from(String::from_str(alloc, text)?)),
     })
 }
 

@@ -36,7 +36,7 @@ use std::marker::Model;
 /// Contracts see it as one value: the schema, the slots, the tick, the rows of each kind set that has rows, the
 /// children of each entity that has some, and the resources. Room that was reserved isn't seen. Every `World`
 /// is valid (docs/MODEL.md, "A valid world").
-#[derive(Drop)]
+#[derive(Drop, Debug)]
 pub struct World {
     alloc: Global,
     schema: Schema,
@@ -78,7 +78,7 @@ impl World {
         requires most { limit ≤ 1048576 }
         ensures { result ≡ new_world schema limit }
     {
-        let _kinds = schema.len();
+        prove!(schema.len() <= 64);
         World {
             alloc,
             schema,

@@ -2,12 +2,20 @@ use Rattle.std.proofs.Common.{◌≡◌, ◌∙◌, ap, sym, subst, false, List,
 use Rattle.std.specs.Prelude.{is_some, ◌==◌}
 use Rattle.scene_kinds.specs.Map as map
 use Rattle.scene_kinds.specs.declared.entity.Entity.{Entity}
+use Rattle.scene_alloc.specs.Slots.{CanRelease}
 use Rattle.scene_world.specs.World.{World}
 use Rattle.scene_world.specs.Commands.{gone}
 use Rattle.scene_world.specs.Stored.{seen, IsHomeOf}
 use Rattle.scene_world.specs.Valid.{IsValid}
-use Rattle.scene_world.proofs.DespawnKeeps.{gone_valid, childless, unlinked_cut}
+use Rattle.scene_world.proofs.DespawnKeeps.{can_release, gone_valid, childless, unlinked_cut}
 use Rattle.scene_world.proofs.world.World.despawn.Goals as goal
+
+pub release-retired-requires : goal.release-retired-requires
+release-retired-requires c =
+    let w = c.self.inside in
+    let old : World = seen w.schema w.slots w.tick w.tables.items w.links w.resources in
+    let home : IsHomeOf old c.args.entity c.in-Some.home = subst (λ (v : World). IsHomeOf v c.args.entity c.in-Some.home) (sym c.self.view_is) c.in-Some.ensures.row in
+    subst (CanRelease w.slots) home.same (can_release old c.in-Some.home home.row c.self.invariant.valid home.there)
 
 pub invariant_of-self : goal.invariant_of-self
 invariant_of-self c =

@@ -3,16 +3,12 @@ use Rattle.scene_kinds.specs.Cells.{cell_of}
 use Rattle.scene_world.specs.World.{World, Tables}
 use Rattle.scene_world.specs.Stored.{seen, IsHomeOf}
 use Rattle.scene_world.specs.Valid.{IsValid}
-use Rattle.scene_world.proofs.KindBits.{row_kinds_low}
 use Rattle.scene_world.proofs.MoveKeeps.{with_tables, insert_made}
 use Rattle.scene_world.proofs.NewCells.{insert_tests}
 use Rattle.scene_world.proofs.world.World.insert.Goals as goal
 
 pub insert_at-requires-clause-kinds : goal.insert_at-requires-clause-kinds
-insert_at-requires-clause-kinds c = λ row at.
-    let w = c.self.inside in
-    let fits = c.self.invariant.valid.rows c.in-Some.home row at in
-    (fits.kinds, row_kinds_low w.schema c.in-Some.home.mask row fits c.self.invariant.valid.schema)
+insert_at-requires-clause-kinds c = λ row at. (c.self.invariant.valid.rows.each c.in-Some.home row at).fits.kinds
 
 pub invariant_of-self-2 : goal.invariant_of-self-2
 invariant_of-self-2 c =

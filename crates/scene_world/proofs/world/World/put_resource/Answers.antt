@@ -13,5 +13,5 @@ invariant_of-self-2 c =
     let old : World = seen w.schema w.slots w.tick w.tables.items w.links w.resources in
     record {
       apart = c.self.invariant.apart;
-      valid = subst (λ (r : NamedCells). IsValid (with_resources old r)) (sym c.in_ok-_old.ensures.done) (put_valid old c.args.name.now c.args.value c.self.invariant.valid (sym c.good_name.ensures ∙ c.if-not-good_name.false));
+      valid = subst (λ (r : NamedCells). IsValid (with_resources old r)) (sym c.in_ok-_old.ensures.done) (put_valid old c.args.name.now c.args.value c.self.invariant.valid (sym c.good_name.ensures ∙ c.if-not-good_name.false) c.in_ok-_old.ensures.in_range);
     }

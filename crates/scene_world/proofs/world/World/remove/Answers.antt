@@ -1,21 +1,15 @@
-use Rattle.std.proofs.Common.{◌∙◌, ap, sym, subst, List}
-use Rattle.scene_kinds.specs.Cells.{shown}
-use Rattle.scene_table.specs.Table.{TableState, cell_at}
-use Rattle.scene_world.specs.World.{World, Tables, rows_at}
-use Rattle.scene_world.specs.Stored.{seen, tables_of, IsHomeOf}
+use Rattle.std.proofs.Common.{sym, subst}
+use Rattle.scene_world.specs.World.{World, Tables}
+use Rattle.scene_world.specs.Stored.{seen, IsHomeOf}
 use Rattle.scene_world.specs.Valid.{IsValid}
-use Rattle.scene_world.proofs.KindBits.{cell_at_row, some_mapped}
+use Rattle.scene_world.proofs.RowKinds.{row_kinds_low}
 use Rattle.scene_world.proofs.MoveKeeps.{with_tables, remove_made}
 use Rattle.scene_world.proofs.world.World.remove.Goals as goal
 
 pub remove_at-requires-clause-kinds : goal.remove_at-requires-clause-kinds
 remove_at-requires-clause-kinds c = λ row at.
-    let w = c.self.inside in
-    let fits = c.self.invariant.valid.rows c.in-Some.home row at in (
-      fits.kinds,
-      some_mapped shown c.cell_there.result _ c.if-is_none.ensures
-          (c.cell_there.ensures ∙ ap (λ (l : List TableState). cell_at (rows_at (tables_of l) c.in-Some.home.mask) c.in-Some.home.place c.args.kind) c.as_slice.ensures.value ∙ cell_at_row (tables_of w.tables.items) c.in-Some.home row c.args.kind at),
-    )
+    let fits = (c.self.invariant.valid.rows.each c.in-Some.home row at).fits in
+    (fits.kinds, row_kinds_low c.self.inside.schema c.in-Some.home.mask row fits c.self.invariant.valid.schema.few)
 
 pub invariant_of-self-2 : goal.invariant_of-self-2
 invariant_of-self-2 c =

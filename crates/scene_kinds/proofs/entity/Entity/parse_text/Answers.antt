@@ -1,6 +1,6 @@
 use Rattle.std.proofs.Common.{Some, None}
 use Rattle.scene_kinds.proofs.Numbers.{splits_at_v}
-use Rattle.scene_kinds.proofs.entity.parse_text.Goals as goal
+use Rattle.scene_kinds.proofs.entity.Entity.parse_text.Goals as goal
 
 pub returns-in_err-index-clause-only : goal.returns-in_err-index-clause-only
 returns-in_err-index-clause-only c = λ i g hi hg e. absurd (splits_at_v c.args.text.now i g None c.in_err-index.ensures.cases hi e)

@@ -1,5 +1,5 @@
 -- What a search from the front says of the list that it went over: of the place where it ends, or of the whole list where it finds none.
-use Rattle.std.proofs.Common.{◌≡◌, ℕ, suc, ◌+◌, Bool, true, false, List, [], ◌∷◌, refl, subst, arith, Some, None}
+use Rattle.std.proofs.Common.{◌≡◌, ◌∙◌, ℕ, suc, ◌+◌, Bool, true, false, cond, List, [], ◌∷◌, ◌++◌, length, refl, ap, subst, arith, Some, None, is_some}
 use Rattle.std.specs.List.{position_from}
 
 -- what holds of the first place where an element that passes stands there, and of the next place where one that doesn't comes before
@@ -36,3 +36,21 @@ module _ {X : Type 0} (test : X → Bool) (Of : List X → Type 0) (none : Of []
   -- holds of the list in which the search finds none
   pub missed : (xs : List X) → position_from test 0 xs ≡ None → Of xs
   missed xs h = missed_from xs 0 h
+
+-- a search that ended goes as far in a longer list
+pub found_in_more : {X : Type 0} (test : X → Bool) (xs ys : List X) (n i : ℕ) → position_from test n xs ≡ Some i → position_from test n (xs ++ ys) ≡ Some i
+found_in_more test [] ys n i h = absurd (let g : None ≡ Some i = h in cc)
+found_in_more test (x ∷ xs) ys n i h =
+    elim (test x) as (λ b. cond b (Some n) (position_from test (n + 1) xs) ≡ Some i → cond b (Some n) (position_from test (n + 1) (xs ++ ys)) ≡ Some i) [
+      | true ↦ λ g. g
+      | false ↦ λ g. found_in_more test xs ys (n + 1) i g
+    ] h
+
+-- one that found none ends at an element that passes and comes last
+pub found_last : {X : Type 0} (test : X → Bool) (xs : List X) (y : X) (n : ℕ) → is_some (position_from test n xs) ≡ false → test y ≡ true → position_from test n (xs ++ y ∷ []) ≡ Some (n + length xs)
+found_last test [] y n h t = ap (λ b. cond b (Some n) None) t ∙ ap (λ (k : ℕ). Some k) (omega arith)
+found_last test (x ∷ xs) y n h t =
+    elim (test x) as (λ b. is_some (cond b (Some n) (position_from test (n + 1) xs)) ≡ false → cond b (Some n) (position_from test (n + 1) (xs ++ y ∷ [])) ≡ Some (n + suc (length xs))) [
+      | true ↦ λ g. absurd (let k : true ≡ false = g in cc)
+      | false ↦ λ g. found_last test xs y (n + 1) g t ∙ ap (λ (k : ℕ). Some k) (omega arith)
+    ] h

@@ -1,0 +1,48 @@
+-- What is known of a row at a home, and of its kinds.
+use Rattle.std.proofs.Common.{◌≡◌, ℕ, zero, suc, ◌<◌, ◌≤◌, true, false, List, [], ◌∷◌, length, nat_lt, refl, ap, arith, Option, Some, None}
+use Rattle.std.specs.Prelude.{slice_get, option_map}
+use Rattle.std.specs.Option.{option_flatten}
+use Rattle.std.specs.List.{list_all}
+use Rattle.std.proofs.lemmas.Bool.{and_parts, and_from, lt-ltb}
+use Rattle.std.proofs.lemmas.Option.{slice_get_within}
+use Rattle.scene_kinds.specs.declared.cell.Cell.{Cell}
+use Rattle.scene_kinds.specs.declared.cells.Row.{Row}
+use Rattle.scene_kinds.specs.declared.shape.Shape.{Shape}
+use Rattle.scene_kinds.specs.declared.value.Value.{Value}
+use Rattle.scene_kinds.specs.Cells.{AreKindsBelow, cell_of}
+use Rattle.scene_kinds.specs.Schema.{Kinds, fits_kind, has_shape}
+use Rattle.scene_table.specs.Table.{cell_at}
+use Rattle.scene_world.specs.declared.home.Home.{Home}
+use Rattle.scene_world.specs.World.{Tables, rows_at, row_at}
+use Rattle.scene_world.specs.Valid.{IsRowOf}
+
+-- there is a row at a place below the length
+pub row_there : (t : Tables) (h : Home) → h.place < length (rows_at t h.mask) → (row : Row) × (row_at t h ≡ Some row)
+row_there t h l = in_list (rows_at t h.mask) h.place l
+  where
+    in_list : (rows : List Row) (p : ℕ) → p < length rows → (row : Row) × (slice_get rows p ≡ Some row)
+    in_list [] p l = absurd (omega arith)
+    in_list (r ∷ rs) zero l = (r, refl)
+    in_list (r ∷ rs) (suc p) l = in_list rs p (omega arith)
+
+-- the cell of a kind at a home is that of the row there
+pub cell_at_row : (t : Tables) (h : Home) (row : Row) (kind : ℕ) → row_at t h ≡ Some row → cell_at (rows_at t h.mask) h.place kind ≡ cell_of row.cells kind
+cell_at_row t h row kind at = ap (λ (o : Option Row). option_flatten (option_map (λ (r : Row). cell_of r.cells kind) o)) at
+
+-- a value that fits a kind fits one of the schema
+pub fits_known : (schema : Kinds) (value : Value) (kind : ℕ) → fits_kind schema value kind ≡ true → kind < length schema
+fits_known schema value kind h = elim (slice_get schema kind) as (λ o. slice_get schema kind ≡ o → has_shape value (option_map (λ (k : List ℕ × Shape). k.1) o) ≡ true → kind < length schema) [
+  | None ↦ λ e g. absurd (let k : false ≡ true = g in cc)
+  | Some s ↦ λ e g. slice_get_within schema kind s e
+] refl h
+
+-- the kinds of a row of a world are below 64
+pub row_kinds_low : (schema : Kinds) (mask : ℕ) (row : Row) → IsRowOf schema mask row → length schema ≤ 64 → AreKindsBelow 64 row.cells
+row_kinds_low schema mask row fits l = low_kinds row.cells fits.shapes
+  where
+    low_kinds : (cells : List (ℕ × Cell)) → list_all (λ (c : ℕ × Cell). fits_kind schema c.1.value c.0) cells ≡ true → AreKindsBelow 64 cells
+    low_kinds [] h = refl
+    low_kinds (c ∷ cs) h =
+        let parts = and_parts (fits_kind schema c.1.value c.0) _ h in
+        let known = fits_known schema c.1.value c.0 parts.0 in
+        and_from (nat_lt c.0 64) _ (lt-ltb c.0 64 (omega (arith, known, l))) (low_kinds cs parts.1)
