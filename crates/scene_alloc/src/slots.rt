@@ -1,5 +1,5 @@
 //! The slots of entities: generations by index, and the free list.
-ghost use Rattle.std.specs.Prelude.{◌≡◌, ◌≤◌, ◌↔◌, [], length, slice_get, IsTrue, IfOk};
+ghost use Rattle.std.specs.Prelude.{◌≡◌, ◌≤◌, ◌↔◌, [], length, slice_get, true, IsTrue, IfOk, IsOk};
 ghost use Rattle.scene_kinds.specs.Answers.{Answers};
 ghost use Rattle.scene_alloc.specs.Slots.{IsSlots, CanRelease, most_slots, new_slots, slots_of, has_free, take_of, release_of, retires};
 
@@ -50,10 +50,11 @@ impl Slots {
     /// (docs/MODEL.md, "The rule of reuse").
     ///
     /// Refused: `EntitiesFull` where no index is free and the slots are as many as the limit; `NoMemory`.
-    /// After a refusal the slots are as they were. Its cost is constant, but that a list that is full
-    /// grows to twice its length.
+    /// After a refusal the slots are as they were. A take of a free index takes no memory and is never refused. Its
+    /// cost is constant, but that a list that is full grows to twice its length.
     pub fn take(&mut self) -> Result<Entity, Refusal>
-        ensures { Answers result self.old self.new (take_of self.old) }
+        ensures answer { Answers result self.old self.new (take_of self.old) }
+        ensures reuse { has_free self.old ≡ true → IsOk result }
     {
         if let Some(index) = self.free.pop() {
             let generation = self.generations[index as usize];

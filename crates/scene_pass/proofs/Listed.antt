@@ -18,7 +18,7 @@ use Rattle.scene_kinds.specs.Schema.{Kinds, fits_kind}
 use Rattle.scene_kinds.proofs.CellLaws.{first_below, rest_ascends, below_none}
 use Rattle.scene_kinds.proofs.Maps.{equal_keys, ties_itself}
 use Rattle.scene_world.specs.declared.home.Home.{Home}
-use Rattle.scene_world.specs.World.{World, rows_at, row_at, row_of, home_of, mask_at, cell_at, cell_in, is_unknown, kind_sets, present}
+use Rattle.scene_world.specs.World.{World, rows_at, row_at, row_of, home_of, mask_at, component_of, component_in, is_unknown, kind_sets, present}
 use Rattle.scene_world.specs.Valid.{IsValid}
 use Rattle.scene_world.proofs.Homes.{home_is}
 use Rattle.scene_world.proofs.RowKinds.{fits_known}
@@ -124,23 +124,23 @@ cell_found (c ∷ cs) kind cell h g =
     ] refl)
 
 -- the cell of a kind that is in the schema, as a reader finds it
-cell_read : (schema : Kinds) (p : Home × Row) (kind : ℕ) (cell : Cell) → kind < length schema → cell_of p.1.cells kind ≡ Some cell → cell_in schema kind (Some p) ≡ Ok cell
+cell_read : (schema : Kinds) (p : Home × Row) (kind : ℕ) (cell : Cell) → kind < length schema → cell_of p.1.cells kind ≡ Some cell → component_in schema kind (Some p) ≡ Ok cell
 cell_read schema p kind cell low there =
     let known : is_unknown schema kind ≡ false = not_from_true _ (lt-ltb kind (length schema) low) in
     ap (λ b. if b then Err (refusal_of NoSuchKind) else present (cell_of p.1.cells kind)) known ∙ ap present there
 
-read_cell : (schema : Kinds) (p : Home × Row) (kind : ℕ) (cell : Cell) → cell_in schema kind (Some p) ≡ Ok cell → cell_of p.1.cells kind ≡ Some cell
+read_cell : (schema : Kinds) (p : Home × Row) (kind : ℕ) (cell : Cell) → component_in schema kind (Some p) ≡ Ok cell → cell_of p.1.cells kind ≡ Some cell
 read_cell schema p kind cell h = elim (is_unknown schema kind) as (λ b. (if b then Err (refusal_of NoSuchKind) else present (cell_of p.1.cells kind)) ≡ Ok cell → cell_of p.1.cells kind ≡ Some cell) [
   | true ↦ λ g. absurd (cc)
   | false ↦ λ g. elim (cell_of p.1.cells kind) as (λ o. present o ≡ Ok cell → o ≡ Some cell) [ None ↦ λ k. absurd (cc) | Some c ↦ λ k. cc ] g
 ] h
 
 -- a cell of a row of a valid world, as a reader finds it
-cell_seen : (w : World) (h : Home) (row : Row) (kind : ℕ) (cell : Cell) → IsValid w → row_at w.tables h ≡ Some row → Contains row.cells (kind, cell) → cell_at w row.entity kind ≡ Ok cell
+cell_seen : (w : World) (h : Home) (row : Row) (kind : ℕ) (cell : Cell) → IsValid w → row_at w.tables h ≡ Some row → Contains row.cells (kind, cell) → component_of w row.entity kind ≡ Ok cell
 cell_seen w h row kind cell valid at g =
     let fits = (valid.rows.each h row at).fits in
     let low = fits_known w.schema cell.value kind (each_passes (λ (c : ℕ × Cell). fits_kind w.schema c.1.value c.0) row.cells (kind, cell) fits.shapes g) in
-    ap (cell_in w.schema kind) (row_found w h row valid at).found ∙ cell_read w.schema (h, row) kind cell low (cell_found row.cells kind cell fits.kinds.ascending g)
+    ap (component_in w.schema kind) (row_found w h row valid at).found ∙ cell_read w.schema (h, row) kind cell low (cell_found row.cells kind cell fits.kinds.ascending g)
 
 -- the cells that are listed are those of matching entities, where a test says what is asked of them
 pub cells_listed : (test : Cell → Bool) (P : Cell → Type 0) → ((c : Cell) → (test c ≡ true) ↔ P c) → (w : World) (f : Filter) (n : CellName) → IsValid w → Contains (cells_where test w f) n ↔ IsCellWhere P w f n
@@ -161,7 +161,7 @@ cells_listed test P says w f n valid = (from, to)
     to m =
         let k = home_matches w f n.entity m.0 in
         let cell = m.1.0 in
-        let there : cell_of k.row.cells n.kind ≡ Some cell = read_cell w.schema (k.home, k.row) n.kind cell (sym (ap (cell_in w.schema n.kind) k.found) ∙ m.1.1.0) in
+        let there : cell_of k.row.cells n.kind ≡ Some cell = read_cell w.schema (k.home, k.row) n.kind cell (sym (ap (component_in w.schema n.kind) k.found) ∙ m.1.1.0) in
         let kept = in_filter (λ (c : ℕ × Cell). test c.1) k.row.cells (n.kind, cell) (entry_in k.row.cells n.kind cell there) ((says cell).1 m.1.1.1) in
         let named : ◌≡◌ {A = CellName} (record { entity = k.row.entity; kind = n.kind }) n = ap (λ e. record { entity = e; kind = n.kind }) k.same in
         in_flat_map (names_in test) (matching_rows w f) k.row n (row_listed w f k.home k.row k.there k.matches)

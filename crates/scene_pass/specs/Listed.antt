@@ -2,7 +2,7 @@
 use Rattle.std.specs.Prelude.{◌≡◌, ℕ, true, Some, Ok}
 use Rattle.scene_kinds.specs.declared.entity.Entity.{Entity}
 use Rattle.scene_kinds.specs.declared.cell.Cell.{Cell}
-use Rattle.scene_world.specs.World.{World, mask_at, cell_at}
+use Rattle.scene_world.specs.World.{World, mask_at, component_of}
 use Rattle.scene_pass.specs.declared.cell_name.CellName.{CellName}
 use Rattle.scene_pass.specs.declared.filter.Filter.{Filter}
 use Rattle.scene_pass.specs.Filter.{is_match}
@@ -13,7 +13,7 @@ Matches w f e = (mask : ℕ) × ((mask_at w e ≡ Some mask) × (is_match f mask
 
 -- an entity has a cell of a kind, of which a fact holds
 abbrev pub HasCellWhere : (Cell → Type 0) → World → Entity → ℕ → Type 0
-HasCellWhere P w e kind = (cell : Cell) × ((cell_at w e kind ≡ Ok cell) × P cell)
+HasCellWhere P w e kind = (cell : Cell) × ((component_of w e kind ≡ Ok cell) × P cell)
 
 -- a cell whose entity's kind set matches, and of which a fact holds
 abbrev pub IsCellWhere : (Cell → Type 0) → World → Filter → CellName → Type 0

@@ -1,8 +1,8 @@
 -- Rows that leave by a swap, and come back.
-use Rattle.std.proofs.Common.{◌≡◌, ℕ, zero, suc, ◌-◌, ◌<◌, ◌≤◌, List, [], ◌∷◌, ◌++◌, length, get_or, take, refl, ap, ◌∙◌, arith, Some}
+use Rattle.std.proofs.Common.{◌≡◌, ℕ, zero, suc, ◌+◌, ◌-◌, ◌<◌, ◌≤◌, List, [], ◌∷◌, ◌++◌, length, get_or, take, refl, ap, ◌∙◌, arith, Some}
 use Rattle.std.specs.Prelude.{slice_set}
 use Rattle.std.specs.List.{swap_remove}
-use Rattle.scene_table.specs.Rows.{last_of, front_of, last_first, swap_out, put_back, SwapOutComesBack, PutBackStands, PutBackComesBack}
+use Rattle.scene_table.specs.Rows.{last_of, front_of, last_first, swap_out, put_back, SwapOutLeavesAPlace, SwapOutComesBack, PutBackStands, PutBackComesBack}
 
 -- the last put behind the others
 front_then_last : {X : Type 0} (x : X) (xs : List X) → front_of x xs ++ last_of x xs ∷ [] ≡ x ∷ xs
@@ -34,6 +34,24 @@ pub swap_out_back : {X : Type 0} → SwapOutComesBack X
 swap_out_back [] i r e = cc
 swap_out_back (x ∷ xs) zero r e = back_to_front x r xs e
 swap_out_back (x ∷ xs) (suc i) r e = ap (λ t. x ∷ t) (swap_out_back xs i r e)
+
+-- the others of a list are as many as those behind the first
+length-front_of : {X : Type 0} (x : X) (xs : List X) → length (front_of x xs) ≡ length xs
+length-front_of x [] = refl
+length-front_of x (y ∷ ys) = ap (λ n. suc n) (length-front_of y ys)
+
+-- what is left is one less
+pub length-swap_out : {X : Type 0} (rows : List X) (i : ℕ) → i < length rows → length (swap_out rows i) + 1 ≡ length rows
+length-swap_out [] i l = absurd (omega arith)
+length-swap_out (x ∷ []) zero l = refl
+length-swap_out (x ∷ y ∷ ys) zero l = omega (arith, length-front_of y ys)
+length-swap_out (x ∷ xs) (suc i) l = let n = length-swap_out xs i (omega arith) in omega arith
+
+-- the law of the place that is left
+pub swap_out_place : {X : Type 0} → SwapOutLeavesAPlace X
+swap_out_place rows i l = omega (arith, length-swap_out rows i l)
+
+pub ruleset swap_out_laws = (swap_out_place, swap_out_back)
 
 -- the law of the place at which a row is put back
 pub put_back_stands : {X : Type 0} → PutBackStands X

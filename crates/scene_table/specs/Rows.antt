@@ -1,5 +1,5 @@
 -- The rule of rows: how a row leaves a list, and how it comes back.
-use Rattle.std.specs.Prelude.{◌≡◌, ℕ, zero, suc, ◌≤◌, length, List, [], ◌∷◌, ◌++◌, Some, slice_get}
+use Rattle.std.specs.Prelude.{◌≡◌, ℕ, zero, suc, ◌<◌, ◌≤◌, length, List, [], ◌∷◌, ◌++◌, Some, slice_get}
 
 -- the last of x and xs
 abbrev pub last_of : {X : Type 0} → X → List X → X
@@ -31,6 +31,10 @@ put_back (x ∷ xs) (suc i) r = x ∷ put_back xs i r
 -- a row that left comes back to its place, and every other row to its own
 abbrev pub SwapOutComesBack : Type 0 → Type 0
 SwapOutComesBack X = (rows : List X) (i : ℕ) (r : X) → slice_get rows i ≡ Some r → put_back (swap_out rows i) i r ≡ rows
+
+-- where a row left, one may be put back
+abbrev pub SwapOutLeavesAPlace : Type 0 → Type 0
+SwapOutLeavesAPlace X = (rows : List X) (i : ℕ) → i < length rows → i ≤ length (swap_out rows i)
 
 -- a row that was put back stands at its place
 abbrev pub PutBackStands : Type 0 → Type 0

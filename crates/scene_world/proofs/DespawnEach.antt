@@ -17,7 +17,7 @@ use Rattle.scene_links.proofs.Below.{head_once, post_cases, post_distinct}
 use Rattle.scene_links.proofs.Unravels.{post_unravels}
 use Rattle.scene_world.specs.declared.home.Home.{Home}
 use Rattle.scene_world.specs.World.{World, home_of, is_live}
-use Rattle.scene_world.specs.Commands.{with_live, and_then, gone, despawn, despawn_each, despawn_recursive}
+use Rattle.scene_world.specs.Commands.{with_live, and_then, after_despawn, despawn, despawn_each, despawn_recursive}
 use Rattle.scene_world.specs.Stored.{IsHomeOf}
 use Rattle.scene_world.specs.Valid.{IsValid}
 use Rattle.scene_world.specs.Laws.{DespawnRecursiveIsWhole}
@@ -43,21 +43,21 @@ live_home w e l = from (home_of w e) (some_home w e (home_of w e) refl) l
     from (Some h) k s = (h, k)
 
 -- a live entity without children goes
-goes : (w : World) (e : Entity) (h : Home) → IsHomeOf w e h → children_of w.children e ≡ [] → despawn w e ≡ Ok (tt, gone w h e)
+goes : (w : World) (e : Entity) (h : Home) → IsHomeOf w e h → children_of w.children e ≡ [] → despawn w e ≡ Ok (tt, after_despawn w h e)
 goes w e h k bare =
-    ap (λ o. with_live o (λ h row. if is_some (map.get w.children e) then refuse HasChildren else Ok (tt, gone w h e))) k.found
-    ∙ ap (λ b. if b then refuse HasChildren else Ok (tt, gone w h e)) (childless w.children e (ap (λ (es : List Entity). length es == 0) bare))
+    ap (λ o. with_live o (λ h row. if is_some (map.get w.children e) then refuse HasChildren else Ok (tt, after_despawn w h e))) k.found
+    ∙ ap (λ b. if b then refuse HasChildren else Ok (tt, after_despawn w h e)) (childless w.children e (ap (λ (es : List Entity). length es == 0) bare))
 
 -- the first goes, and the others still can
 pub first_goes : (w : World) (e : Entity) (es : List Entity) → CanGo w (e ∷ es) → (v : World) × ((despawn w e ≡ Ok (tt, v)) × CanGo v es)
 first_goes w e es c =
     let h = live_home w e (c.live e (holds_head e es)) in
     let went = goes w e h.0 h.1 c.bare.0 in (
-      gone w h.0 e,
+      after_despawn w h.0 e,
       (
         went,
         record {
-          valid = despawn_keeps w (gone w h.0 e) e c.valid went;
+          valid = despawn_keeps w (after_despawn w h.0 e) e c.valid went;
           live = λ x i. lives_removed w.tables h.0 h.1.row x h.1.there (λ s. head_once e es c.once (ap (λ z. holds z es) (sym h.1.same ∙ s) ∙ i)) (c.live x (holds_tail x e es i));
           once = IsDistinct-tail is_same e es c.once;
           bare = c.bare.1;

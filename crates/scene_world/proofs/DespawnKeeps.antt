@@ -18,7 +18,7 @@ use Rattle.scene_links.specs.Forest.{Forest, cut, cut_from, children_of, parent_
 use Rattle.scene_links.proofs.Cuts.{cut_forest, cut_part, left_out}
 use Rattle.scene_world.specs.declared.home.Home.{Home}
 use Rattle.scene_world.specs.World.{World, lives, row_at, without_row}
-use Rattle.scene_world.specs.Commands.{gone, despawn}
+use Rattle.scene_world.specs.Commands.{after_despawn, despawn}
 use Rattle.scene_world.specs.Valid.{IsValid, IsSoundRow, is_live_index, is_retired}
 use Rattle.scene_world.proofs.Outcomes.{not_ok, same_world, with_row_of}
 use Rattle.scene_kinds.proofs.Elements.{written_stays}
@@ -95,7 +95,7 @@ accounted_gone w h row v at k i l =
     ] refl
 
 -- the world after a despawn is valid
-pub gone_valid : (w : World) (h : Home) (row : Row) → IsValid w → row_at w.tables h ≡ Some row → is_some (map.get w.children row.entity) ≡ false → IsValid (gone w h row.entity)
+pub gone_valid : (w : World) (h : Home) (row : Row) → IsValid w → row_at w.tables h ≡ Some row → is_some (map.get w.children row.entity) ≡ false → IsValid (after_despawn w h row.entity)
 gone_valid w h row v at childless =
     let e = row.entity in
     let t = release_of w.slots e in
@@ -151,9 +151,9 @@ unlinked_cut f g c r h = elim (parent_of f c) as (λ o. Gives r f g (unlinked f 
 pub despawn_keeps : (w v : World) (e : Entity) → IsValid w → despawn w e ≡ Ok (tt, v) → IsValid v
 despawn_keeps w v e valid is =
     with_row_of (IsValid v) w e _ (tt, v) is (λ h r at same made.
-    elim (is_some (map.get w.children e)) as (λ b. is_some (map.get w.children e) ≡ b → ◌≡◌ {A = Outcome (Unit {0}) World} (if b then refuse HasChildren else Ok (tt, gone w h e)) (Ok (tt, v)) → IsValid v) [
+    elim (is_some (map.get w.children e)) as (λ b. is_some (map.get w.children e) ≡ b → ◌≡◌ {A = Outcome (Unit {0}) World} (if b then refuse HasChildren else Ok (tt, after_despawn w h e)) (Ok (tt, v)) → IsValid v) [
       | true ↦ λ c g. absurd (not_ok (tt, v) _ g)
       | false ↦ λ c g.
-          subst IsValid (ap (gone w h) same ∙ (same_world tt tt (gone w h e) v g).1)
+          subst IsValid (ap (after_despawn w h) same ∙ (same_world tt tt (after_despawn w h e) v g).1)
           (gone_valid w h r valid at (ap (λ (x : Entity). is_some (map.get w.children x)) same ∙ c))
     ] refl made)

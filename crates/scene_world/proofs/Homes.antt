@@ -16,7 +16,7 @@ use Rattle.scene_kinds.specs.Lists.{whole, listed}
 use Rattle.scene_kinds.proofs.Choices.{test_parts}
 use Rattle.scene_kinds.proofs.Maps.{equal_keys, ties_itself}
 use Rattle.scene_world.specs.declared.home.Home.{Home}
-use Rattle.scene_world.specs.World.{Tables, row_at, place_among, home_in}
+use Rattle.scene_world.specs.World.{Tables, row_at, row_place, home_in}
 use Rattle.scene_world.specs.Valid.{StandsOnce}
 use Rattle.scene_kinds.proofs.Positions.{found, missed}
 
@@ -30,7 +30,7 @@ pub nowhere : (p : ℕ) (e : Entity) → HasAt [] p e → ⊥
 nowhere p e h = absurd (let k : None ≡ Some h.row = h.there in cc)
 
 -- a place that was found has the entity
-pub place_found : (e : Entity) (rows : List Row) (i : ℕ) → place_among e rows ≡ Some i → HasAt rows i e
+pub place_found : (e : Entity) (rows : List Row) (i : ℕ) → row_place e rows ≡ Some i → HasAt rows i e
 place_found e rows i h = found (λ (r : Row). is_same r.entity e) (λ xs k. HasAt xs k e)
     (λ r rs t. record { row = r; there = refl; same = equal_keys entity_cmp_exact r.entity e t })
     (λ r rs k t g. record { row = g.row; there = g.there; same = g.same })
@@ -44,7 +44,7 @@ nowhere_more r rs e t none zero g =
 nowhere_more r rs e t none (suc p) g = none p (record { row = g.row; there = g.there; same = g.same })
 
 -- where no place was found the entity has none
-pub place_missed : (e : Entity) (rows : List Row) → place_among e rows ≡ None → (p : ℕ) → HasAt rows p e → ⊥
+pub place_missed : (e : Entity) (rows : List Row) → row_place e rows ≡ None → (p : ℕ) → HasAt rows p e → ⊥
 place_missed e rows h = missed (λ (r : Row). is_same r.entity e) (λ xs. (p : ℕ) → HasAt xs p e → ⊥) (λ p g. nowhere p e g) (λ r rs t none. nowhere_more r rs e t none) rows h
 
 is_less : (o : Ordering) → T (is_lt o) → is_eq o ≡ false
@@ -67,7 +67,7 @@ pub home_sound : (e : Entity) (es : List (ℕ × (Row × List Row))) → T (is_s
 home_sound e [] rising h is = absurd (let k : None ≡ Some h = is in cc)
 home_sound e (t ∷ ts) rising h is =
     let parts = test_parts (below_all nat_cmp t.0 ts) (is_sorted nat_cmp ts) rising in
-    elim (place_among e (whole t.1)) as (λ o. place_among e (whole t.1) ≡ o → option_or (option_map (λ (p : ℕ). record { mask = t.0; place = p }) o) (home_in e ts) ≡ Some h → HasAt (rows_in (t ∷ ts) h.mask) h.place e) [
+    elim (row_place e (whole t.1)) as (λ o. row_place e (whole t.1) ≡ o → option_or (option_map (λ (p : ℕ). record { mask = t.0; place = p }) o) (home_in e ts) ≡ Some h → HasAt (rows_in (t ∷ ts) h.mask) h.place e) [
       | Some p ↦ λ q s.
           let u : record { mask = t.0; place = p } ≡ h = cc in
           subst (λ (g : Home). HasAt (rows_in (t ∷ ts) g.mask) g.place e) u
@@ -83,7 +83,7 @@ home_sound e (t ∷ ts) rising h is =
 pub home_complete : (e : Entity) (es : List (ℕ × (Row × List Row))) → home_in e es ≡ None → (m p : ℕ) → HasAt (rows_in es m) p e → ⊥
 home_complete e [] is m p g = nowhere p e g
 home_complete e (t ∷ ts) is m p g =
-    elim (place_among e (whole t.1)) as (λ o. place_among e (whole t.1) ≡ o → option_or (option_map (λ (p : ℕ). record { mask = t.0; place = p }) o) (home_in e ts) ≡ None → ⊥) [
+    elim (row_place e (whole t.1)) as (λ o. row_place e (whole t.1) ≡ o → option_or (option_map (λ (p : ℕ). record { mask = t.0; place = p }) o) (home_in e ts) ≡ None → ⊥) [
       | Some k ↦ λ q s. absurd (cc)
       | None ↦ λ q s. elim (eq_by_cmp nat_cmp m t.0) as (λ b. HasAt (listed (cond b (Some t.1) (find nat_cmp m ts))) p e → ⊥) [
         | true ↦ λ v. place_missed e (whole t.1) q p v

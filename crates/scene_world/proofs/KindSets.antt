@@ -161,8 +161,8 @@ numbers_in_order n (x ∷ xs) h i j d l under =
 
 -- sorted, their kind sets are the keys of the map
 pub sorted_masks : (ts ys : List TableState) → AreApart ts → IsPermutation (with_some ts) ys → IsNonDecreasing (each (λ t. t.mask) ys) → each (λ t. t.mask) ys ≡ masks_of (tables_of ts)
-sorted_masks ts ys h moved sorted =
-    let moved_masks = IsPermutation-map (λ (t : TableState). t.mask) (with_some ts) ys moved in
+sorted_masks ts ys h after_move sorted =
+    let moved_masks = IsPermutation-map (λ (t : TableState). t.mask) (with_some ts) ys after_move in
     let distinct = IsDistinct-IsPermutation nat_eq nat_eq_equiv.symm (masks_seen ts) (each (λ t. t.mask) ys) moved_masks (masks_distinct ts h) in
     let rising = sorted_from_strictly_increasing (each (λ t. t.mask) ys) (IsStrictlyIncreasing-from_distinct (each (λ t. t.mask) ys) sorted distinct) in
     keys_alike (each (λ t. t.mask) ys) (tables_of ts).entries rising (tables_of ts).sorted
@@ -192,7 +192,7 @@ rows_by_masks m (y ∷ ys) h = λ i. sym h.0 i ∷ rows_by_masks m ys h.1 i
 
 -- sorted or not, the rows of tables that have some are those at their kind sets
 pub rows_seen : (ts ys : List TableState) → AreApart ts → IsPermutation (with_some ts) ys → each (λ t. t.rows) ys ≡ each (rows_at (tables_of ts)) (each (λ t. t.mask) ys)
-rows_seen ts ys h moved =
+rows_seen ts ys h after_move =
     let shown = All-from_recursion (Shows (tables_of ts)) ts (all_shown ts h) in
     rows_by_masks (tables_of ts) ys (recursion_from_All (Shows (tables_of ts)) ys
-    (All-permutation (Shows (tables_of ts)) (with_some ts) ys moved (All-filter (λ (t : TableState). has_some t.rows) (Shows (tables_of ts)) ts shown)))
+    (All-permutation (Shows (tables_of ts)) (with_some ts) ys after_move (All-filter (λ (t : TableState). has_some t.rows) (Shows (tables_of ts)) ts shown)))

@@ -10,7 +10,7 @@ use Rattle.scene_links.specs.Forest.{Forest, IsForest, AllLinked, holds, ancesto
 use Rattle.scene_links.proofs.Cuts.{cut_forest, linked-cut, parent_gone}
 use Rattle.scene_links.proofs.Joins.{linked-joined, linked_forest}
 use Rattle.scene_world.specs.World.{World, is_live}
-use Rattle.scene_world.specs.Commands.{lifted, with_children, set_parent, remove_parent}
+use Rattle.scene_world.specs.Commands.{in_world, with_children, set_parent, remove_parent}
 use Rattle.scene_world.specs.Valid.{IsValid}
 use Rattle.scene_world.proofs.Outcomes.{not_ok, same_world}
 use Rattle.scene_world.proofs.Parts.{asked, allowed, lifted_part, done_part}
@@ -70,6 +70,6 @@ set_parent_keeps w v c p valid is =
 pub remove_parent_keeps : (w v : World) (child : Entity) → IsValid w → remove_parent w child ≡ Ok (tt, v) → IsValid v
 remove_parent_keeps w v c valid is =
     let live = allowed (is_live w c) _ _ (tt, v) is in
-    let told = done_part (lifted (unlink_of w.children c) (with_children w)) v live.1 in
+    let told = done_part (in_world (unlink_of w.children c) (with_children w)) v live.1 in
     let made = lifted_part (unlink_of w.children c) (with_children w) told.0 v told.1 in
     subst IsValid made.1.1 (unlinked_valid w c told.0 made.0 valid made.1.0)

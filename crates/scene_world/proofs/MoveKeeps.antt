@@ -21,7 +21,7 @@ use Rattle.scene_alloc.specs.Slots.{is_free}
 use Rattle.scene_table.specs.Table.{row_with_cell}
 use Rattle.scene_world.specs.declared.home.Home.{Home}
 use Rattle.scene_world.specs.World.{World, Tables, row_at, lives, without_row, with_row_at}
-use Rattle.scene_world.specs.Commands.{highest_tick, moved, inserted, insert, insert_fault, remove, remove_fault}
+use Rattle.scene_world.specs.Commands.{highest_tick, after_move, after_insert, insert, insert_fault, remove, remove_fault}
 use Rattle.scene_world.specs.Valid.{IsValid, IsRowOf, IsSoundRow, RowsAreSound, IsCurrent, is_live_index, is_retired, is_timely}
 use Rattle.scene_world.specs.Laws.{RaiseKeeps}
 use Rattle.scene_world.proofs.Outcomes.{no_fault, not_ok, same_world, with_row_of}
@@ -51,10 +51,10 @@ tables_valid w t v sound alive = record {
 }
 
 -- a row that moves: everybody lives on
-lives_moved : (t : Tables) (h : Home) (row : Row) (cells : List (ℕ × Cell)) (e : Entity) → row_at t h ≡ Some row → lives t e ≡ true → lives (moved t h row cells) e ≡ true
+lives_moved : (t : Tables) (h : Home) (row : Row) (cells : List (ℕ × Cell)) (e : Entity) → row_at t h ≡ Some row → lives t e ≡ true → lives (after_move t h row cells) e ≡ true
 lives_moved t h row cells e at l =
-    elim (is_same row.entity e) as (λ b. is_same row.entity e ≡ b → lives (moved t h row cells) e ≡ true) [
-      | true ↦ λ s. live_here (moved t h row cells) e _ (record { entity = row.entity; cells = cells }) (added_there (without_row t h) (record { entity = row.entity; cells = cells })) (equal_keys entity_cmp_exact row.entity e s)
+    elim (is_same row.entity e) as (λ b. is_same row.entity e ≡ b → lives (after_move t h row cells) e ≡ true) [
+      | true ↦ λ s. live_here (after_move t h row cells) e _ (record { entity = row.entity; cells = cells }) (added_there (without_row t h) (record { entity = row.entity; cells = cells })) (equal_keys entity_cmp_exact row.entity e s)
       | false ↦ λ s. lives_added (without_row t h) (record { entity = row.entity; cells = cells }) e
           (lives_removed t h row e at (λ u. let k : true ≡ false = sym (ap (λ x. is_same x e) u ∙ itself e) ∙ s in absurd (cc)) l)
     ] refl
@@ -64,12 +64,12 @@ lives_moved t h row cells e at l =
 
 pub moved_keeps : (w : World) (h : Home) (row : Row) (cells : List (ℕ × Cell)) → IsValid w → row_at w.tables h ≡ Some row
     → IsRowOf w.schema (mask_of cells) (record { entity = row.entity; cells = cells }) → list_all (λ (c : ℕ × Cell). is_timely w.tick c.1) cells ≡ true
-    → IsValid (with_tables w (moved w.tables h row cells))
+    → IsValid (with_tables w (after_move w.tables h row cells))
 moved_keeps w h row cells v at fits timely =
     let new : Row = record { entity = row.entity; cells = cells } in
     let old = v.rows.each h row at in
     let Sound = IsSoundRow w.schema w.slots w.tick in
-    tables_valid w (moved w.tables h row cells) v
+    tables_valid w (after_move w.tables h row cells) v
     (record {
       each = each_added Sound (without_row w.tables h) new (each_removed Sound w.tables h row at v.rows.each) (record { current = old.current; busy = old.busy; fits = fits; timely = timely });
       once = once_added (without_row w.tables h) new (once_removed w.tables h row at v.rows.once) (removed_nowhere w.tables h row at v.rows.once);
@@ -107,7 +107,7 @@ found_passes p (e ∷ es) kind c all there =
 
 -- the world that an insert leaves
 pub insert_made : (w : World) (h : Home) (row : Row) (kind : ℕ) (value : Value) (o : Option Cell) → cell_of row.cells kind ≡ o → IsValid w → row_at w.tables h ≡ Some row
-    → fits_kind w.schema value kind ≡ true → IsValid (with_tables w (inserted w.tick w.tables h row kind value o))
+    → fits_kind w.schema value kind ≡ true → IsValid (with_tables w (after_insert w.tick w.tables h row kind value o))
 insert_made w h row kind value None e v at fits =
     let old = (v.rows.each h row at).fits in
     moved_keeps w h row (with_cell row.cells kind (new_cell w.tick value)) v at
@@ -138,7 +138,7 @@ insert_keeps w v e kind value valid is =
 -- ---- remove
 
 -- the world that a remove leaves
-pub remove_made : (w : World) (h : Home) (row : Row) (kind : ℕ) → IsValid w → row_at w.tables h ≡ Some row → IsValid (with_tables w (moved w.tables h row (without_cell row.cells kind)))
+pub remove_made : (w : World) (h : Home) (row : Row) (kind : ℕ) → IsValid w → row_at w.tables h ≡ Some row → IsValid (with_tables w (after_move w.tables h row (without_cell row.cells kind)))
 remove_made w h row kind v at =
     let old = (v.rows.each h row at).fits in
     moved_keeps w h row (without_cell row.cells kind) v at

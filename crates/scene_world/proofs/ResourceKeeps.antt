@@ -9,7 +9,7 @@ use Rattle.scene_kinds.specs.Ranges.{is_in_range}
 use Rattle.scene_resources.specs.Resources.{NamedCells, name_cmp_exact, cell_of, put_of, restore_of, taken, take_of}
 use Rattle.scene_resources.proofs.Cells.{is_name, cell_of-restore_of}
 use Rattle.scene_world.specs.World.{World}
-use Rattle.scene_world.specs.Commands.{lifted, with_resources, put_resource, remove_resource}
+use Rattle.scene_world.specs.Commands.{in_world, with_resources, put_resource, remove_resource}
 use Rattle.scene_world.specs.Valid.{IsValid, IsResource, ResourcesAreSound, is_timely}
 use Rattle.scene_world.proofs.NewCells.{timely_new, timely_there}
 use Rattle.scene_world.proofs.Outcomes.{not_ok, same_world}
@@ -72,6 +72,6 @@ put_resource_keeps w v name value valid held is =
 
 pub remove_resource_keeps : (w v : World) (name : List ℕ) → IsValid w → remove_resource w name ≡ Ok (tt, v) → IsValid v
 remove_resource_keeps w v name valid is =
-    let told = done_part (lifted (take_of w.resources name) (with_resources w)) v is in
+    let told = done_part (in_world (take_of w.resources name) (with_resources w)) v is in
     let made = lifted_part (take_of w.resources name) (with_resources w) told.0 v told.1 in
     subst IsValid made.1.1 (taken_valid w name told.0 made.0 valid made.1.0)

@@ -11,20 +11,20 @@ use Rattle.scene_kinds.specs.declared.cells.Row.{Row}
 use Rattle.scene_kinds.proofs.Lists.{list_at_same, list_at_apart}
 use Rattle.scene_table.specs.Table.{TableState}
 use Rattle.scene_world.specs.declared.home.Home.{Home}
-use Rattle.scene_world.specs.World.{World, rows_at, row_at, home_of, place_among, home_in}
+use Rattle.scene_world.specs.World.{World, rows_at, row_at, home_of, row_place, home_in}
 use Rattle.scene_world.specs.Valid.{StandsOnce}
 use Rattle.scene_kinds.specs.Schema.{Kinds}
 use Rattle.scene_alloc.specs.Slots.{SlotState}
 use Rattle.scene_links.specs.Forest.{Forest}
 use Rattle.scene_resources.specs.Resources.{NamedCells}
-use Rattle.scene_world.specs.Stored.{tables_of, AreApart, scan, seen, IsSound, IsHomeOf}
+use Rattle.scene_world.specs.Stored.{tables_of, AreApart, scan, world_of, IsSound, IsHomeOf}
 use Rattle.scene_world.proofs.Homes.{HasAt, home_found, place_found, place_missed, home_is, home_none, nowhere}
 use Rattle.scene_world.proofs.Stored.{none_seen}
 
 scan_sound : (e : Entity) (ts : List TableState) → AreApart ts → (h : Home) → scan e ts ≡ Some h → HasAt (rows_at (tables_of ts) h.mask) h.place e
 scan_sound e [] apart h is = absurd (let k : None ≡ Some h = is in cc)
 scan_sound e (t ∷ ts) apart h is =
-    elim (place_among e t.rows) as (λ o. place_among e t.rows ≡ o → option_or (option_map (λ (p : ℕ). record { mask = t.mask; place = p }) o) (scan e ts) ≡ Some h → HasAt (rows_at (tables_of (t ∷ ts)) h.mask) h.place e) [
+    elim (row_place e t.rows) as (λ o. row_place e t.rows ≡ o → option_or (option_map (λ (p : ℕ). record { mask = t.mask; place = p }) o) (scan e ts) ≡ Some h → HasAt (rows_at (tables_of (t ∷ ts)) h.mask) h.place e) [
       | Some p ↦ λ q s.
           let u : record { mask = t.mask; place = p } ≡ h = cc in
           subst (λ (g : Home). HasAt (rows_at (tables_of (t ∷ ts)) g.mask) g.place e) u (subst (λ rows. HasAt rows p e) (sym (list_at_same nat_cmp_total (tables_of ts) t.mask t.rows)) (place_found e t.rows p q))
@@ -39,7 +39,7 @@ scan_sound e (t ∷ ts) apart h is =
 scan_complete : (e : Entity) (ts : List TableState) → scan e ts ≡ None → (h : Home) → HasAt (rows_at (tables_of ts) h.mask) h.place e → ⊥
 scan_complete e [] is h g = nowhere h.place e g
 scan_complete e (t ∷ ts) is h g =
-    elim (place_among e t.rows) as (λ o. place_among e t.rows ≡ o → option_or (option_map (λ (p : ℕ). record { mask = t.mask; place = p }) o) (scan e ts) ≡ None → ⊥) [
+    elim (row_place e t.rows) as (λ o. row_place e t.rows ≡ o → option_or (option_map (λ (p : ℕ). record { mask = t.mask; place = p }) o) (scan e ts) ≡ None → ⊥) [
       | Some k ↦ λ q s. absurd (cc)
       | None ↦ λ q s. elim (nat_eq h.mask t.mask) as (λ b. nat_eq h.mask t.mask ≡ b → ⊥) [
         | true ↦ λ v. place_missed e t.rows q h.place (subst (λ rows. HasAt rows h.place e) (ap (rows_at (tables_of (t ∷ ts))) (eqb-true h.mask t.mask v) ∙ list_at_same nat_cmp_total (tables_of ts) t.mask t.rows) g)
@@ -67,7 +67,7 @@ home_facts w e h is =
     }
 
 -- what a scan over the tables of a sound world says of an entity
-pub scan_sound_home : (schema : Kinds) (slots : SlotState) (tick : ℕ) (ts : List TableState) (children : Forest) (resources : NamedCells) → IsSound schema slots tick ts children resources → (e : Entity) → scan e ts ≡ home_of (seen schema slots tick ts children resources) e
+pub scan_sound_home : (schema : Kinds) (slots : SlotState) (tick : ℕ) (ts : List TableState) (children : Forest) (resources : NamedCells) → IsSound schema slots tick ts children resources → (e : Entity) → scan e ts ≡ home_of (world_of schema slots tick ts children resources) e
 scan_sound_home schema slots tick ts children resources s e = scan_home e ts s.apart s.valid.rows.once
 
 pub some_home : (w : World) (e : Entity) (o : Option Home) → o ≡ home_of w e → IfSome o (IsHomeOf w e)

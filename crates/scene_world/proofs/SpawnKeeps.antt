@@ -11,7 +11,7 @@ use Rattle.scene_kinds.specs.Answers.{Outcome}
 use Rattle.scene_kinds.specs.Cells.{mask_of}
 use Rattle.scene_alloc.specs.Slots.{SlotState, is_free, take_of}
 use Rattle.scene_world.specs.World.{World, lives, with_row}
-use Rattle.scene_world.specs.Commands.{spawn, spawned, spawn_fault, new_cells}
+use Rattle.scene_world.specs.Commands.{spawn, after_take, spawn_fault, new_cells}
 use Rattle.scene_world.specs.Valid.{IsValid, IsRowOf, IsSoundRow, is_live_index, is_retired, is_timely}
 use Rattle.scene_world.proofs.Outcomes.{no_fault, not_ok, same_world}
 use Rattle.scene_world.proofs.Homes.{live_here}
@@ -28,8 +28,8 @@ taken_nowhere w s e v t = λ h r g same. ⊎_elim
     t.unused
 
 -- the world after a spawn
-abbrev pub grown : World → SlotState → Row → World
-grown w s row = record w { slots = s; tables = with_row w.tables row }
+abbrev pub with_spawned : World → SlotState → Row → World
+with_spawned w s row = record w { slots = s; tables = with_row w.tables row }
 
 -- an index other than the new one is accounted for as before
 old_accounted : (w : World) (s : SlotState) (row : Row) → IsValid w → IsTaken w.slots s row.entity → (i : ℕ) → i < length w.slots.generations → (i ≡ row.entity.index → ⊥)
@@ -50,7 +50,7 @@ new_accounted w s row t i e =
 
 -- a new row of a new entity keeps a world valid
 pub grown_valid : (w : World) (s : SlotState) (row : Row) → IsValid w → IsTaken w.slots s row.entity → IsRowOf w.schema (mask_of row.cells) row
-    → list_all (λ (c : ℕ × Cell). is_timely w.tick c.1) row.cells ≡ true → IsValid (grown w s row)
+    → list_all (λ (c : ℕ × Cell). is_timely w.tick c.1) row.cells ≡ true → IsValid (with_spawned w s row)
 grown_valid w s row v t fits timely = record {
   schema = v.schema;
   slots = t.sound;
@@ -75,19 +75,19 @@ grown_valid w s row v t fits timely = record {
 }
 
 -- what an accepted spawn took
-spawn_parts : (P : Type 0) (w v : World) (cells : List (ℕ × Cell)) (e : Entity) (o : Outcome Entity SlotState) → spawned w cells o ≡ Ok (e, v)
-    → ((s : SlotState) → o ≡ Ok (e, s) → grown w s (record { entity = e; cells = cells }) ≡ v → P) → P
+spawn_parts : (P : Type 0) (w v : World) (cells : List (ℕ × Cell)) (e : Entity) (o : Outcome Entity SlotState) → after_take w cells o ≡ Ok (e, v)
+    → ((s : SlotState) → o ≡ Ok (e, s) → with_spawned w s (record { entity = e; cells = cells }) ≡ v → P) → P
 spawn_parts P w v cells e (Ok p) h then =
-    let k = same_world p.0 e (grown w p.1 (record { entity = p.0; cells = cells })) v h in
-    then p.1 (λ i. Ok (k.0 i, p.1)) (ap (λ (x : Entity). grown w p.1 (record { entity = x; cells = cells })) (sym k.0) ∙ k.1)
+    let k = same_world p.0 e (with_spawned w p.1 (record { entity = p.0; cells = cells })) v h in
+    then p.1 (λ i. Ok (k.0 i, p.1)) (ap (λ (x : Entity). with_spawned w p.1 (record { entity = x; cells = cells })) (sym k.0) ∙ k.1)
 spawn_parts P w v cells e (Err r) h then = absurd (not_ok (e, v) r h)
 
 -- the world that a spawn of sound cells leaves
 pub spawned_valid : (w : World) (given : List (ℕ × Value)) (cells : List (ℕ × Cell)) (s : SlotState) (e : Entity) → IsValid w → spawn_fault w.schema given ≡ None → cells ≡ new_cells w.tick given → take_of w.slots ≡ Ok (e, s)
-    → IsValid (grown w s (record { entity = e; cells = cells }))
+    → IsValid (with_spawned w s (record { entity = e; cells = cells }))
 spawned_valid w given cells s e v fits made took =
     let tests = spawn_tests w.schema given fits in
-    subst (λ (cs : List (ℕ × Cell)). IsValid (grown w s (record { entity = e; cells = cs }))) (sym made)
+    subst (λ (cs : List (ℕ × Cell)). IsValid (with_spawned w s (record { entity = e; cells = cs }))) (sym made)
     (grown_valid w s (record { entity = e; cells = new_cells w.tick given }) v (taken w.slots s e v.slots took)
     (record { kinds = record { ascending = new_ascending w.tick given; kinds = refl }; shapes = new_shapes w.schema w.tick given tests.2 })
     (new_timely w.tick given))

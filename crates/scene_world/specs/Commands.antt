@@ -29,14 +29,14 @@ and_then (Ok p) rest = rest p.0 p.1
 and_then (Err r) rest = Err r
 
 -- what a part of a world answers, as an answer of the world
-abbrev pub lifted : {A P : Type 0} → Outcome A P → (P → World) → Outcome A World
-lifted (Ok p) into = Ok (p.0, into p.1)
-lifted (Err r) into = Err r
+abbrev pub in_world : {A P : Type 0} → Outcome A P → (P → World) → Outcome A World
+in_world (Ok p) into = Ok (p.0, into p.1)
+in_world (Err r) into = Err r
 
 -- an outcome without its answer
-abbrev pub done : {A W : Type 0} → Outcome A W → Outcome (Unit {0}) W
-done (Ok p) = Ok (tt, p.1)
-done (Err r) = Err r
+abbrev pub without_answer : {A W : Type 0} → Outcome A W → Outcome (Unit {0}) W
+without_answer (Ok p) = Ok (tt, p.1)
+without_answer (Err r) = Err r
 
 -- what is done with the row of a live entity
 abbrev pub with_live : {A : Type 0} → Option (Home × Row) → (Home → Row → Outcome A World) → Outcome A World
@@ -68,19 +68,19 @@ abbrev pub new_cells : ℕ → List (ℕ × Value) → List (ℕ × Cell)
 new_cells tick [] = []
 new_cells tick (c ∷ cs) = with_cell (new_cells tick cs) c.0 (new_cell tick c.1)
 
-abbrev pub spawned : World → List (ℕ × Cell) → Outcome Entity SlotState → Outcome Entity World
-spawned w cells (Ok p) = Ok (p.0, record w { slots = p.1; tables = with_row w.tables (record { entity = p.0; cells = cells }) })
-spawned w cells (Err r) = Err r
+abbrev pub after_take : World → List (ℕ × Cell) → Outcome Entity SlotState → Outcome Entity World
+after_take w cells (Ok p) = Ok (p.0, record w { slots = p.1; tables = with_row w.tables (record { entity = p.0; cells = cells }) })
+after_take w cells (Err r) = Err r
 
 abbrev pub spawn : World → List (ℕ × Value) → Outcome Entity World
-spawn w cells = unless (spawn_fault w.schema cells) (spawned w (new_cells w.tick cells) (take_of w.slots))
+spawn w cells = unless (spawn_fault w.schema cells) (after_take w (new_cells w.tick cells) (take_of w.slots))
 
 -- Despawn: the row leaves its list, the slot is released, and the entity leaves its parent's list.
-abbrev pub gone : World → Home → Entity → World
-gone w h e = record w { slots = release_of w.slots e; tables = without_row w.tables h; children = cut w.children e }
+abbrev pub after_despawn : World → Home → Entity → World
+after_despawn w h e = record w { slots = release_of w.slots e; tables = without_row w.tables h; children = cut w.children e }
 
 abbrev pub despawn : World → Entity → Outcome (Unit {0}) World
-despawn w e = with_live (row_of w e) (λ h row. if is_some (map.get w.children e) then refuse HasChildren else Ok (tt, gone w h e))
+despawn w e = with_live (row_of w e) (λ h row. if is_some (map.get w.children e) then refuse HasChildren else Ok (tt, after_despawn w h e))
 
 -- Recursive despawn: the descendants in post-order, the list being made before the first of them goes.
 abbrev pub despawn_each : List Entity → World → Outcome (Unit {0}) World
@@ -91,13 +91,13 @@ abbrev pub despawn_recursive : World → Entity → Outcome (Unit {0}) World
 despawn_recursive w e = with_live (row_of w e) (λ h row. despawn_each (post w.children e) w)
 
 -- a row with other cells leaves its list, and goes last in the list of its new kind set
-abbrev pub moved : Tables → Home → Row → List (ℕ × Cell) → Tables
-moved tables h row cells = with_row (without_row tables h) (record { entity = row.entity; cells = cells })
+abbrev pub after_move : Tables → Home → Row → List (ℕ × Cell) → Tables
+after_move tables h row cells = with_row (without_row tables h) (record { entity = row.entity; cells = cells })
 
 -- Insert: a kind that is there is written in its place, and keeps its added tick; another one moves the row.
-abbrev pub inserted : ℕ → Tables → Home → Row → ℕ → Value → Option Cell → Tables
-inserted tick tables h row kind value None = moved tables h row (with_cell row.cells kind (new_cell tick value))
-inserted tick tables h row kind value (Some c) = with_row_at tables h (row_with_cell row kind (put_over (Some c) value tick))
+abbrev pub after_insert : ℕ → Tables → Home → Row → ℕ → Value → Option Cell → Tables
+after_insert tick tables h row kind value None = after_move tables h row (with_cell row.cells kind (new_cell tick value))
+after_insert tick tables h row kind value (Some c) = with_row_at tables h (row_with_cell row kind (put_over (Some c) value tick))
 
 abbrev pub insert_fault : Kinds → ℕ → Value → Option Fault
 insert_fault schema kind value =
@@ -107,7 +107,7 @@ insert_fault schema kind value =
 
 abbrev pub insert : World → Entity → ℕ → Value → Outcome (Unit {0}) World
 insert w e kind value = with_live (row_of w e) (λ h row. unless (insert_fault w.schema kind value)
-    (Ok (tt, record w { tables = inserted w.tick w.tables h row kind value (cell_of row.cells kind) })))
+    (Ok (tt, record w { tables = after_insert w.tick w.tables h row kind value (cell_of row.cells kind) })))
 
 -- Remove: the row moves, without the kind.
 abbrev pub remove_fault : Kinds → List (ℕ × Cell) → ℕ → Option Fault
@@ -118,7 +118,7 @@ remove_fault schema cells kind =
 
 abbrev pub remove : World → Entity → ℕ → Outcome (Unit {0}) World
 remove w e kind = with_live (row_of w e) (λ h row. unless (remove_fault w.schema row.cells kind)
-    (Ok (tt, record w { tables = moved w.tables h row (without_cell row.cells kind) })))
+    (Ok (tt, record w { tables = after_move w.tables h row (without_cell row.cells kind) })))
 
 -- Links change no row and no tick.
 abbrev pub with_children : World → Forest → World
@@ -126,10 +126,10 @@ with_children w forest = record w { children = forest }
 
 abbrev pub set_parent : World → Entity → Entity → Outcome (Unit {0}) World
 set_parent w child parent =
-    if is_live w child && is_live w parent then lifted (link_of w.children child parent) (with_children w) else refuse NoSuchEntity
+    if is_live w child && is_live w parent then in_world (link_of w.children child parent) (with_children w) else refuse NoSuchEntity
 
 abbrev pub remove_parent : World → Entity → Outcome (Unit {0}) World
-remove_parent w child = if is_live w child then done (lifted (unlink_of w.children child) (with_children w)) else refuse NoSuchEntity
+remove_parent w child = if is_live w child then without_answer (in_world (unlink_of w.children child) (with_children w)) else refuse NoSuchEntity
 
 -- Resources.
 abbrev pub with_resources : World → NamedCells → World
@@ -139,4 +139,4 @@ abbrev pub put_resource : World → List ℕ → Value → Outcome (Unit {0}) Wo
 put_resource w name value = if is_good_name name then Ok (tt, with_resources w (put_of w.resources name value w.tick)) else refuse BadName
 
 abbrev pub remove_resource : World → List ℕ → Outcome (Unit {0}) World
-remove_resource w name = done (lifted (taken_name w.resources name) (with_resources w))
+remove_resource w name = without_answer (in_world (taken_name w.resources name) (with_resources w))

@@ -14,7 +14,7 @@ use Rattle.scene_kinds.specs.declared.fault.Fault.TheVariants.{NoSuchEntity, Has
 use Rattle.scene_kinds.specs.Answers.{Outcome, refusal_of, refuse}
 use Rattle.scene_kinds.specs.Map as map
 use Rattle.scene_kinds.specs.Schema.{Kinds}
-use Rattle.scene_world.specs.World.{World, new_world, cell_at}
+use Rattle.scene_world.specs.World.{World, new_world, component_of}
 use Rattle.scene_world.specs.Commands.{and_then, raise_tick, spawn, despawn, despawn_recursive, insert, remove, set_parent, remove_parent, put_resource, remove_resource}
 use Rattle.scene_world.specs.Machine.{Machine, opening, submitted, undo, redo}
 
@@ -124,16 +124,16 @@ SpawnsGoLast = (ends three fresh).now ≡ after_three
 -- back the world before
 abbrev pub DespawnSwapsTheLastIn : Type 0
 DespawnSwapsTheLastIn =
-    let gone : Line = one (λ w. quiet (despawn w (ent 0 1))) in
-    ((ends (three ++ gone ∷ []) fresh).now ≡ world 4 (2 ∷ 1 ∷ 1 ∷ []) (0 ∷ []) ((1, (int_row (ent 2 1) 2 3 3, int_row (ent 1 1) 1 2 2 ∷ [])) ∷ []) tt)
-    × ((ends (three ++ gone ∷ back ∷ []) fresh).now ≡ after_three)
+    let after_despawn : Line = one (λ w. quiet (despawn w (ent 0 1))) in
+    ((ends (three ++ after_despawn ∷ []) fresh).now ≡ world 4 (2 ∷ 1 ∷ 1 ∷ []) (0 ∷ []) ((1, (int_row (ent 2 1) 2 3 3, int_row (ent 1 1) 1 2 2 ∷ [])) ∷ []) tt)
+    × ((ends (three ++ after_despawn ∷ back ∷ []) fresh).now ≡ after_three)
 
 -- the despawn of the last row
 abbrev pub DespawnOfTheLastRow : Type 0
 DespawnOfTheLastRow =
-    let gone : Line = one (λ w. quiet (despawn w (ent 2 1))) in
-    ((ends (three ++ gone ∷ []) fresh).now ≡ world 4 (1 ∷ 1 ∷ 2 ∷ []) (2 ∷ []) ((1, (int_row (ent 0 1) 0 1 1, int_row (ent 1 1) 1 2 2 ∷ [])) ∷ []) tt)
-    × ((ends (three ++ gone ∷ back ∷ []) fresh).now ≡ after_three)
+    let after_despawn : Line = one (λ w. quiet (despawn w (ent 2 1))) in
+    ((ends (three ++ after_despawn ∷ []) fresh).now ≡ world 4 (1 ∷ 1 ∷ 2 ∷ []) (2 ∷ []) ((1, (int_row (ent 0 1) 0 1 1, int_row (ent 1 1) 1 2 2 ∷ [])) ∷ []) tt)
+    × ((ends (three ++ after_despawn ∷ back ∷ []) fresh).now ≡ after_three)
 
 -- an insert of another kind moves the row to another table, and its removal moves it back, last; two undos give back the rows' order
 abbrev pub MovesGoLast : Type 0
@@ -209,8 +209,8 @@ RefusalsOfTheWorld =
     ∷ one (λ w. quiet (despawn w (ent 0 1))) ∷ [] in
     (replies (lines ++ one spawn_tag ∷ []) fresh
     ≡ told (ent 0 1 ∷ []) ∷ told (ent 1 1 ∷ []) ∷ told [] ∷ refused HasChildren ∷ refused NotPresent ∷ told [] ∷ refused NoParent ∷ told [] ∷ told (ent 0 2 ∷ []) ∷ [])
-    × (cell_at (ends lines fresh).now (ent 0 1) 1 ≡ Err (refusal_of NoSuchEntity))
-    × (cell_at (ends lines fresh).now (ent 1 1) 1 ≡ Ok (cell value.Tag 2 2))
+    × (component_of (ends lines fresh).now (ent 0 1) 1 ≡ Err (refusal_of NoSuchEntity))
+    × (component_of (ends lines fresh).now (ent 1 1) 1 ≡ Ok (cell value.Tag 2 2))
 
 -- the refusals of a spawn, in their order, and of a world that is full
 abbrev pub RefusalsOfSpawn : Type 0

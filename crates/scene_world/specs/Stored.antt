@@ -10,7 +10,7 @@ use Rattle.scene_links.specs.Forest.{Forest}
 use Rattle.scene_resources.specs.Resources.{NamedCells}
 use Rattle.scene_table.specs.Table.{TableState}
 use Rattle.scene_world.specs.declared.home.Home.{Home}
-use Rattle.scene_world.specs.World.{World, Tables, rows_at, row_at, row_of, with_rows, place_among}
+use Rattle.scene_world.specs.World.{World, Tables, rows_at, row_at, row_of, with_rows, row_place}
 use Rattle.scene_world.specs.Valid.{IsValid}
 
 -- the rows that the tables of the code hold; one without rows isn't seen, nor is room
@@ -19,8 +19,8 @@ tables_of [] = map.empty
 tables_of (t ∷ ts) = with_rows (tables_of ts) t.mask t.rows
 
 -- the parts of the code as a world
-abbrev pub seen : Kinds → SlotState → ℕ → List TableState → Forest → NamedCells → World
-seen schema slots tick ts children resources = record { schema = schema; slots = slots; tick = tick; tables = tables_of ts; children = children; resources = resources }
+abbrev pub world_of : Kinds → SlotState → ℕ → List TableState → Forest → NamedCells → World
+world_of schema slots tick ts children resources = record { schema = schema; slots = slots; tick = tick; tables = tables_of ts; children = children; resources = resources }
 
 -- i is the index of the first table of a kind set
 abbrev pub IsFirstOf : List TableState → ℕ → ℕ → Type 0
@@ -51,12 +51,12 @@ AreApart (t ∷ ts) = NoneHas t.mask ts × AreApart ts
 -- the first table that has a row of an entity, and its place there
 abbrev pub scan : Entity → List TableState → Option Home
 scan e [] = None
-scan e (t ∷ ts) = option_or (option_map (λ p. record { mask = t.mask; place = p }) (place_among e t.rows)) (scan e ts)
+scan e (t ∷ ts) = option_or (option_map (λ p. record { mask = t.mask; place = p }) (row_place e t.rows)) (scan e ts)
 
 -- what always holds of the parts of the code: kind sets are distinct, and the world that is seen is valid
 pub record IsSound (schema : Kinds) (slots : SlotState) (tick : ℕ) (ts : List TableState) (children : Forest) (resources : NamedCells) : Type 0 where
   pub apart : AreApart ts
-  pub valid : IsValid (seen schema slots tick ts children resources)
+  pub valid : IsValid (world_of schema slots tick ts children resources)
 
 -- where the row of a live entity stands, with the row
 pub record IsHomeOf (w : World) (e : Entity) (h : Home) : Type 0 where

@@ -58,13 +58,13 @@ abbrev pub with_row_at : Tables → Home → Row → Tables
 with_row_at tables h row = with_rows tables h.mask (slice_set (rows_at tables h.mask) h.place row)
 
 -- the place of an entity's row in a list
-abbrev pub place_among : Entity → List Row → Option ℕ
-place_among e rows = position_from (λ r. is_same r.entity e) 0 rows
+abbrev pub row_place : Entity → List Row → Option ℕ
+row_place e rows = position_from (λ r. is_same r.entity e) 0 rows
 
 -- the first home of an entity over kind sets with rows
 abbrev pub home_in : Entity → List (ℕ × (Row × List Row)) → Option Home
 home_in e [] = None
-home_in e (t ∷ ts) = option_or (option_map (λ p. record { mask = t.0; place = p }) (place_among e (whole t.1))) (home_in e ts)
+home_in e (t ∷ ts) = option_or (option_map (λ p. record { mask = t.0; place = p }) (row_place e (whole t.1))) (home_in e ts)
 
 -- where the row of an entity stands; it is alive where there is such a home
 abbrev pub home_of : World → Entity → Option Home
@@ -109,12 +109,12 @@ abbrev pub present : Option Cell → Result Cell Refusal
 present None = Err (refusal_of NotPresent)
 present (Some cell) = Ok cell
 
-abbrev pub cell_in : Kinds → ℕ → Option (Home × Row) → Result Cell Refusal
-cell_in schema kind None = Err (refusal_of NoSuchEntity)
-cell_in schema kind (Some p) = if is_unknown schema kind then Err (refusal_of NoSuchKind) else present (cell_of p.1.cells kind)
+abbrev pub component_in : Kinds → ℕ → Option (Home × Row) → Result Cell Refusal
+component_in schema kind None = Err (refusal_of NoSuchEntity)
+component_in schema kind (Some p) = if is_unknown schema kind then Err (refusal_of NoSuchKind) else present (cell_of p.1.cells kind)
 
-abbrev pub cell_at : World → Entity → ℕ → Result Cell Refusal
-cell_at w e kind = cell_in w.schema kind (row_of w e)
+abbrev pub component_of : World → Entity → ℕ → Result Cell Refusal
+component_of w e kind = component_in w.schema kind (row_of w e)
 
 -- a world without entities
 abbrev pub new_world : Kinds → ℕ → World

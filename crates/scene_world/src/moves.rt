@@ -3,7 +3,7 @@ ghost use Rattle.std.specs.Prelude.{◌≡◌, ◌<◌, ℕ, length, Some, OnOk,
 ghost use Rattle.scene_kinds.specs.Cells.{HasKinds, AreKindsBelow, cell_of, with_cell, without_cell, mask_of};
 ghost use Rattle.scene_kinds.specs.declared.cells.Row.{Row};
 ghost use Rattle.scene_world.specs.World.{rows_at, row_at};
-ghost use Rattle.scene_world.specs.Commands.{moved, inserted};
+ghost use Rattle.scene_world.specs.Commands.{after_move, after_insert};
 ghost use Rattle.scene_world.specs.Stored.{tables_of, AreApart};
 
 use crate::home::Home;
@@ -25,7 +25,7 @@ pub(crate) fn move_with(
 ) -> Result<(), AllocError>
     requires within { home.place < length (rows_at (tables_of tables.old.items) home.mask) }
     requires kinds { (row : Row) → row_at (tables_of tables.old.items) home ≡ Some row → to ≡ mask_of (with_cell row.cells kind cell) }
-    ensures ok { OnOk result ((row : Row) → row_at (tables_of tables.old.items) home ≡ Some row → tables_of tables.new.items ≡ moved (tables_of tables.old.items) home row (with_cell row.cells kind cell)) }
+    ensures ok { OnOk result ((row : Row) → row_at (tables_of tables.old.items) home ≡ Some row → tables_of tables.new.items ≡ after_move (tables_of tables.old.items) home row (with_cell row.cells kind cell)) }
     ensures err { OnErr result (tables_of tables.new.items ≡ tables_of tables.old.items) }
     ensures apart { AreApart tables.old.items → AreApart tables.new.items }
 {
@@ -50,7 +50,7 @@ pub(crate) fn move_without(
 ) -> Result<(), AllocError>
     requires within { home.place < length (rows_at (tables_of tables.old.items) home.mask) }
     requires kinds { (row : Row) → row_at (tables_of tables.old.items) home ≡ Some row → to ≡ mask_of (without_cell row.cells kind) }
-    ensures ok { OnOk result ((row : Row) → row_at (tables_of tables.old.items) home ≡ Some row → tables_of tables.new.items ≡ moved (tables_of tables.old.items) home row (without_cell row.cells kind)) }
+    ensures ok { OnOk result ((row : Row) → row_at (tables_of tables.old.items) home ≡ Some row → tables_of tables.new.items ≡ after_move (tables_of tables.old.items) home row (without_cell row.cells kind)) }
     ensures err { OnErr result (tables_of tables.new.items ≡ tables_of tables.old.items) }
     ensures apart { AreApart tables.old.items → AreApart tables.new.items }
 {
@@ -76,7 +76,7 @@ pub(crate) fn insert_at(
     requires within { home.place < length (rows_at (tables_of tables.old.items) home.mask) }
     requires kinds { (row : Row) → row_at (tables_of tables.old.items) home ≡ Some row → HasKinds home.mask row }
     requires low { kind < 64 }
-    ensures ok { OnOk result ((row : Row) → row_at (tables_of tables.old.items) home ≡ Some row → tables_of tables.new.items ≡ inserted tick (tables_of tables.old.items) home row kind value (cell_of row.cells kind)) }
+    ensures ok { OnOk result ((row : Row) → row_at (tables_of tables.old.items) home ≡ Some row → tables_of tables.new.items ≡ after_insert tick (tables_of tables.old.items) home row kind value (cell_of row.cells kind)) }
     ensures err { OnErr result (tables_of tables.new.items ≡ tables_of tables.old.items) }
     ensures apart { AreApart tables.old.items → AreApart tables.new.items }
 {
@@ -114,7 +114,7 @@ pub(crate) fn remove_at(
     requires within { home.place < length (rows_at (tables_of tables.old.items) home.mask) }
     requires kinds { (row : Row) → row_at (tables_of tables.old.items) home ≡ Some row → HasKinds home.mask row × AreKindsBelow 64 row.cells }
     requires low { kind < 64 }
-    ensures ok { OnOk result ((row : Row) → row_at (tables_of tables.old.items) home ≡ Some row → tables_of tables.new.items ≡ moved (tables_of tables.old.items) home row (without_cell row.cells kind)) }
+    ensures ok { OnOk result ((row : Row) → row_at (tables_of tables.old.items) home ≡ Some row → tables_of tables.new.items ≡ after_move (tables_of tables.old.items) home row (without_cell row.cells kind)) }
     ensures err { OnErr result (tables_of tables.new.items ≡ tables_of tables.old.items) }
     ensures apart { AreApart tables.old.items → AreApart tables.new.items }
 {

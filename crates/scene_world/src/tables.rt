@@ -7,7 +7,7 @@ ghost use Rattle.scene_kinds.specs.Cells.{HasKinds, mask_of, shown};
 ghost use Rattle.scene_kinds.specs.Lists.{whole};
 ghost use Rattle.scene_kinds.specs.Map as map;
 ghost use Rattle.scene_table.specs.Table.{cell_at, rows_with_cell};
-ghost use Rattle.scene_world.specs.World.{rows_at, row_at, with_rows, with_row, without_row, place_among};
+ghost use Rattle.scene_world.specs.World.{rows_at, row_at, with_rows, with_row, without_row, row_place};
 ghost use Rattle.scene_world.specs.Stored.{tables_of, StandsAt, HasRoomAt, AreApart, scan};
 
 use crate::home::Home;
@@ -24,7 +24,7 @@ pub(crate) fn find_table(tables: &[Table], mask: u64) -> Option<usize>
 
 /// The place of an entity's row.
 fn find_place(rows: &[Row], entity: Entity) -> Option<usize>
-    ensures { result ≡ place_among entity rows.now }
+    ensures { result ≡ row_place entity rows.now }
 {
     rows.iter().position(|row| row.entity == entity)
 }

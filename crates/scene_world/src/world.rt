@@ -2,7 +2,7 @@
 ghost use Rattle.std.specs.Prelude.{◌≡◌, ◌≤◌, MatchResult, IfOk, IfSome, Ok, Err, option_map, map as each};
 ghost use Rattle.scene_kinds.specs.Answers.{Gives};
 ghost use Rattle.scene_kinds.specs.Cells.{shown};
-ghost use Rattle.scene_world.specs.World.{new_world, is_live, mask_at, home_of, cell_at, place_at, rows_at, rows_of, kind_sets};
+ghost use Rattle.scene_world.specs.World.{new_world, is_live, mask_at, home_of, component_of, place_at, rows_at, rows_of, kind_sets};
 ghost use Rattle.scene_world.specs.Commands.{raise_tick};
 ghost use Rattle.scene_world.specs.Stored.{IsHomeOf};
 ghost use Rattle.scene_world.specs.Valid.{IsValid};
@@ -63,9 +63,9 @@ impl Model for World {
 
     ghost coded = { Prim.hlevel (codes, shape.the_row.coded, map.code {R = nat_cmp} coded_ℕ (coded× row.the_row.coded (coded_list row.the_row.coded)), map.code {R = entity_cmp} entity.the_row.coded (coded× entity.the_row.coded (coded_list entity.the_row.coded)), map.code {R = name_cmp} (coded_list coded_ℕ) cell.the_row.coded) };
 
-    ghost use Rattle.scene_world.specs.Stored.{seen, IsSound};
+    ghost use Rattle.scene_world.specs.Stored.{world_of, IsSound};
 
-    ghost view = { λ w. seen w.schema w.slots w.tick w.tables.items w.links w.resources };
+    ghost view = { λ w. world_of w.schema w.slots w.tick w.tables.items w.links w.resources };
 
     ghost invariant = { λ w. IsSound w.schema w.slots w.tick w.tables.items w.links w.resources };
 }
@@ -168,7 +168,7 @@ impl World {
     /// Refused, in this order: `NoSuchEntity` where the entity isn't alive; `NoSuchKind`; `NotPresent` where the
     /// entity doesn't have the kind. It takes no memory.
     pub fn get(&self, entity: Entity, kind: u8) -> Result<CellRef<'_>, Refusal>
-        ensures { MatchResult result (λ r. cell_at self.now entity kind ≡ Ok (shown r)) (λ r. cell_at self.now entity kind ≡ Err r) }
+        ensures { MatchResult result (λ r. component_of self.now entity kind ≡ Ok (shown r)) (λ r. component_of self.now entity kind ≡ Err r) }
     {
         let Some(home) = self.home_of(entity) else {
             return Err(Refusal::from(Fault::NoSuchEntity));

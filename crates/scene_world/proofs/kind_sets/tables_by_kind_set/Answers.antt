@@ -22,20 +22,20 @@ unfolding shown
 rows_shown bs = map-map (λ (t : TableState). t.rows) (λ (b : Bor TableState). b.now) bs
 
 -- references that were moved show the same tables
-moved : (ts : List TableState) (bs cs : List (Bor TableState)) → each (λ b. b.now) bs ≡ with_some ts → IsPermutation bs cs → IsPermutation (with_some ts) (shown cs)
+after_move : (ts : List TableState) (bs cs : List (Bor TableState)) → each (λ b. b.now) bs ≡ with_some ts → IsPermutation bs cs → IsPermutation (with_some ts) (shown cs)
 unfolding shown
-moved ts bs cs is h = subst (λ us. IsPermutation us (each (λ b. b.now) cs)) is (IsPermutation-map (λ (b : Bor TableState). b.now) bs cs h)
+after_move ts bs cs is h = subst (λ us. IsPermutation us (each (λ b. b.now) cs)) is (IsPermutation-map (λ (b : Bor TableState). b.now) bs cs h)
 
 pub returns-clause-masks : goal.returns-clause-masks
 returns-clause-masks c =
     let sorted = IsNonDecreasingBy-from_sort_by_key (λ b. b.now.mask) _ c.in_ok-sort_by_key.ensures.sorted (λ a r q k. search rules) in
     sym (masks_shown c.sort_by_key.new.self.items)
     ∙ sorted_masks c.args.tables.now (shown c.sort_by_key.new.self.items) c.requires
-    (moved c.args.tables.now _ _ (c.loop-table.invariant ∙ ap with_some (take_all c.loop-table.table-index c.args.tables.now c.loop-table-test.false)) c.sort_by_key.ensures.permutation)
+    (after_move c.args.tables.now _ _ (c.loop-table.invariant ∙ ap with_some (take_all c.loop-table.table-index c.args.tables.now c.loop-table-test.false)) c.sort_by_key.ensures.permutation)
     (subst IsNonDecreasing (sym (masks_shown c.sort_by_key.new.self.items)) (numbers_in_order (λ b. b.now.mask) c.sort_by_key.new.self.items sorted))
 
 pub returns-clause-rows : goal.returns-clause-rows
 returns-clause-rows c =
-    let same = moved c.args.tables.now _ _ (c.loop-table.invariant ∙ ap with_some (take_all c.loop-table.table-index c.args.tables.now c.loop-table-test.false)) c.sort_by_key.ensures.permutation in
+    let same = after_move c.args.tables.now _ _ (c.loop-table.invariant ∙ ap with_some (take_all c.loop-table.table-index c.args.tables.now c.loop-table-test.false)) c.sort_by_key.ensures.permutation in
     sym (rows_shown c.sort_by_key.new.self.items) ∙ (rows_seen c.args.tables.now (shown c.sort_by_key.new.self.items) c.requires same
     ∙ ap (each (rows_at (tables_of c.args.tables.now))) (masks_shown c.sort_by_key.new.self.items ∙ returns-clause-masks c))

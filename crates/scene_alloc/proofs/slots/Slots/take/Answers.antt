@@ -12,8 +12,8 @@ invariant_of-self c =
       room = omega (arith, c.self.invariant.room, c.pop.ensures.capacity);
     }
 
-pub returns-in-Some : goal.returns-in-Some
-returns-in-Some c =
+pub returns-in-Some-clause-answer : goal.returns-in-Some-clause-answer
+returns-in-Some-clause-answer c =
     let s : SlotState = record { limit = c.self.inside.limit; generations = c.self.inside.generations.items; free = c.self.inside.free.items } in
     let read : c.index-generation.result.now ≡ slice_index c.self.inside.generations.items c.in-Some.index = grind (arith, elements, c.index-generation.ensures, c.in-Some.ensures.items, c.self.invariant.sound.in_range) in
     ap take_of (sym c.self.view_is) ∙ take-pop s c.pop.new.self.items c.in-Some.index c.index-generation.result.now c.in-Some.ensures.items read

@@ -1,7 +1,7 @@
 use Rattle.std.proofs.Common.{sym, subst, refl}
 use Rattle.scene_kinds.specs.Cells.{cell_of}
 use Rattle.scene_world.specs.World.{World, Tables}
-use Rattle.scene_world.specs.Stored.{seen, IsHomeOf}
+use Rattle.scene_world.specs.Stored.{world_of, IsHomeOf}
 use Rattle.scene_world.specs.Valid.{IsValid}
 use Rattle.scene_world.proofs.MoveKeeps.{with_tables, insert_made}
 use Rattle.scene_world.proofs.NewCells.{insert_tests}
@@ -13,7 +13,7 @@ insert_at-requires-clause-kinds c = λ row at. (c.self.invariant.valid.rows.each
 pub invariant_of-self-2 : goal.invariant_of-self-2
 invariant_of-self-2 c =
     let w = c.self.inside in
-    let old : World = seen w.schema w.slots w.tick w.tables.items w.links w.resources in
+    let old : World = world_of w.schema w.slots w.tick w.tables.items w.links w.resources in
     let home : IsHomeOf old c.args.entity c.in-Some.home = subst (λ (v : World). IsHomeOf v c.args.entity c.in-Some.home) (sym c.self.view_is) c.in-Some.ensures.row in
     let made = c.in_ok-insert_at.ensures in
     let tests = insert_tests w.schema c.args.kind c.args.value (sym c.in_default-insert_fault.ensures) in

@@ -1,6 +1,6 @@
 use Rattle.std.proofs.Common.{sym, subst}
 use Rattle.scene_world.specs.World.{World, Tables}
-use Rattle.scene_world.specs.Stored.{seen, IsHomeOf}
+use Rattle.scene_world.specs.Stored.{world_of, IsHomeOf}
 use Rattle.scene_world.specs.Valid.{IsValid}
 use Rattle.scene_world.proofs.RowKinds.{row_kinds_low}
 use Rattle.scene_world.proofs.MoveKeeps.{with_tables, remove_made}
@@ -14,7 +14,7 @@ remove_at-requires-clause-kinds c = λ row at.
 pub invariant_of-self-2 : goal.invariant_of-self-2
 invariant_of-self-2 c =
     let w = c.self.inside in
-    let old : World = seen w.schema w.slots w.tick w.tables.items w.links w.resources in
+    let old : World = world_of w.schema w.slots w.tick w.tables.items w.links w.resources in
     let home : IsHomeOf old c.args.entity c.in-Some.home = subst (λ (v : World). IsHomeOf v c.args.entity c.in-Some.home) (sym c.self.view_is) c.in-Some.ensures.row in
     let made = c.in_ok-remove_at.ensures in
     record {

@@ -1,6 +1,6 @@
 use Rattle.std.proofs.Common.{◌≡◌, ◌∙◌, ap, sym, true, false}
 use Rattle.scene_world.specs.World.{World, is_live}
-use Rattle.scene_world.specs.Stored.{seen}
+use Rattle.scene_world.specs.Stored.{world_of}
 use Rattle.scene_world.proofs.LinkKeeps.{link_answered}
 use Rattle.scene_world.proofs.world.World.set_parent.Goals.{then-is_alive, else-is_alive}
 use Rattle.scene_world.proofs.world.World.set_parent.Goals as goal
@@ -14,7 +14,7 @@ both_live c = elim c.if-is_alive.branch [
 pub invariant_of-self : goal.invariant_of-self
 invariant_of-self c =
     let w = c.self.inside in
-    let old : World = seen w.schema w.slots w.tick w.tables.items w.links w.resources in
+    let old : World = world_of w.schema w.slots w.tick w.tables.items w.links w.resources in
     let live = both_live c in
     record {
       apart = c.self.invariant.apart;
