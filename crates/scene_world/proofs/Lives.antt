@@ -13,10 +13,10 @@ pub lives_added : (t : Tables) (row : Row) (e : Entity) → lives t e ≡ true �
 lives_added t row e l = let h = here_live t e l in live_here (with_row t row) e h.0 h.1.row (added_stays t row h.0 h.1.row h.1.there) h.1.same
 
 -- everybody but the entity whose row was taken out lives on
-pub lives_removed : (t : Tables) (h : Home) (after_despawn : Row) (e : Entity) → row_at t h ≡ Some after_despawn → (after_despawn.entity ≡ e → ⊥) → lives t e ≡ true → lives (without_row t h) e ≡ true
-lives_removed t h after_despawn e at ne l =
+pub lives_removed : (t : Tables) (h : Home) (gone : Row) (e : Entity) → row_at t h ≡ Some gone → (gone.entity ≡ e → ⊥) → lives t e ≡ true → lives (without_row t h) e ≡ true
+lives_removed t h gone e at ne l =
     let g = here_live t e l in
-    let k = removed_stays t h after_despawn g.0 g.1.row at (λ s. ne (ap (λ (r : Row). r.entity) (same_Some after_despawn g.1.row (sym at ∙ ap (row_at t) (sym s) ∙ g.1.there)) ∙ g.1.same)) g.1.there in
+    let k = removed_stays t h gone g.0 g.1.row at (λ s. ne (ap (λ (r : Row). r.entity) (same_Some gone g.1.row (sym at ∙ ap (row_at t) (sym s) ∙ g.1.there)) ∙ g.1.same)) g.1.there in
     live_here (without_row t h) e k.0 g.1.row k.1 g.1.same
 
 pub lives_rewritten : (t : Tables) (h : Home) (was row : Row) (e : Entity) → row_at t h ≡ Some was → row.entity ≡ was.entity → lives t e ≡ true → lives (with_row_at t h row) e ≡ true

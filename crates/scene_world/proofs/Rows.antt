@@ -99,32 +99,32 @@ once_added t row once nowhere = λ a b r s p q e.
 -- ---- a row taken out
 
 -- a row that stands after one was taken out stood before: in its place, or last in the list of the one that left
-pub removed : (P : Type 0) (t : Tables) (h : Home) (after_despawn : Row) (g : Home) (r : Row) → row_at t h ≡ Some after_despawn → row_at (without_row t h) g ≡ Some r
+pub removed : (P : Type 0) (t : Tables) (h : Home) (gone : Row) (g : Home) (r : Row) → row_at t h ≡ Some gone → row_at (without_row t h) g ≡ Some r
     → (g.mask ≡ h.mask → g.place ≡ h.place → (q : ℕ) → suc q ≡ length (rows_at t h.mask) → g.place < q → row_at t (record { mask = h.mask; place = q }) ≡ Some r → P)
     → ((g ≡ h → ⊥) → (g.mask ≡ h.mask → suc g.place < length (rows_at t h.mask)) → row_at t g ≡ Some r → P) → P
-removed P t h after_despawn g r at is last old =
+removed P t h gone g r at is last old =
     written_rows P t h.mask (swap_out (rows_at t h.mask) h.place) g r is
-    (λ e k. swapped P (rows_at t h.mask) h.place g.place r (slice_get_within (rows_at t h.mask) h.place after_despawn at) k
+    (λ e k. swapped P (rows_at t h.mask) h.place g.place r (slice_get_within (rows_at t h.mask) h.place gone at) k
     (λ f q l m n. last e f q l m n)
     (λ ne m n. old (λ s. ne (ap (λ x. x.place) s)) (λ u. m) (from_list t h.mask g r e n)))
     (λ ne k. old (λ s. ne (ap (λ x. x.mask) s)) (λ u. absurd (ne u)) k)
 
-pub each_removed : (P : ℕ → Row → Type 0) (t : Tables) (h : Home) (after_despawn : Row) → row_at t h ≡ Some after_despawn → EachRow P t → EachRow P (without_row t h)
-each_removed P t h after_despawn at each = λ g r is. removed (P g.mask r) t h after_despawn g r at is
+pub each_removed : (P : ℕ → Row → Type 0) (t : Tables) (h : Home) (gone : Row) → row_at t h ≡ Some gone → EachRow P t → EachRow P (without_row t h)
+each_removed P t h gone at each = λ g r is. removed (P g.mask r) t h gone g r at is
     (λ e f q l m n. subst (λ (k : ℕ). P k r) (sym e) (each (record { mask = h.mask; place = q }) r n))
     (λ ne m n. each g r n)
 
-pub once_removed : (t : Tables) (h : Home) (after_despawn : Row) → row_at t h ≡ Some after_despawn → StandsOnce t → StandsOnce (without_row t h)
-once_removed t h after_despawn at once = λ a b r s p q e.
-    removed (a ≡ b) t h after_despawn a r at p
-    (λ m f i l n k. removed (a ≡ b) t h after_despawn b s at q
+pub once_removed : (t : Tables) (h : Home) (gone : Row) → row_at t h ≡ Some gone → StandsOnce t → StandsOnce (without_row t h)
+once_removed t h gone at once = λ a b r s p q e.
+    removed (a ≡ b) t h gone a r at p
+    (λ m f i l n k. removed (a ≡ b) t h gone b s at q
     (λ m' f' i' l' n' k'. same_home a b (m ∙ sym m') (f ∙ sym f'))
     (λ ne n' k'.
     let u = once (record { mask = h.mask; place = i }) b r s k k' e in
     let v : i ≡ b.place = ap (λ x. x.place) u in
     let w : suc b.place < length (rows_at t h.mask) = n' (ap (λ x. x.mask) (sym u)) in
     absurd (omega arith)))
-    (λ ne n k. removed (a ≡ b) t h after_despawn b s at q
+    (λ ne n k. removed (a ≡ b) t h gone b s at q
     (λ m' f' i' l' n' k'.
     let u = once a (record { mask = h.mask; place = i' }) r s k k' e in
     let v : a.place ≡ i' = ap (λ x. x.place) u in
@@ -133,22 +133,22 @@ once_removed t h after_despawn at once = λ a b r s p q e.
     (λ ne' n' k'. once a b r s k k' e))
 
 -- an entity whose row was taken out stands nowhere
-pub removed_nowhere : (t : Tables) (h : Home) (after_despawn : Row) → row_at t h ≡ Some after_despawn → StandsOnce t → StandsNowhere after_despawn.entity (without_row t h)
-removed_nowhere t h after_despawn at once = λ g r is e.
-    removed ⊥ t h after_despawn g r at is
+pub removed_nowhere : (t : Tables) (h : Home) (gone : Row) → row_at t h ≡ Some gone → StandsOnce t → StandsNowhere gone.entity (without_row t h)
+removed_nowhere t h gone at once = λ g r is e.
+    removed ⊥ t h gone g r at is
     (λ m f q l n k.
-    let u = once (record { mask = h.mask; place = q }) h r after_despawn k at e in
+    let u = once (record { mask = h.mask; place = q }) h r gone k at e in
     let v : q ≡ h.place = ap (λ x. x.place) u in
     omega arith)
-    (λ ne n k. ne (once g h r after_despawn k at e))
+    (λ ne n k. ne (once g h r gone k at e))
 
 -- another row stands somewhere after one was taken out
-pub removed_stays : (t : Tables) (h : Home) (after_despawn : Row) (g : Home) (r : Row) → row_at t h ≡ Some after_despawn → (g ≡ h → ⊥) → row_at t g ≡ Some r → (k : Home) × (row_at (without_row t h) k ≡ Some r)
-removed_stays t h after_despawn g r at ne is =
+pub removed_stays : (t : Tables) (h : Home) (gone : Row) (g : Home) (r : Row) → row_at t h ≡ Some gone → (g ≡ h → ⊥) → row_at t g ≡ Some r → (k : Home) × (row_at (without_row t h) k ≡ Some r)
+removed_stays t h gone g r at ne is =
     elim (eq_by_cmp nat_cmp g.mask h.mask) as (λ b. eq_by_cmp nat_cmp g.mask h.mask ≡ b → (k : Home) × (row_at (without_row t h) k ≡ Some r)) [
       | true ↦ λ e.
           let s = equal_keys nat_cmp-IsAntisymmetric g.mask h.mask e in
-          let k = swapped_stays (rows_at t h.mask) h.place g.place r (slice_get_within (rows_at t h.mask) h.place after_despawn at) (λ f. ne (same_home g h s f)) (in_list t h.mask g r s is) in
+          let k = swapped_stays (rows_at t h.mask) h.place g.place r (slice_get_within (rows_at t h.mask) h.place gone at) (λ f. ne (same_home g h s f)) (in_list t h.mask g r s is) in
           (record { mask = h.mask; place = k.0 }, there_written t h.mask (swap_out (rows_at t h.mask) h.place) (record { mask = h.mask; place = k.0 }) r refl k.1)
       | false ↦ λ e. (g, there_apart t h.mask (swap_out (rows_at t h.mask) h.place) g r (apart _ h.mask e) is)
     ] refl
