@@ -3,6 +3,7 @@ pub mod CommandKeeps
 pub mod Copies
 pub mod DespawnEach
 pub mod DespawnKeeps
+pub mod FrameKeeps
 pub mod Homes
 pub mod RowKinds
 pub mod KindSets

@@ -90,6 +90,10 @@ despawn_each (e ∷ es) w = and_then (despawn w e) (λ a v. despawn_each es v)
 abbrev pub despawn_recursive : World → Entity → Outcome (Unit {0}) World
 despawn_recursive w e = with_live (row_of w e) (λ h row. despawn_each (post w.children e) w)
 
+-- the same of an entity that lives; a dead one is passed over
+abbrev pub despawn_recursive_if_alive : World → Entity → Outcome (Unit {0}) World
+despawn_recursive_if_alive w e = if is_live w e then despawn_recursive w e else Ok (tt, w)
+
 -- a row with other cells leaves its list, and goes last in the list of its new kind set
 abbrev pub after_move : Tables → Home → Row → List (ℕ × Cell) → Tables
 after_move tables h row cells = with_row (without_row tables h) (record { entity = row.entity; cells = cells })

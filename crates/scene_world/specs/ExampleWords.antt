@@ -36,8 +36,13 @@ schema = ((65 ∷ []), shape.Int) ∷ ((84 ∷ []), shape.Tag) ∷ []
 -- a world of that schema with at most 100 slots, with its tables, without links and resources
 abbrev pub world : ℕ → List ℕ → List ℕ → (ts : List (ℕ × (Row × List Row))) → T (is_sorted nat_cmp ts) → World
 world tick generations free ts rising = record {
-    schema = schema; slots = record { limit = 100; generations = generations; free = free };
-    tick = tick; tables = map.of ts rising; children = map.empty; resources = map.empty }
+  schema = schema;
+  slots = record { limit = 100; generations = generations; free = free };
+  tick = tick;
+  tables = map.of ts rising;
+  children = map.empty;
+  resources = map.empty;
+}
 
 abbrev pub fresh : Machine World
 fresh = opening (new_world schema 100)

@@ -6,9 +6,9 @@ use Rattle.scene_kinds.specs.Answers.{refusal_of, refuse}
 use Rattle.scene_kinds.specs.Map as map
 use Rattle.scene_world.specs.World.{World, new_world, component_of}
 use Rattle.scene_world.specs.Commands.{highest_tick, spawn}
-use Rattle.scene_world.specs.Perform.{Despawn, DespawnRecursive, Insert, Remove, SetParent, RemoveParent, PutResource, RemoveResource}
+use Rattle.scene_world.specs.Perform.{Despawn, DespawnRecursive, DespawnRecursiveIfAlive, Insert, Remove, SetParent, RemoveParent, PutResource, RemoveResource}
 use Rattle.scene_world.specs.Machine.{Machine, opening}
-use Rattle.scene_world.specs.Frame.{Call, Submit, Undo, Redo, step, after_calls, replies, refused_at}
+use Rattle.scene_world.specs.Frame.{known, Call, Submit, Undo, Redo, step, after_calls, replies, refused_at}
 use Rattle.scene_world.specs.ExampleWords.{ent, cell, int, schema, world, fresh, int_row, tag_row, spawn_int, spawn_tag, local, frame_of, one, only, empty_frame, ends, made, done, refused, refused_first}
 
 -- undo and redo of an empty world are refused, and change nothing
@@ -112,6 +112,14 @@ RecursiveDespawnComesBack =
     × (replies fresh calls ≡ made (ent 0 1 ∷ ent 1 1 ∷ ent 2 1 ∷ []) ∷ done ∷ made (ent 0 2 ∷ []) ∷ [])
     × (ends (calls ++ Undo ∷ Undo ∷ []) ≡ family)
 
+-- in one frame an entity goes and a spawn reuses its index; a recursive despawn that passes over the dead does nothing then
+abbrev pub DeadArePassedOver : Type 0
+DeadArePassedOver =
+    let calls : List Call =
+    one spawn_tag ∷ frame_of (known (Despawn (ent 0 1)) ∷ known (DespawnRecursiveIfAlive (ent 0 1)) ∷ spawn_tag ∷ []) ∷ [] in
+    (replies fresh (calls ++ only (DespawnRecursive (ent 0 1)) ∷ []) ≡ made (ent 0 1 ∷ []) ∷ made (ent 0 2 ∷ []) ∷ refused_first NoSuchEntity ∷ [])
+    × (ends calls ≡ world 2 (2 ∷ []) [] ((2, (tag_row (ent 0 2) 2, [])) ∷ []) tt)
+
 -- a child goes last in its new parent's list, also where that is its old one; an entity is no parent of itself or of its ancestor
 abbrev pub three_tags : World
 three_tags = world 3 (1 ∷ 1 ∷ 1 ∷ []) [] ((2, (tag_row (ent 0 1) 1, tag_row (ent 1 1) 2 ∷ tag_row (ent 2 1) 3 ∷ [])) ∷ []) tt
@@ -120,9 +128,9 @@ abbrev pub ParentsInOrder : Type 0
 ParentsInOrder =
     let spawns : List Call = one spawn_tag ∷ one spawn_tag ∷ one spawn_tag ∷ [] in
     let links : List Call =
-        only (SetParent (ent 1 1) (ent 0 1)) ∷ only (SetParent (ent 2 1) (ent 1 1))
-        ∷ only (SetParent (ent 0 1) (ent 2 1)) ∷ only (SetParent (ent 0 1) (ent 0 1))
-        ∷ only (SetParent (ent 2 1) (ent 0 1)) ∷ only (SetParent (ent 1 1) (ent 0 1)) ∷ [] in
+    only (SetParent (ent 1 1) (ent 0 1)) ∷ only (SetParent (ent 2 1) (ent 1 1))
+    ∷ only (SetParent (ent 0 1) (ent 2 1)) ∷ only (SetParent (ent 0 1) (ent 0 1))
+    ∷ only (SetParent (ent 2 1) (ent 0 1)) ∷ only (SetParent (ent 1 1) (ent 0 1)) ∷ [] in
     (replies (after_calls fresh spawns) links ≡ done ∷ done ∷ refused_first Cycle ∷ refused_first SelfParent ∷ done ∷ done ∷ [])
     × (ends (spawns ++ links) ≡ record three_tags { tick = 7; children = map.of ((ent 0 1, (ent 2 1, ent 1 1 ∷ [])) ∷ []) tt })
     × (ends (spawns ++ links ++ Undo ∷ []) ≡ record three_tags { tick = 6; children = map.of ((ent 0 1, (ent 1 1, ent 2 1 ∷ [])) ∷ []) tt })
@@ -145,10 +153,10 @@ abbrev pub RefusalsOfTheWorld : Type 0
 RefusalsOfTheWorld =
     let linked : List Call = one spawn_tag ∷ one spawn_tag ∷ only (SetParent (ent 1 1) (ent 0 1)) ∷ [] in
     let calls : List Call =
-        only (Despawn (ent 0 1)) ∷ only (Remove (ent 1 1) 0) ∷ only (RemoveParent (ent 1 1))
-        ∷ only (RemoveParent (ent 1 1)) ∷ only (Despawn (ent 0 1)) ∷ [] in
+    only (Despawn (ent 0 1)) ∷ only (Remove (ent 1 1) 0) ∷ only (RemoveParent (ent 1 1))
+    ∷ only (RemoveParent (ent 1 1)) ∷ only (Despawn (ent 0 1)) ∷ [] in
     (replies (after_calls fresh linked) (calls ++ one spawn_tag ∷ [])
-        ≡ refused_first HasChildren ∷ refused_first NotPresent ∷ done ∷ refused_first NoParent ∷ done ∷ made (ent 0 2 ∷ []) ∷ [])
+    ≡ refused_first HasChildren ∷ refused_first NotPresent ∷ done ∷ refused_first NoParent ∷ done ∷ made (ent 0 2 ∷ []) ∷ [])
     × (component_of (ends (linked ++ calls)) (ent 0 1) 1 ≡ Err (refusal_of NoSuchEntity))
     × (component_of (ends (linked ++ calls)) (ent 1 1) 1 ≡ Ok (cell value.Tag 2 2))
 

@@ -1,4 +1,4 @@
--- The nine commands as one type, and what each of them does to a world.
+-- The commands as one type, and what each of them does to a world: the nine of a world, and the one that passes over a dead entity.
 use Rattle.std.specs.Prelude.{ℕ, List, Bool, true, Option, Some, None, Ok, Err}
 use Rattle.std.specs.List.{list_all}
 use Rattle.scene_kinds.specs.declared.entity.Entity.{Entity}
@@ -6,13 +6,14 @@ use Rattle.scene_kinds.specs.declared.value.Value.{Value}
 use Rattle.scene_kinds.specs.Answers.{Outcome}
 use Rattle.scene_kinds.specs.Ranges.{is_in_range}
 use Rattle.scene_world.specs.World.{World}
-use Rattle.scene_world.specs.Commands.{spawn, despawn, despawn_recursive, insert, remove, set_parent, remove_parent, put_resource, remove_resource}
+use Rattle.scene_world.specs.Commands.{spawn, despawn, despawn_recursive, despawn_recursive_if_alive, insert, remove, set_parent, remove_parent, put_resource, remove_resource}
 
 pub data Command : Type 0 where
   -- the cells, each with its kind
   Spawn : List (ℕ × Value) → Command
   Despawn : Entity → Command
   DespawnRecursive : Entity → Command
+  DespawnRecursiveIfAlive : Entity → Command
   Insert : Entity → ℕ → Value → Command
   Remove : Entity → ℕ → Command
   -- the child, and its parent
@@ -39,6 +40,7 @@ abbrev pub perform : World → Command → Outcome (Option Entity) World
 perform w (Spawn cells) = answering Some (spawn w cells)
 perform w (Despawn e) = answering (λ a. None) (despawn w e)
 perform w (DespawnRecursive e) = answering (λ a. None) (despawn_recursive w e)
+perform w (DespawnRecursiveIfAlive e) = answering (λ a. None) (despawn_recursive_if_alive w e)
 perform w (Insert e kind value) = answering (λ a. None) (insert w e kind value)
 perform w (Remove e kind) = answering (λ a. None) (remove w e kind)
 perform w (SetParent child parent) = answering (λ a. None) (set_parent w child parent)

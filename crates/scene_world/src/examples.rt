@@ -1,5 +1,5 @@
 //! Worked examples, which the definitions compute.
-ghost use Rattle.scene_world.specs.Examples.{NothingToTakeBack, SpawnComesAndGoes, NewFrameEmptiesRedo, EmptyFramesCount, QueuesCountTheirOwn, SpawnsGoLast, DespawnSwapsTheLastIn, DespawnOfTheLastRow, MovesGoLast, EqualValueIsAWrite, RecursiveDespawnComesBack, ParentsInOrder, ResourcesKeepAdded, RefusalsOfTheWorld, RefusalsOfSpawn, RefusedFramesLeaveNothing, RetiredForGood, LastTickRefuses, RewindsTellOldCursors};
+ghost use Rattle.scene_world.specs.Examples.{NothingToTakeBack, SpawnComesAndGoes, NewFrameEmptiesRedo, EmptyFramesCount, QueuesCountTheirOwn, SpawnsGoLast, DespawnSwapsTheLastIn, DespawnOfTheLastRow, MovesGoLast, EqualValueIsAWrite, RecursiveDespawnComesBack, DeadArePassedOver, ParentsInOrder, ResourcesKeepAdded, RefusalsOfTheWorld, RefusalsOfSpawn, RefusedFramesLeaveNothing, RetiredForGood, LastTickRefuses, RewindsTellOldCursors};
 
 /// The definitions of commands, frames, undo and redo compute these short lists of calls: the replies, and the
 /// whole worlds after them.
@@ -15,6 +15,7 @@ pub fn worked_examples_hold()
     ensures moves { MovesGoLast }
     ensures equal_value { EqualValueIsAWrite }
     ensures recursive_despawn { RecursiveDespawnComesBack }
+    ensures dead { DeadArePassedOver }
     ensures parents { ParentsInOrder }
     ensures resources { ResourcesKeepAdded }
     ensures refusals { RefusalsOfTheWorld }

@@ -5,7 +5,7 @@
 //! redo do to whole saved worlds. `worked_examples_hold` has those definitions compute short scripts.
 //!
 //! `World` keeps a table for each kind set; all growth comes before the first change, so that a refusal leaves
-//! the world as it was. `laws` says of all nine commands that an accepted one keeps a valid world valid.
+//! the world as it was. `laws` says of all commands, and of frames, that an accepted one keeps a valid world valid.
 #![tactic(auto)]
 
 mod clones;
@@ -24,5 +24,7 @@ mod world;
 
 pub use examples::worked_examples_hold;
 pub use home::Home;
-pub use laws::{commands_keep_worlds_valid, recursive_despawn_is_never_refused_midway};
+pub use laws::{
+    commands_keep_worlds_valid, frames_keep_worlds_valid, recursive_despawn_is_never_refused_midway,
+};
 pub use world::World;
