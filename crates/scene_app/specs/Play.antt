@@ -1,91 +1,30 @@
 -- A script as a function of its lines: the setup, the machine of saved worlds line by line, and the printed text.
-use Rattle.std.specs.Prelude.{◌≡◌, ℕ, ◌+◌, List, [], ◌∷◌, ◌++◌, Option, Some, None, Result, Ok, Err, option_map, codes, decimal, nat_eq, if◌then◌else◌}
+use Rattle.std.specs.Prelude.{◌≡◌, ℕ, ◌+◌, List, [], ◌∷◌, ◌++◌, Option, Some, None, Result, Ok, Err, option_map, flat_map, codes, decimal, nat_eq, if◌then◌else◌}
 use Rattle.std.specs.Str.Lines.{lines}
 use Rattle.scene_kinds.specs.declared.entity.Entity.{Entity}
-use Rattle.scene_kinds.specs.declared.fault.Fault.{Fault}
-use Rattle.scene_kinds.specs.declared.fault.Fault.TheVariants.{NoSuchEntity, BadLocal, NoMemory, Rewound}
+use Rattle.scene_kinds.specs.declared.fault.Fault.TheVariants.{NoSuchEntity, Rewound}
 use Rattle.scene_kinds.specs.declared.refusal.Refusal.{Refusal}
-use Rattle.scene_kinds.specs.declared.refusal.Place.{Place}
 use Rattle.scene_kinds.specs.declared.shape.Shape.{Shape}
 use Rattle.scene_kinds.specs.Answers.{Outcome, refusal_of}
 use Rattle.scene_kinds.specs.Entity.{entity_text}
 use Rattle.scene_kinds.specs.Fault.{refusal_text}
 use Rattle.scene_kinds.specs.Schema.{Kinds, with_kind}
 use Rattle.scene_world.specs.World.{World, new_world, row_of}
-use Rattle.scene_world.specs.Commands.{and_then, raise_tick, spawn, despawn, despawn_recursive, insert, remove, set_parent, remove_parent, put_resource, remove_resource}
-use Rattle.scene_world.specs.Machine.{Machine, opening, submitted, undo, redo}
+use Rattle.scene_world.specs.Machine.{Machine, opening}
+use Rattle.scene_world.specs.Frame.{Submit, Undo as UndoCall, Redo as RedoCall, Reply as Answer, step}
+use Rattle.scene_app.specs.Requests.{alone}
 use Rattle.scene_kinds.specs.declared.cells.Row.{Row}
 use Rattle.scene_pass.specs.Pass.{changed_since, added_since}
 use Rattle.scene_pass.specs.declared.cell_name.CellName.{CellName}
 use Rattle.scene_pass.specs.declared.filter.Filter.{Filter}
 use Rattle.scene_app.specs.declared.cursor.Cursor.{Cursor}
 use Rattle.scene_app.specs.declared.play_state.PlayState.{PlayState}
-use Rattle.scene_script.specs.declared.target.TargetWord.{TargetWord}
-use Rattle.scene_script.specs.declared.target.TargetWord.TheVariants as target
-use Rattle.scene_script.specs.declared.command.Command.{Command}
-use Rattle.scene_script.specs.declared.command.Command.TheVariants.{Spawn, Insert, Despawn, Remove, SetParent, RemoveParent, DespawnAll, PutResource, RemoveResource}
 use Rattle.scene_script.specs.declared.script_line.Line.{Line}
 use Rattle.scene_script.specs.declared.script_line.Line.TheVariants.{Empty, Bad, Kind, Slots, Do, Undo, Redo, Show, Get, Mark, Changed, Added}
 use Rattle.scene_app.specs.Listed.{listed_text}
 use Rattle.scene_script.specs.Printed.{row_text}
 use Rattle.scene_script.specs.Script.{line_in}
 use Rattle.scene_app.specs.Shown.{show_text}
-
--- ---- commands and frames
-
--- the entity that a command spawned, if it is a spawn
-abbrev pub spawned_one : Outcome Entity World → Outcome (Option Entity) World
-spawned_one (Ok p) = Ok (Some p.0, p.1)
-spawned_one (Err r) = Err r
-
-abbrev pub spawned_none : {A : Type 0} → Outcome A World → Outcome (Option Entity) World
-spawned_none (Ok p) = Ok (None, p.1)
-spawned_none (Err r) = Err r
-
--- a frame of one command has spawned nothing before it, so no target is local to it
-abbrev pub target_of : TargetWord → Result Entity Refusal
-target_of (target.Entity e) = Ok e
-target_of (target.New k) = Err (refusal_of BadLocal)
-
-abbrev pub on_entity : {A : Type 0} → Result Entity Refusal → (Entity → Outcome A World) → Outcome (Option Entity) World
-on_entity (Ok e) command = spawned_none (command e)
-on_entity (Err r) command = Err r
-
--- a command of two targets; the first is looked at first
-abbrev pub on_both : {A : Type 0} → (first second : Result Entity Refusal) → (Entity → Entity → Outcome A World) → Outcome (Option Entity) World
-on_both (Ok e) second command = on_entity second (command e)
-on_both (Err r) second command = Err r
-
-abbrev pub done : Command → World → Outcome (Option Entity) World
-done (Spawn cells) w = spawned_one (spawn w cells)
-done (Insert t kind value) w = on_entity (target_of t) (λ e. insert w e kind value)
-done (Despawn t) w = on_entity (target_of t) (despawn w)
-done (Remove t kind) w = on_entity (target_of t) (λ e. remove w e kind)
-done (SetParent child parent) w = on_both (target_of child) (target_of parent) (set_parent w)
-done (RemoveParent child) w = on_entity (target_of child) (remove_parent w)
-done (DespawnAll t) w = on_entity (target_of t) (despawn_recursive w)
-done (PutResource name value) w = spawned_none (put_resource w name value)
-done (RemoveResource name) w = spawned_none (remove_resource w name)
-
--- the only place in a frame of one command
-abbrev pub first_place : Place
-first_place = record { phase = 0; queue = 0; command = 0 }
-
--- a refusal of a frame of one command says its place; want of memory, which no command of the model finds, has none
-abbrev pub fault_at : Fault → Refusal
-fault_at NoMemory = refusal_of NoMemory
-fault_at fault = record { fault = fault; place = Some first_place }
-
-abbrev pub frame_refusal : Refusal → Refusal
-frame_refusal r = fault_at r.fault
-
-abbrev pub placed : {A : Type 0} → Outcome A World → Outcome A World
-placed (Ok p) = Ok p
-placed (Err r) = Err (frame_refusal r)
-
--- a frame of one command: the tick is raised, then the command is done, its refusal with its place
-abbrev pub frame : Command → World → Outcome (Option Entity) World
-frame command w = and_then (raise_tick w) (λ a v. placed (done command v))
 
 -- ---- the state between two lines, and cursors
 
@@ -109,9 +48,15 @@ since s = if nat_eq s.cursor.rewinds s.machine.rewinds then Ok s.cursor.tick els
 
 -- ---- the answer of a line
 
-abbrev pub made_text : Option Entity → List ℕ
-made_text None = codes "done\n"
-made_text (Some e) = codes "done " ++ (entity_text e.index e.generation ++ codes "\n")
+-- what a frame made: the entities that it spawned, in order
+abbrev pub made_text : List Entity → List ℕ
+made_text es = codes "done" ++ (flat_map (λ e. codes " " ++ entity_text e.index e.generation) es ++ codes "\n")
+
+abbrev pub undone_text : List Entity → List ℕ
+undone_text es = codes "undone\n"
+
+abbrev pub redone_text : List Entity → List ℕ
+redone_text es = codes "redone\n"
 
 abbrev pub refused_text : Refusal → List ℕ
 refused_text r = codes "refused " ++ (refusal_text r ++ codes "\n")
@@ -148,16 +93,13 @@ pub record Reply : Type 0 where
 abbrev pub Replies : (old new : List ℕ) → PlayState → ℕ → Reply → Type 0
 Replies old new state bad r = (new ≡ old ++ r.text) × (state ≡ r.state) × (bad ≡ r.bad)
 
-abbrev pub undone_text : Unit {0} → List ℕ
-undone_text a = codes "undone\n"
+abbrev pub answer_text : (List Entity → List ℕ) → Answer → List ℕ
+answer_text text (Ok es) = text es
+answer_text text (Err r) = refused_text r
 
-abbrev pub redone_text : Unit {0} → List ℕ
-redone_text a = codes "redone\n"
-
--- the answer of a call, by the text of an accepted one
-abbrev pub answered : {A : Type 0} → PlayState → (A → List ℕ) → Outcome A (Machine World) → Reply
-answered s text (Ok p) = record { text = text p.0; bad = 0; state = with_machine s p.1 }
-answered s text (Err r) = record { text = refused_text r; bad = 0; state = s }
+-- the answer of a call, by the text of an accepted one, after the machine's step
+abbrev pub answered : PlayState → (List Entity → List ℕ) → Machine World × Answer → Reply
+answered s text p = record { text = answer_text text p.1; bad = 0; state = with_machine s p.0 }
 
 abbrev pub bad_reply : PlayState → Reply
 bad_reply s = record { text = codes "bad line\n"; bad = 1; state = s }
@@ -172,9 +114,9 @@ reply s Empty = told s []
 reply s Bad = bad_reply s
 reply s (Kind name shape) = bad_reply s
 reply s (Slots n) = bad_reply s
-reply s (Do command) = answered s made_text (submitted s.machine (frame command s.machine.now))
-reply s Undo = answered s undone_text (undo s.machine)
-reply s Redo = answered s redone_text (redo s.machine)
+reply s (Do command) = answered s made_text (step s.machine (Submit (alone command)))
+reply s Undo = answered s undone_text (step s.machine UndoCall)
+reply s Redo = answered s redone_text (step s.machine RedoCall)
 reply s Show = told s (show_text s.machine.now)
 reply s (Get e) = told s (row_answer s.machine.now.schema (option_map (λ p. p.1) (row_of s.machine.now e)))
 reply s Mark = record { text = mark_text (cursor_of s.machine); bad = 0; state = with_cursor s (cursor_of s.machine) }

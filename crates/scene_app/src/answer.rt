@@ -2,9 +2,10 @@
 ghost use Rattle.std.specs.Prelude.{◌≡◌, ◌≢◌, ◌++◌, ◌≤◌, OnOk, IfOk, string_bytes, option_map};
 ghost use Rattle.scene_kinds.specs.Answers.{refusal_of};
 ghost use Rattle.scene_kinds.specs.declared.fault.Fault.TheVariants.{NoMemory};
-ghost use Rattle.scene_world.specs.Machine.{submitted, undo, redo};
+ghost use Rattle.scene_world.specs.Frame.{Submit, Undo as UndoCall, Redo as RedoCall, step};
+ghost use Rattle.scene_app.specs.Requests.{alone, entities};
 ghost use Rattle.scene_world.specs.World.{row_of};
-ghost use Rattle.scene_app.specs.Play.{Replies, reply, answered, frame, made_text, refused_text, row_answer, undone_text, redone_text, mark_text, changed_text, added_text, cursor_of, with_cursor};
+ghost use Rattle.scene_app.specs.Play.{Replies, reply, answered, made_text, refused_text, row_answer, undone_text, redone_text, mark_text, changed_text, added_text, cursor_of, with_cursor};
 
 use crate::listed::write_listed;
 use crate::play_state::PlayState;
@@ -36,7 +37,7 @@ pub(crate) fn answer_refused(out: &mut String, refusal: Refusal) -> Result<(), A
 
 /// Adds what a frame made.
 fn write_made(out: &mut String, made: Option<Entity>) -> Result<(), AllocError>
-    ensures { OnOk result (string_bytes out.new ≡ string_bytes out.old ++ made_text made) }
+    ensures { OnOk result (string_bytes out.new ≡ string_bytes out.old ++ made_text (entities made)) }
 {
     match made {
         None => out.push_str("done\n"),
@@ -54,7 +55,7 @@ fn answer_command(
     command: Command,
 ) -> Result<(), AllocError>
     ensures { OnOk result (Replies (string_bytes out.old) (string_bytes out.new) state.new 0
-        (answered state.old made_text (submitted state.old.machine (frame command state.old.machine.now)))) }
+        (answered state.old made_text (step state.old.machine (Submit (alone command))))) }
 {
     match state.machine.submit(command) {
         Ok(made) => write_made(out, made),
@@ -65,7 +66,7 @@ fn answer_command(
 /// `undo`.
 fn answer_undo(out: &mut String, state: &mut PlayState) -> Result<(), AllocError>
     ensures { OnOk result (Replies (string_bytes out.old) (string_bytes out.new) state.new 0
-        (answered state.old undone_text (undo state.old.machine))) }
+        (answered state.old undone_text (step state.old.machine UndoCall))) }
 {
     match state.machine.undo() {
         Ok(()) => out.push_str("undone\n"),
@@ -76,7 +77,7 @@ fn answer_undo(out: &mut String, state: &mut PlayState) -> Result<(), AllocError
 /// `redo`.
 fn answer_redo(out: &mut String, state: &mut PlayState) -> Result<(), AllocError>
     ensures { OnOk result (Replies (string_bytes out.old) (string_bytes out.new) state.new 0
-        (answered state.old redone_text (redo state.old.machine))) }
+        (answered state.old redone_text (step state.old.machine RedoCall))) }
 {
     match state.machine.redo() {
         Ok(()) => out.push_str("redone\n"),

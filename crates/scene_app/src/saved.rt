@@ -1,10 +1,11 @@
 //! The machine of saved worlds: each accepted frame keeps the world before it.
-ghost use Rattle.std.specs.Prelude.{◌≡◌, ◌≢◌, Ok, Err, None, MatchResult};
-ghost use Rattle.scene_kinds.specs.Answers.{Answers, Outcome, refusal_of};
-ghost use Rattle.scene_kinds.specs.declared.fault.Fault.TheVariants.{NoMemory};
-ghost use Rattle.scene_kinds.specs.declared.refusal.Refusal.{Refusal as Refused};
-ghost use Rattle.scene_world.specs.Machine.{opening, submitted, undo, redo};
-ghost use Rattle.scene_app.specs.Play.{done, frame, frame_refusal, target_of};
+ghost use Rattle.std.specs.Prelude.{◌≡◌, ◌≢◌, [], Ok, Err, None, MatchResult};
+ghost use Rattle.std.specs.Option.{ok_or};
+ghost use Rattle.scene_kinds.specs.Answers.{Answers, refusal_of};
+ghost use Rattle.scene_kinds.specs.declared.fault.Fault.TheVariants.{BadLocal, NoMemory};
+ghost use Rattle.scene_world.specs.Machine.{opening, undo, redo};
+ghost use Rattle.scene_world.specs.Frame.{Submit, call, frame, opened, refused_at, request};
+ghost use Rattle.scene_app.specs.Requests.{alone, entities, made, request_of, target_in};
 
 use scene_kinds::{Entity, Fault, Place, Refusal};
 use scene_script::{Command, TargetWord};
@@ -32,9 +33,9 @@ impl Model for Saved {
     ghost view = { λ s. record { past = reverse s.past.items; now = s.now; future = reverse s.future.items; rewinds = s.rewinds } };
 }
 
-/// The entity of a target in a frame of one command, which has spawned none before it.
+/// The entity of a target in a frame of one command, which has spawned none before it; else `BadLocal`.
 fn entity_of(target: TargetWord) -> Result<Entity, Refusal>
-    ensures { result ≡ target_of target }
+    ensures { result ≡ ok_or (target_in target []) (refusal_of BadLocal) }
 {
     match target {
         TargetWord::Entity(entity) => Ok(entity),
@@ -42,9 +43,9 @@ fn entity_of(target: TargetWord) -> Result<Entity, Refusal>
     }
 }
 
-/// Does a command.
+/// Does the only command of its queue.
 fn do_command(world: &mut World, command: Command) -> Result<Option<Entity>, Refusal>
-    ensures { Answers result world.old world.new (done command world.old) }
+    ensures { Answers result world.old world.new (request (request_of command) (opened world.old)) }
 {
     match command {
         Command::Spawn(cells) => {
@@ -56,9 +57,10 @@ fn do_command(world: &mut World, command: Command) -> Result<Option<Entity>, Ref
         Command::Remove(target, kind) => {
             world.remove(entity_of(target)?, kind)?;
         }
-        Command::SetParent(child, parent) => {
-            world.set_parent(entity_of(child)?, entity_of(parent)?)?
-        }
+        Command::SetParent(child, parent) => world.set_parent(
+            entity_of(child)?,
+            entity_of(parent)?,
+        )?,
         Command::RemoveParent(child) => world.remove_parent(entity_of(child)?)?,
         Command::DespawnAll(target) => world.despawn_recursive(entity_of(target)?)?,
         Command::PutResource(name, value) => world.put_resource(name.as_str(), value)?,
@@ -69,7 +71,7 @@ fn do_command(world: &mut World, command: Command) -> Result<Option<Entity>, Ref
 
 /// A refusal with its place in a frame of one command. Want of memory has none.
 fn placed(refusal: Refusal) -> Refusal
-    ensures { result ≡ frame_refusal refusal }
+    ensures { result ≡ refused_at 0 0 refusal.fault }
 {
     match refusal.fault {
         Fault::NoMemory => Refusal::from(Fault::NoMemory),
@@ -86,7 +88,7 @@ fn placed(refusal: Refusal) -> Refusal
 
 /// Does a frame of one command on a world that is dropped where the frame is refused.
 fn do_frame(world: &mut World, command: Command) -> Result<Option<Entity>, Refusal>
-    ensures { MatchResult result (λ a. frame command world.old ≡ Ok (a, world.new)) (λ r. r ≢ refusal_of NoMemory → frame command world.old ≡ Err r) }
+    ensures { MatchResult result (λ a. frame (alone command) world.old ≡ Ok (entities a, world.new)) (λ r. r ≢ refusal_of NoMemory → frame (alone command) world.old ≡ Err r) }
 {
     world.raise_tick()?;
     match do_command(world, command) {
@@ -125,7 +127,7 @@ impl Saved {
     /// Does a frame of one command: the world before it is kept, and what was undone is forgotten. It costs a copy
     /// of the world.
     pub(crate) fn submit(&mut self, command: Command) -> Result<Option<Entity>, Refusal>
-        ensures { Answers result self.old self.new (submitted self.old (frame command self.old.now)) }
+        ensures { Answers (made result) self.old self.new (call self.old (Submit (alone command))) }
     {
         let mut next = self.now.try_clone()?;
         let made = do_frame(&mut next, command)?;
