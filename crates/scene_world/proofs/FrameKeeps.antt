@@ -6,8 +6,9 @@ use Rattle.scene_kinds.specs.declared.refusal.Refusal.{Refusal}
 use Rattle.scene_kinds.specs.Answers.{Outcome}
 use Rattle.scene_world.specs.World.{World}
 use Rattle.scene_world.specs.Commands.{and_then, raise_tick}
-use Rattle.scene_world.specs.Perform.{Command}
-use Rattle.scene_world.specs.Frame.{Request, Progress, Ended, opened, perform_known, request, and_spawned, unless_refused, play_from, play, all_or_refused, queue, queues_from}
+use Rattle.scene_world.specs.Perform.{Command, perform}
+use Rattle.scene_world.specs.Queue.{Request, Progress, Ended, reached, act_known, request, and_spawned, unless_refused, play_from, play}
+use Rattle.scene_world.specs.Frame.{all_or_refused, queue, queues_from}
 use Rattle.scene_world.specs.Valid.{IsValid}
 use Rattle.scene_world.specs.Laws.{IsInRange, AreInRange, QueuesAreInRange, FramesKeep}
 use Rattle.scene_world.proofs.Outcomes.{not_ok, same_world}
@@ -21,30 +22,30 @@ LeavesValid {A} o = (a : A) (v : World) → o ≡ Ok (a, v) → IsValid v
 refused_leaves : {A : Type 0} (r : Refusal) → LeavesValid {A = A} (Err r)
 refused_leaves r a v h = absurd (not_ok (a, v) r h)
 
-request_leaves : (r : Request) (p : Progress) → IsInRange r → IsValid p.world → LeavesValid (request r p)
+request_leaves : (r : Request) (p : Progress World) → IsInRange r → IsValid p.state → LeavesValid (request perform r p)
 request_leaves r p held valid = from (r p.spawned) refl
   where
-    from : (c : Option Command) → r p.spawned ≡ c → LeavesValid (perform_known p.world c)
+    from : (c : Option Command) → r p.spawned ≡ c → LeavesValid (act_known perform p.state c)
     from None is a v h = refused_leaves _ a v h
-    from (Some c) is a v h = commands_keep p.world v c a valid (held p.spawned c is) h
+    from (Some c) is a v h = commands_keep p.state v c a valid (held p.spawned c is) h
 
 -- where a queue ends, the world is valid
-rest_stays : (i : ℕ) (p : Progress) (o : Outcome (Option Entity) World) (rest : Progress → Ended) → IsValid p.world → LeavesValid o
-    → ((q : Progress) → IsValid q.world → IsValid (rest q).reached.world) → IsValid (unless_refused i p o rest).reached.world
-rest_stays i p (Ok q) rest valid leaves stays = stays (record { world = q.1; spawned = and_spawned p.spawned q.0 }) (leaves q.0 q.1 refl)
+rest_stays : (i : ℕ) (p : Progress World) (o : Outcome (Option Entity) World) (rest : Progress World → Ended World) → IsValid p.state → LeavesValid o
+    → ((q : Progress World) → IsValid q.state → IsValid (rest q).progress.state) → IsValid (unless_refused i p o rest).progress.state
+rest_stays i p (Ok q) rest valid leaves stays = stays (reached q.1 (and_spawned p.spawned q.0)) (leaves q.0 q.1 refl)
 rest_stays i p (Err r) rest valid leaves stays = valid
 
-pub play_stays : (i : ℕ) (rs : List Request) (p : Progress) → AreInRange rs → IsValid p.world → IsValid (play_from i rs p).reached.world
+pub play_stays : (i : ℕ) (rs : List Request) (p : Progress World) → AreInRange rs → IsValid p.state → IsValid (play_from perform i rs p).progress.state
 play_stays i [] p held valid = valid
 play_stays i (r ∷ rs) p held valid =
-    rest_stays i p (request r p) (play_from (i + 1) rs) valid (request_leaves r p held.0 valid) (λ q ok. play_stays (i + 1) rs q held.1 ok)
+    rest_stays i p (request perform r p) (play_from perform (i + 1) rs) valid (request_leaves r p held.0 valid) (λ q ok. play_stays (i + 1) rs q held.1 ok)
 
-all_leaves : (q : ℕ) (p : Progress) (r : Option (ℕ × Refusal)) → IsValid p.world → LeavesValid (all_or_refused q p r)
-all_leaves q p None valid a v h = subst IsValid (same_world p.spawned a p.world v h).1 valid
-all_leaves q p (Some r) valid a v h = refused_leaves _ a v h
+all_leaves : (q : ℕ) (w : World) (es : List Entity) (r : Option (ℕ × Refusal)) → IsValid w → LeavesValid (all_or_refused q w es r)
+all_leaves q w es None valid a v h = subst IsValid (same_world es a w v h).1 valid
+all_leaves q w es (Some r) valid a v h = refused_leaves _ a v h
 
 queue_leaves : (q : ℕ) (rs : List Request) (w : World) → AreInRange rs → IsValid w → LeavesValid (queue q rs w)
-queue_leaves q rs w held valid = all_leaves q (play rs w).reached (play rs w).refused (play_stays 0 rs (opened w) held valid)
+queue_leaves q rs w held valid = let e = play perform rs w in all_leaves q e.progress.state e.progress.spawned e.refused (play_stays 0 rs (reached w []) held valid)
 
 -- one call after another
 then_leaves : {A B : Type 0} (o : Outcome A World) (rest : A → World → Outcome B World) → LeavesValid o

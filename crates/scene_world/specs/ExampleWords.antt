@@ -15,7 +15,8 @@ use Rattle.scene_kinds.specs.Schema.{Kinds}
 use Rattle.scene_world.specs.World.{World, new_world}
 use Rattle.scene_world.specs.Perform.{Command, Spawn}
 use Rattle.scene_world.specs.Machine.{Machine, opening}
-use Rattle.scene_world.specs.Frame.{Request, known, Call, Submit, Reply, refused_at, after_calls}
+use Rattle.scene_world.specs.Queue.{Request, known, refused_at}
+use Rattle.scene_world.specs.Frame.{Call, Submit, Reply, after_calls}
 
 abbrev pub ent : ℕ → ℕ → Entity
 ent i g = record { index = i; generation = g }

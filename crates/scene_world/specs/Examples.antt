@@ -8,7 +8,8 @@ use Rattle.scene_world.specs.World.{World, new_world, component_of}
 use Rattle.scene_world.specs.Commands.{highest_tick, spawn}
 use Rattle.scene_world.specs.Perform.{Despawn, DespawnRecursive, DespawnRecursiveIfAlive, Insert, Remove, SetParent, RemoveParent, PutResource, RemoveResource}
 use Rattle.scene_world.specs.Machine.{Machine, opening}
-use Rattle.scene_world.specs.Frame.{known, Call, Submit, Undo, Redo, step, after_calls, replies, refused_at}
+use Rattle.scene_world.specs.Queue.{known, refused_at}
+use Rattle.scene_world.specs.Frame.{Call, Submit, Undo, Redo, step, after_calls, replies}
 use Rattle.scene_world.specs.ExampleWords.{ent, cell, int, schema, world, fresh, int_row, tag_row, spawn_int, spawn_tag, local, frame_of, one, only, empty_frame, ends, made, done, refused, refused_first}
 
 -- undo and redo of an empty world are refused, and change nothing

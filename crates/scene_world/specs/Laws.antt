@@ -4,7 +4,8 @@ use Rattle.scene_kinds.specs.declared.entity.Entity.{Entity}
 use Rattle.scene_world.specs.World.{World, is_live}
 use Rattle.scene_world.specs.Commands.{raise_tick, despawn_recursive}
 use Rattle.scene_world.specs.Perform.{Command, perform, are_in_range}
-use Rattle.scene_world.specs.Frame.{Request, frame}
+use Rattle.scene_world.specs.Queue.{Request}
+use Rattle.scene_world.specs.Frame.{frame}
 use Rattle.scene_world.specs.Valid.{IsValid}
 
 abbrev pub RaiseKeeps : Type 0

@@ -2,6 +2,8 @@ pub mod World
 pub mod Commands
 pub mod Perform
 pub mod Machine
+pub mod Queue
+pub mod Stage
 pub mod Frame
 pub mod ExampleWords
 pub mod Examples

@@ -1,0 +1,113 @@
+//! What commands can be applied to: a world, or whatever keeps notes of what is done to one.
+ghost use Rattle.std.specs.Prelude.{◌≡◌, List, []};
+ghost use Rattle.scene_world.specs.Commands.{spawn, despawn, despawn_recursive, insert, remove, set_parent, remove_parent, put_resource, remove_resource};
+ghost use Rattle.scene_world.specs.Perform.{Spawn, Despawn, DespawnRecursive, Insert, Remove, SetParent, RemoveParent, PutResource, RemoveResource};
+ghost use Rattle.scene_world.specs.Stage.{Staged, Note as NoteOf, AnswersNoted};
+
+use crate::world::World;
+use scene_kinds::{Entity, Refusal, Value};
+use std::convert::Infallible;
+
+/// A world that the nine commands change, with notes of what they did (docs/MODEL.md, "Commands").
+///
+/// Each command answers what it answers on the world itself, refusals included, and want of memory. An accepted one
+/// appends the notes that the world before it and the command fix; after a refusal world and notes are as they were.
+pub trait Stage {
+    /// What is noted of a command. A `World` notes nothing.
+    type Note;
+
+    // The world and the notes so far.
+    ghost seen: { Self → Staged Self.Note };
+
+    // What it notes of a command that is accepted on a world.
+    ghost note: { NoteOf Self.Note };
+
+    /// The world as it is now.
+    fn world(&self) -> &World
+        ensures { result.now ≡ (seen self.now).world };
+
+    /// Spawns an entity with these components, as `World::spawn` does.
+    fn spawn(&mut self, cells: Vec<(u8, Value)>) -> Result<Entity, Refusal>
+        ensures { AnswersNoted result (seen self.old) (seen self.new) note (Spawn cells.items) (λ w. spawn w cells.items) };
+
+    /// Despawns an entity without children, as `World::despawn` does.
+    fn despawn(&mut self, entity: Entity) -> Result<(), Refusal>
+        ensures { AnswersNoted result (seen self.old) (seen self.new) note (Despawn entity) (λ w. despawn w entity) };
+
+    /// Despawns an entity and all below it, as `World::despawn_recursive` does.
+    fn despawn_recursive(&mut self, entity: Entity) -> Result<(), Refusal>
+        ensures { AnswersNoted result (seen self.old) (seen self.new) note (DespawnRecursive entity) (λ w. despawn_recursive w entity) };
+
+    /// Gives an entity a component, or writes the one that is there, as `World::insert` does.
+    fn insert(&mut self, entity: Entity, kind: u8, value: Value) -> Result<(), Refusal>
+        ensures { AnswersNoted result (seen self.old) (seen self.new) note (Insert entity kind value) (λ w. insert w entity kind value) };
+
+    /// Takes a component from an entity, as `World::remove` does.
+    fn remove(&mut self, entity: Entity, kind: u8) -> Result<(), Refusal>
+        ensures { AnswersNoted result (seen self.old) (seen self.new) note (Remove entity kind) (λ w. remove w entity kind) };
+
+    /// Makes an entity the last child of another, as `World::set_parent` does.
+    fn set_parent(&mut self, child: Entity, parent: Entity) -> Result<(), Refusal>
+        ensures { AnswersNoted result (seen self.old) (seen self.new) note (SetParent child parent) (λ w. set_parent w child parent) };
+
+    /// Takes an entity from its parent, as `World::remove_parent` does.
+    fn remove_parent(&mut self, child: Entity) -> Result<(), Refusal>
+        ensures { AnswersNoted result (seen self.old) (seen self.new) note (RemoveParent child) (λ w. remove_parent w child) };
+
+    /// Puts a value at a name, as `World::put_resource` does.
+    fn put_resource(&mut self, name: &str, value: Value) -> Result<(), Refusal>
+        ensures { AnswersNoted result (seen self.old) (seen self.new) note (PutResource name.now value) (λ w. put_resource w name.now value) };
+
+    /// Takes the value of a name away, as `World::remove_resource` does.
+    fn remove_resource(&mut self, name: &str) -> Result<(), Refusal>
+        ensures { AnswersNoted result (seen self.old) (seen self.new) note (RemoveResource name.now) (λ w. remove_resource w name.now) };
+}
+
+/// A world is a stage that notes nothing.
+impl Stage for World {
+    type Note = Infallible;
+
+    ghost seen = { λ w. record { world = w; notes = [] } };
+
+    ghost note = { λ _ _. [] };
+
+    fn world(&self) -> &World {
+        self
+    }
+
+    fn spawn(&mut self, cells: Vec<(u8, Value)>) -> Result<Entity, Refusal> {
+        World::spawn(self, cells)
+    }
+
+    fn despawn(&mut self, entity: Entity) -> Result<(), Refusal> {
+        World::despawn(self, entity)
+    }
+
+    fn despawn_recursive(&mut self, entity: Entity) -> Result<(), Refusal> {
+        World::despawn_recursive(self, entity)
+    }
+
+    fn insert(&mut self, entity: Entity, kind: u8, value: Value) -> Result<(), Refusal> {
+        World::insert(self, entity, kind, value)
+    }
+
+    fn remove(&mut self, entity: Entity, kind: u8) -> Result<(), Refusal> {
+        World::remove(self, entity, kind)
+    }
+
+    fn set_parent(&mut self, child: Entity, parent: Entity) -> Result<(), Refusal> {
+        World::set_parent(self, child, parent)
+    }
+
+    fn remove_parent(&mut self, child: Entity) -> Result<(), Refusal> {
+        World::remove_parent(self, child)
+    }
+
+    fn put_resource(&mut self, name: &str, value: Value) -> Result<(), Refusal> {
+        World::put_resource(self, name, value)
+    }
+
+    fn remove_resource(&mut self, name: &str) -> Result<(), Refusal> {
+        World::remove_resource(self, name)
+    }
+}
