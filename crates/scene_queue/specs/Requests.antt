@@ -1,0 +1,36 @@
+-- What the commands of a queue ask of a world.
+use Rattle.std.specs.Prelude.{List, Option, Some, slice_get, option_map, option_and_then, map}
+use Rattle.scene_kinds.specs.declared.entity.Entity.{Entity}
+use Rattle.scene_queue.specs.declared.target.Target.{Target}
+use Rattle.scene_queue.specs.declared.target.Target.TheVariants as target
+use Rattle.scene_queue.specs.declared.command.Command.{Command as Queued}
+use Rattle.scene_queue.specs.declared.command.Command.TheVariants as queued
+use Rattle.scene_world.specs.Perform.{Command, Spawn, Despawn, DespawnRecursive, DespawnRecursiveIfAlive, Insert, Remove, SetParent, RemoveParent, PutResource, RemoveResource}
+use Rattle.scene_world.specs.Queue.{Request, known}
+
+-- the entity of a target, by those that its queue has spawned
+abbrev pub target_in : Target → List Entity → Option Entity
+target_in (target.Id e) spawned = Some e
+target_in (target.New k) spawned = slice_get spawned k
+
+abbrev pub on_entity : Target → (Entity → Command) → Request
+on_entity t command spawned = option_map command (target_in t spawned)
+
+abbrev pub on_both : (first second : Target) → (Entity → Entity → Command) → Request
+on_both s t command spawned = option_and_then (λ e. option_map (command e) (target_in t spawned)) (target_in s spawned)
+
+-- what a command asks, once its targets are entities
+abbrev pub request_of : Queued → Request
+request_of (queued.Spawn cells) = known (Spawn cells)
+request_of (queued.Despawn t) = on_entity t Despawn
+request_of (queued.DespawnAll t) = on_entity t DespawnRecursive
+request_of (queued.DespawnAllIfAlive t) = on_entity t DespawnRecursiveIfAlive
+request_of (queued.Insert t kind value) = on_entity t (λ e. Insert e kind value)
+request_of (queued.Remove t kind) = on_entity t (λ e. Remove e kind)
+request_of (queued.SetParent child parent) = on_both child parent SetParent
+request_of (queued.RemoveParent child) = on_entity child RemoveParent
+request_of (queued.PutResource name value) = known (PutResource name value)
+request_of (queued.RemoveResource name) = known (RemoveResource name)
+
+abbrev pub requests : List Queued → List Request
+requests commands = map request_of commands

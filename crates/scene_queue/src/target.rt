@@ -1,0 +1,32 @@
+//! Which entity a command is about.
+ghost use Rattle.std.specs.Prelude.{◌≡◌};
+ghost use Rattle.std.specs.Option.{ok_or};
+ghost use Rattle.scene_kinds.specs.Answers.{refusal_of};
+ghost use Rattle.scene_kinds.specs.declared.fault.Fault.TheVariants.{BadLocal};
+ghost use Rattle.scene_queue.specs.Requests.{target_in};
+
+use scene_kinds::{Entity, Fault, Refusal};
+
+/// The entity that a command names (docs/MODEL.md, "The rule of frames").
+#[derive(Clone, Copy, Debug, PartialEq, Eq)]
+pub enum Target {
+    /// An entity itself.
+    Id(Entity),
+    /// The k-th entity, from 0, that the same queue has spawned before the command.
+    New(u32),
+}
+
+impl Target {
+    /// The entity, given those that the queue has spawned so far; `BadLocal` where it names one that isn't there yet.
+    pub(crate) fn entity(self, spawned: &[Entity]) -> Result<Entity, Refusal>
+        ensures { result ≡ ok_or (target_in self spawned.now) (refusal_of BadLocal) }
+    {
+        match self {
+            Target::Id(entity) => Ok(entity),
+            Target::New(k) => {
+                let made = spawned.get(k as usize).copied();
+                made.ok_or(Refusal::from(Fault::BadLocal))
+            }
+        }
+    }
+}
