@@ -16,8 +16,12 @@ target_in (target.New k) spawned = slice_get spawned k
 abbrev pub on_entity : Target → (Entity → Command) → Request
 on_entity t command spawned = option_map command (target_in t spawned)
 
-abbrev pub on_both : (first second : Target) → (Entity → Entity → Command) → Request
-on_both s t command spawned = option_and_then (λ e. option_map (command e) (target_in t spawned)) (target_in s spawned)
+-- the entities of two targets; the first is looked at first
+abbrev pub both_in : Target → Target → List Entity → Option (Entity × Entity)
+both_in s t spawned = option_and_then (λ e. option_map (λ d. (e, d)) (target_in t spawned)) (target_in s spawned)
+
+abbrev pub on_both : Target → Target → (Entity → Entity → Command) → Request
+on_both s t command spawned = option_map (λ p. command p.0 p.1) (both_in s t spawned)
 
 -- what a command asks, once its targets are entities
 abbrev pub request_of : Queued → Request

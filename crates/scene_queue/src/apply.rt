@@ -2,12 +2,30 @@
 ghost use Rattle.std.specs.Prelude.{◌≡◌};
 ghost use Rattle.scene_kinds.specs.Answers.{Answers};
 ghost use Rattle.scene_world.specs.Queue.{reached, request};
+ghost use Rattle.scene_world.specs.Perform.{SetParent};
 ghost use Rattle.scene_world.specs.Stage.{act};
-ghost use Rattle.scene_queue.specs.Requests.{request_of};
+ghost use Rattle.scene_queue.specs.Requests.{on_both, request_of};
 
 use crate::command::Command;
+use crate::target::Target;
 use scene_kinds::{Entity, Refusal};
 use scene_world::Stage;
+
+/// Makes the first target the last child of the second.
+fn link<S: Stage>(
+    child: Target,
+    parent: Target,
+    spawned: &[Entity],
+    stage: &mut S,
+) -> Result<Option<Entity>, Refusal>
+    ensures { Answers result (S.seen stage.old) (S.seen stage.new) (request (act S.note) (on_both child parent SetParent) (reached (S.seen stage.old) spawned.now)) }
+{
+    let (child, parent) = Target::entities(child, parent, spawned)?;
+    match stage.set_parent(child, parent) {
+        Ok(()) => Ok(None),
+        Err(refusal) => Err(refusal),
+    }
+}
 
 /// Does one command of a queue that has spawned these entities.
 fn do_command<S: Stage>(
@@ -36,10 +54,7 @@ fn do_command<S: Stage>(
             stage.insert(entity, *kind, value.try_clone()?)?
         }
         Command::Remove(target, kind) => stage.remove(target.entity(spawned)?, *kind)?,
-        Command::SetParent(child, parent) => {
-            let child = child.entity(spawned)?;
-            stage.set_parent(child, parent.entity(spawned)?)?
-        }
+        Command::SetParent(child, parent) => return link(*child, *parent, spawned, stage),
         Command::RemoveParent(child) => stage.remove_parent(child.entity(spawned)?)?,
         Command::PutResource(name, value) => {
             stage.put_resource(name.as_str(), value.try_clone()?)?

@@ -26,7 +26,7 @@ pub struct Returned<T> {
 
 /// Commands, first to last, up to a limit (docs/MODEL.md, "The rule of frames"). Contracts see the list and the
 /// limit.
-#[derive(Drop, Clone, Debug)]
+#[derive(Drop, Debug)]
 pub struct Queue {
     pub(crate) alloc: Global,
     pub(crate) commands: Vec<Command>,
@@ -68,6 +68,17 @@ fn make_room(commands: &mut Vec<Command>, limit: u32) -> Result<(), Refusal>
     }
     commands.reserve(1)?;
     Ok(())
+}
+
+/// Equal commands in the same order, or an error where no memory was found.
+fn clone_commands(alloc: Global, commands: &[Command]) -> Result<Vec<Command>, AllocError>
+    ensures { IfOk result (λ copies. copies.items ≡ commands.now) }
+{
+    let mut copies = Vec::new(alloc);
+    for command in commands {
+        copies.push(command.try_clone()?)?;
+    }
+    Ok(copies)
 }
 
 impl Queue {
@@ -145,6 +156,11 @@ impl Queue {
     pub fn try_clone(&self) -> Result<Queue, AllocError>
         ensures { IfOk result (λ copy. copy ≡ self.now) }
     {
-        self.clone()
+        Ok(Queue {
+            alloc: self.alloc,
+            commands: clone_commands(self.alloc, self.commands.as_slice())?,
+            limit: self.limit,
+            spawned: self.spawned,
+        })
     }
 }

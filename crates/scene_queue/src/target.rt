@@ -3,7 +3,7 @@ ghost use Rattle.std.specs.Prelude.{◌≡◌};
 ghost use Rattle.std.specs.Option.{ok_or};
 ghost use Rattle.scene_kinds.specs.Answers.{refusal_of};
 ghost use Rattle.scene_kinds.specs.declared.fault.Fault.TheVariants.{BadLocal};
-ghost use Rattle.scene_queue.specs.Requests.{target_in};
+ghost use Rattle.scene_queue.specs.Requests.{both_in, target_in};
 
 use scene_kinds::{Entity, Fault, Refusal};
 
@@ -28,5 +28,17 @@ impl Target {
                 made.ok_or(Refusal::from(Fault::BadLocal))
             }
         }
+    }
+
+    /// The entities of two targets, the first being looked at first.
+    pub(crate) fn entities(
+        first: Target,
+        second: Target,
+        spawned: &[Entity],
+    ) -> Result<(Entity, Entity), Refusal>
+        ensures { result ≡ ok_or (both_in first second spawned.now) (refusal_of BadLocal) }
+    {
+        let first = first.entity(spawned)?;
+        Ok((first, second.entity(spawned)?))
     }
 }
