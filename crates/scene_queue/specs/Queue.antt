@@ -1,9 +1,9 @@
 -- A queue as a list of commands with a limit, and what applying it did.
-use Rattle.std.specs.Prelude.{◌≡◌, ◌≢◌, ◌⊎◌, ℕ, List, [], ◌∷◌, ◌++◌, length, nat_lt, take, sum_by, Result, Ok, Err, MatchResult, if◌then◌else◌}
+use Rattle.std.specs.Prelude.{◌≡◌, ℕ, List, [], ◌∷◌, ◌++◌, length, nat_lt, take, sum_by, Result, Ok, Err, if◌then◌else◌}
 use Rattle.scene_kinds.specs.declared.entity.Entity.{Entity}
-use Rattle.scene_kinds.specs.declared.fault.Fault.TheVariants.{NoMemory, QueueFull}
+use Rattle.scene_kinds.specs.declared.fault.Fault.TheVariants.{QueueFull}
 use Rattle.scene_kinds.specs.declared.refusal.Refusal.{Refusal}
-use Rattle.scene_kinds.specs.Answers.{Outcome, refusal_of, refuse}
+use Rattle.scene_kinds.specs.Answers.{Outcome, refuse}
 use Rattle.scene_world.specs.Queue.{Request, Act, reached, whole, stopped, play, refused_at}
 use Rattle.scene_queue.specs.declared.command.Command.{Command}
 use Rattle.scene_queue.specs.declared.queue.Returned.{Returned}
@@ -46,9 +46,3 @@ IsPassed act rs old new = (count : ℕ) × ((es : List Entity) × (play act (tak
 abbrev pub Stops : {S : Type 0} → Act S → List Request → (old new : S) → Refusal → Type 0
 Stops act rs old new r =
     (at : ℕ) × ((es : List Entity) × ((why : Refusal) × ((play act rs old ≡ stopped (reached new es) at why) × (r ≡ refused_at 0 at why.fault))))
-
--- what applying commands did: all of them, and the entities spawned are the answer; or it stopped before the first one that was
--- refused; or memory was wanting, after some of the first commands
-abbrev pub Applies : {S : Type 0} → Act S → List Request → (old new : S) → Result (List Entity) Refusal → Type 0
-Applies act rs old new (Ok es) = play act rs old ≡ whole (reached new es)
-Applies act rs old new (Err r) = IsPassed act rs old new × (r ≢ refusal_of NoMemory → Stops act rs old new r)

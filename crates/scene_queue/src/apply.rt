@@ -1,15 +1,19 @@
 //! Applying a queue.
-ghost use Rattle.std.specs.Prelude.{◌≡◌};
-ghost use Rattle.scene_kinds.specs.Answers.{Answers};
-ghost use Rattle.scene_world.specs.Queue.{reached, request};
+ghost use Rattle.std.specs.Prelude.{◌≡◌, ◌≢◌, ◌<◌, ◌^◌, length, IfOk, IfErr, OnErr, vec_len, vec_capacity};
+ghost use Rattle.scene_kinds.specs.Answers.{Answers, refusal_of};
+ghost use Rattle.scene_kinds.specs.declared.fault.Fault.TheVariants.{NoMemory};
+ghost use Rattle.scene_world.specs.Queue.{and_spawned, play, reached, refused_at, request, whole};
 ghost use Rattle.scene_world.specs.Perform.{SetParent};
 ghost use Rattle.scene_world.specs.Stage.{act};
-ghost use Rattle.scene_queue.specs.Requests.{on_both, request_of};
+ghost use Rattle.scene_queue.specs.Requests.{on_both, request_of, requests};
+ghost use Rattle.scene_queue.specs.Queue.{IsPassed, Stops};
 
 use crate::command::Command;
+use crate::queue::Queue;
 use crate::target::Target;
-use scene_kinds::{Entity, Refusal};
+use scene_kinds::{Entity, Fault, Place, Refusal};
 use scene_world::Stage;
+use std::alloc::Global;
 
 /// Makes the first target the last child of the second.
 fn link<S: Stage>(
@@ -62,4 +66,74 @@ fn do_command<S: Stage>(
         Command::RemoveResource(name) => stage.remove_resource(name.as_str())?,
     }
     Ok(None)
+}
+
+/// Adds what a command spawned, if anything.
+fn note_spawned(spawned: &mut Vec<Entity>, made: Option<Entity>)
+    requires { vec_len spawned.old < vec_capacity spawned.old }
+    ensures { spawned.new.items ≡ and_spawned spawned.old.items made }
+{
+    if let Some(entity) = made {
+        spawned.push_reserved(entity);
+    }
+}
+
+/// A refusal with the place of its command in the only queue of a frame. Want of memory has none.
+fn placed(refusal: Refusal, command: u32) -> Refusal
+    ensures { result ≡ refused_at 0 command refusal.fault }
+{
+    match refusal.fault {
+        Fault::NoMemory => Refusal::from(Fault::NoMemory),
+        fault => Refusal {
+            fault,
+            place: Some(Place {
+                phase: 0,
+                queue: 0,
+                command,
+            }),
+        },
+    }
+}
+
+/// Applies commands one after another; see `Queue::apply`.
+fn apply_commands<S: Stage>(
+    alloc: Global,
+    commands: &[Command],
+    stage: &mut S,
+) -> Result<Vec<Entity>, Refusal>
+    requires { length commands.now < 2 ^ 32 }
+    ensures whole { IfOk result (λ spawned. play (act S.note) (requests commands.now) (S.seen stage.old) ≡ whole (reached (S.seen stage.new) spawned.items)) }
+    ensures passed { OnErr result (IsPassed (act S.note) (requests commands.now) (S.seen stage.old) (S.seen stage.new)) }
+    ensures refused { IfErr result (λ r. r ≢ refusal_of NoMemory → Stops (act S.note) (requests commands.now) (S.seen stage.old) (S.seen stage.new) r) }
+{
+    let mut spawned = Vec::new(alloc);
+    let mut at: u32 = 0;
+    for command in commands {
+        if spawned.reserve(1).is_err() {
+            return Err(Refusal::from(Fault::NoMemory));
+        }
+        match do_command(command, spawned.as_slice(), stage) {
+            Ok(made) => note_spawned(&mut spawned, made),
+            Err(refusal) => return Err(placed(refusal, at)),
+        }
+        at += 1;
+    }
+    Ok(spawned)
+}
+
+impl Queue {
+    /// Applies the commands one after another to a world, or to another stage, and gives the entities that they
+    /// spawned, in order (docs/MODEL.md, "The rule of frames"). It costs what the commands cost, and a copy of the
+    /// components and values that they give.
+    ///
+    /// Refused: the first command's `BadLocal`, where a target isn't spawned yet, or else its own refusal, with the
+    /// phase 0, the queue 0 and its place in this queue; `NoMemory` without a place. After a refusal the stage is as
+    /// the commands before left it.
+    pub fn apply<S: Stage>(&self, stage: &mut S) -> Result<Vec<Entity>, Refusal>
+        ensures whole { IfOk result (λ spawned. play (act S.note) (requests self.now.commands) (S.seen stage.old) ≡ whole (reached (S.seen stage.new) spawned.items)) }
+        ensures passed { OnErr result (IsPassed (act S.note) (requests self.now.commands) (S.seen stage.old) (S.seen stage.new)) }
+        ensures refused { IfErr result (λ r. r ≢ refusal_of NoMemory → Stops (act S.note) (requests self.now.commands) (S.seen stage.old) (S.seen stage.new) r) }
+    {
+        apply_commands(self.alloc, self.commands.as_slice(), stage)
+    }
 }

@@ -36,14 +36,14 @@ pub struct Queue {
 }
 
 impl Model for Queue {
-    ghost use Rattle.std.specs.Prelude.{◌≡◌, ◌≤◌, length};
+    ghost use Rattle.std.specs.Prelude.{◌≡◌, ◌<◌, ◌≤◌, length};
     ghost use Rattle.scene_queue.specs.Queue.{QueueState, spawns};
 
     ghost Value = { QueueState };
 
     ghost view = { λ q. record { limit = q.limit; commands = q.commands.items } };
 
-    ghost invariant = { λ q. (length q.commands.items ≤ q.limit) × (q.spawned ≡ spawns q.commands.items) × (q.spawned ≤ length q.commands.items) };
+    ghost invariant = { λ q. (length q.commands.items ≤ q.limit) × (q.spawned ≡ spawns q.commands.items) × (q.spawned ≤ length q.commands.items) × (q.limit < 4294967296) };
 }
 
 /// Whether a command spawns an entity.
