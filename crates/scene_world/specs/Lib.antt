@@ -9,3 +9,6 @@ pub mod Valid
 pub mod Laws
 pub mod Stored
 pub mod Onto
+pub mod Raw
+pub mod Can
+pub mod RawLaws

@@ -1,0 +1,22 @@
+//! Laws of the raw changes of a world: where one may be made, it keeps the world valid and is taken back exactly. What
+//! is noted of a change, so that it can be undone and done again, rests on them.
+ghost use Rattle.scene_world.specs.RawLaws.{CellsComeBack, LinksComeBack, ResourcesComeBack, TicksComeBack};
+
+/// A law: a resource that is set to a cell or to none, and the tick, come back by being set to what they were. Both
+/// keep a valid world valid.
+pub fn resources_come_back()
+    ensures resources { ResourcesComeBack }
+    ensures ticks { TicksComeBack }
+{}
+
+/// A law: a cell of a live entity that is set, in its place and with any ticks, comes back by being set to what it was.
+/// It keeps a valid world valid.
+pub fn cells_come_back()
+    ensures { CellsComeBack }
+{}
+
+/// A law: a link of a live entity that is set, to a place in a parent's list or to none, comes back by being set to
+/// what it was, with every other child in its place. It keeps a valid world valid.
+pub fn links_come_back()
+    ensures { LinksComeBack }
+{}
