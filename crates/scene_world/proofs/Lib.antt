@@ -16,10 +16,12 @@ pub mod LinkKeeps
 pub mod Lives
 pub mod MoveKeeps
 pub mod NewCells
+pub mod OneSlot
 pub mod Onto
 pub mod Options
 pub mod Outcomes
 pub mod Parts
+pub mod PutBack
 pub mod ResourceBack
 pub mod ResourceKeeps
 pub mod ReturnedRows

@@ -1,6 +1,6 @@
 //! Laws of the raw changes of a world: where one may be made, it keeps the world valid and is taken back exactly. What
 //! is noted of a change, so that it can be undone and done again, rests on them.
-ghost use Rattle.scene_world.specs.RawLaws.{CellsComeBack, LinksComeBack, ResourcesComeBack, TicksComeBack};
+ghost use Rattle.scene_world.specs.RawLaws.{CellsComeBack, LinksComeBack, ResourcesComeBack, RowsComeBack, TicksComeBack};
 
 /// A law: a resource that is set to a cell or to none, and the tick, come back by being set to what they were. Both
 /// keep a valid world valid.
@@ -19,4 +19,10 @@ pub fn cells_come_back()
 /// what it was, with every other child in its place. It keeps a valid world valid.
 pub fn links_come_back()
     ensures { LinksComeBack }
+{}
+
+/// A law: a row that is put last in its table, with the slot of its entity, comes back by leaving it, and the last row
+/// of a table that leaves it comes back by being put there. Both keep a valid world valid.
+pub fn rows_come_back()
+    ensures { RowsComeBack }
 {}
