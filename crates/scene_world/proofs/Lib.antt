@@ -2,6 +2,7 @@ pub mod Bounds
 pub mod CellBack
 pub mod CommandKeeps
 pub mod Copies
+pub mod CutBack
 pub mod DespawnEach
 pub mod DespawnKeeps
 pub mod FrameKeeps
@@ -28,6 +29,7 @@ pub mod ReturnedRows
 pub mod RowLists
 pub mod Rows
 pub mod Scans
+pub mod ShiftBack
 pub mod ShiftedCells
 pub mod SpawnKeeps
 pub mod Stored

@@ -4,6 +4,7 @@ use Rattle.std.specs.Prelude.{Err}
 use Rattle.std.specs.Cmp.{nat_cmp_total}
 use Rattle.std.specs.List.{list_any}
 use Rattle.std.proofs.lemmas.Bool.{or_right, eq-eqb}
+use Rattle.std.proofs.Math.Bool.{not-not}
 use Rattle.scene_kinds.specs.declared.entity.Entity.{Entity}
 use Rattle.scene_kinds.specs.declared.cell.Cell.{Cell}
 use Rattle.scene_kinds.specs.declared.cells.Row.{Row}
@@ -88,10 +89,6 @@ untaken_here : (s : SlotState) (e : Entity) (fresh : Bool) → CanUntake s e fre
 untaken_here s e true c l = let n = fresh_length s e c in let m = (c.newest refl).last_slot in absurd (omega (arith, n, m, l))
 untaken_here s e false c l = any_pushed s.free e.index e.index ∙ ap (λ b. list_any (nat_eq e.index) s.free || b) (eq-eqb e.index e.index refl) ∙ or_right (list_any (nat_eq e.index) s.free) true refl
 
-twice_not : (b : Bool) → b ≡ not (not b)
-twice_not true = refl
-twice_not false = refl
-
 module _ (w : World) (e : Entity) (cells : List (ℕ × Cell)) (fresh : Bool) (v : IsValid w) (can : CanDrop w e cells fresh) where
   abbrev home : Home
   home = last_home w.tables (row_for e cells)
@@ -149,7 +146,7 @@ module _ (w : World) (e : Entity) (cells : List (ℕ × Cell)) (fresh : Bool) (v
       let good = good_cells w w.slots home.mask (row_for e cells) (v.rows.each home (row_for e cells) drop_there) in
       record {
         next = ap taken_entity (take-untake w.slots e fresh v.slots drop_untakes);
-        slot = twice_not fresh ∙ ap not (sym (has_free-untake w.slots e fresh drop_untakes));
+        slot = sym (not-not fresh) ∙ ap not (sym (has_free-untake w.slots e fresh drop_untakes));
         good = record { ascending = good.ascending; fit = good.fit; timely = good.timely };
       }
 

@@ -28,5 +28,8 @@ pub use home::Home;
 pub use laws::{
     commands_keep_worlds_valid, frames_keep_worlds_valid, recursive_despawn_is_never_refused_midway,
 };
-pub use raw_laws::{cells_come_back, links_come_back, resources_come_back, rows_come_back};
+pub use raw_laws::{
+    cells_come_back, cut_rows_come_back, links_come_back, resources_come_back, rows_come_back,
+    shifted_rows_come_back,
+};
 pub use world::World;

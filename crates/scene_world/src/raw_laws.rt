@@ -1,6 +1,6 @@
 //! Laws of the raw changes of a world: where one may be made, it keeps the world valid and is taken back exactly. What
 //! is noted of a change, so that it can be undone and done again, rests on them.
-ghost use Rattle.scene_world.specs.RawLaws.{CellsComeBack, LinksComeBack, ResourcesComeBack, RowsComeBack, TicksComeBack};
+ghost use Rattle.scene_world.specs.RawLaws.{CellsComeBack, CutRowsComeBack, LinksComeBack, ResourcesComeBack, RowsComeBack, ShiftedRowsComeBack, TicksComeBack};
 
 /// A law: a resource that is set to a cell or to none, and the tick, come back by being set to what they were. Both
 /// keep a valid world valid.
@@ -25,4 +25,16 @@ pub fn links_come_back()
 /// of a table that leaves it comes back by being put there. Both keep a valid world valid.
 pub fn rows_come_back()
     ensures { RowsComeBack }
+{}
+
+/// A law: a row that leaves its table as at a despawn comes back to its place, with its slot and its link, and one that
+/// came back so leaves again as it had left. Both keep a valid world valid.
+pub fn cut_rows_come_back()
+    ensures { CutRowsComeBack }
+{}
+
+/// A law: a row that moves to another table, with one kind more or less, comes back to its place with the cells that
+/// it had, and one that moved back moves on as it had moved. Both keep a valid world valid.
+pub fn shifted_rows_come_back()
+    ensures { ShiftedRowsComeBack }
 {}
