@@ -9,6 +9,7 @@ pub mod FrameKeeps
 pub mod GivenLinks
 pub mod GoodCells
 pub mod Homes
+pub mod RowCommands
 pub mod RowKinds
 pub mod RowOf
 pub mod KindSets
@@ -21,6 +22,7 @@ pub mod OneSlot
 pub mod Onto
 pub mod Options
 pub mod Outcomes
+pub mod PartCommands
 pub mod Parts
 pub mod PutBack
 pub mod ResourceBack

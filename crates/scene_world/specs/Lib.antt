@@ -12,3 +12,4 @@ pub mod Onto
 pub mod Raw
 pub mod Can
 pub mod RawLaws
+pub mod CommandRaw

@@ -1,5 +1,6 @@
 //! Laws of the raw changes of a world: where one may be made, it keeps the world valid and is taken back exactly. What
 //! is noted of a change, so that it can be undone and done again, rests on them.
+ghost use Rattle.scene_world.specs.CommandRaw.{SpawnPuts, DespawnCuts, InsertShiftsOrSets, RemoveShifts, SetParentSetsLink, RemoveParentSetsLink, PutSetsResource, RemoveSetsResource, RaiseSetsTick};
 ghost use Rattle.scene_world.specs.RawLaws.{CellsComeBack, CutRowsComeBack, LinksComeBack, ResourcesComeBack, RowsComeBack, ShiftedRowsComeBack, TicksComeBack};
 
 /// A law: a resource that is set to a cell or to none, and the tick, come back by being set to what they were. Both
@@ -37,4 +38,23 @@ pub fn cut_rows_come_back()
 /// it had, and one that moved back moves on as it had moved. Both keep a valid world valid.
 pub fn shifted_rows_come_back()
     ensures { ShiftedRowsComeBack }
+{}
+
+/// A law of the commands on one entity, given to a valid world: an accepted one is a raw change that may be made there,
+/// with the row, the place, the cell or the link that the world had. A despawn is that of an entity without children.
+pub fn commands_are_raw_changes()
+    ensures spawn { SpawnPuts }
+    ensures despawn { DespawnCuts }
+    ensures insert { InsertShiftsOrSets }
+    ensures remove { RemoveShifts }
+    ensures set_parent { SetParentSetsLink }
+    ensures remove_parent { RemoveParentSetsLink }
+{}
+
+/// A law of the commands on resources, and of raising the tick: an accepted one, with a value that its type can hold,
+/// is a raw change that may be made.
+pub fn resource_commands_are_raw_changes()
+    ensures put { PutSetsResource }
+    ensures remove { RemoveSetsResource }
+    ensures raise { RaiseSetsTick }
 {}
