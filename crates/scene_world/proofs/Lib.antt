@@ -15,6 +15,7 @@ pub mod RowOf
 pub mod KindSets
 pub mod LinkBack
 pub mod LinkKeeps
+pub mod ListBack
 pub mod Lives
 pub mod MoveKeeps
 pub mod NewCells

@@ -13,3 +13,4 @@ pub mod Raw
 pub mod Can
 pub mod RawLaws
 pub mod CommandRaw
+pub mod RawLists

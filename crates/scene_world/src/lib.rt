@@ -33,6 +33,7 @@ pub use laws::{
 };
 pub use raw_laws::{
     cells_come_back, commands_are_raw_changes, cut_rows_come_back, links_come_back,
-    resource_commands_are_raw_changes, resources_come_back, rows_come_back, shifted_rows_come_back,
+    recursive_despawn_comes_back, resource_commands_are_raw_changes, resources_come_back,
+    rows_come_back, shifted_rows_come_back,
 };
 pub use world::World;

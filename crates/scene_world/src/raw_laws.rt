@@ -1,6 +1,7 @@
 //! Laws of the raw changes of a world: where one may be made, it keeps the world valid and is taken back exactly. What
 //! is noted of a change, so that it can be undone and done again, rests on them.
 ghost use Rattle.scene_world.specs.CommandRaw.{SpawnPuts, DespawnCuts, InsertShiftsOrSets, RemoveShifts, SetParentSetsLink, RemoveParentSetsLink, PutSetsResource, RemoveSetsResource, RaiseSetsTick};
+ghost use Rattle.scene_world.specs.RawLists.{CutListsComeBack, DespawnRecursiveCuts};
 ghost use Rattle.scene_world.specs.RawLaws.{CellsComeBack, CutRowsComeBack, LinksComeBack, ResourcesComeBack, RowsComeBack, ShiftedRowsComeBack, TicksComeBack};
 
 /// A law: a resource that is set to a cell or to none, and the tick, come back by being set to what they were. Both
@@ -40,8 +41,8 @@ pub fn shifted_rows_come_back()
     ensures { ShiftedRowsComeBack }
 {}
 
-/// A law of the commands on one entity, given to a valid world: an accepted one is a raw change that may be made there,
-/// with the row, the place, the cell or the link that the world had. A despawn is that of an entity without children.
+/// A law of the commands on one entity: one that a valid world accepts is a raw change that may be made there, with the
+/// row, the place, the cell or the link that the world had.
 pub fn commands_are_raw_changes()
     ensures spawn { SpawnPuts }
     ensures despawn { DespawnCuts }
@@ -57,4 +58,11 @@ pub fn resource_commands_are_raw_changes()
     ensures put { PutSetsResource }
     ensures remove { RemoveSetsResource }
     ensures raise { RaiseSetsTick }
+{}
+
+/// A law of a recursive despawn: it cuts the rows of the entity and of those below it one after another, children
+/// first, and rows that were cut one after another come back from the last to the first.
+pub fn recursive_despawn_comes_back()
+    ensures cuts { DespawnRecursiveCuts }
+    ensures back { CutListsComeBack }
 {}
