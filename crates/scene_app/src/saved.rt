@@ -4,7 +4,9 @@ ghost use Rattle.std.specs.Option.{ok_or};
 ghost use Rattle.scene_kinds.specs.Answers.{Answers, refusal_of};
 ghost use Rattle.scene_kinds.specs.declared.fault.Fault.TheVariants.{BadLocal, NoMemory};
 ghost use Rattle.scene_world.specs.Machine.{opening, undo, redo};
-ghost use Rattle.scene_world.specs.Frame.{Submit, call, frame, opened, refused_at, request};
+ghost use Rattle.scene_world.specs.Perform.{perform};
+ghost use Rattle.scene_world.specs.Queue.{reached, refused_at, request};
+ghost use Rattle.scene_world.specs.Frame.{Submit, call, frame};
 ghost use Rattle.scene_app.specs.Requests.{alone, entities, made, request_of, target_in};
 
 use scene_kinds::{Entity, Fault, Place, Refusal};
@@ -45,7 +47,7 @@ fn entity_of(target: TargetWord) -> Result<Entity, Refusal>
 
 /// Does the only command of its queue.
 fn do_command(world: &mut World, command: Command) -> Result<Option<Entity>, Refusal>
-    ensures { Answers result world.old world.new (request (request_of command) (opened world.old)) }
+    ensures { Answers result world.old world.new (request perform (request_of command) (reached world.old [])) }
 {
     match command {
         Command::Spawn(cells) => {

@@ -11,3 +11,8 @@ pub mod Valid
 pub mod Laws
 pub mod Stored
 pub mod Onto
+pub mod Raw
+pub mod Can
+pub mod RawLaws
+pub mod CommandRaw
+pub mod RawLists

@@ -6,6 +6,9 @@
 //!
 //! `World` keeps a table for each kind set; all growth comes before the first change, so that a refusal leaves
 //! the world as it was. `laws` says of all commands, and of frames, that an accepted one keeps a valid world valid.
+//!
+//! `specs/Raw.antt` has the raw changes of which commands are made, `specs/Can.antt` where each may be made, and
+//! `raw_laws` says that each keeps a valid world valid and is taken back exactly.
 #![tactic(auto)]
 
 mod clones;
@@ -15,6 +18,7 @@ mod home;
 mod kind_sets;
 mod laws;
 mod moves;
+mod raw_laws;
 mod stage;
 mod tables;
 #[cfg(test)]
@@ -27,6 +31,11 @@ pub use examples::worked_examples_hold;
 pub use home::Home;
 pub use laws::{
     commands_keep_worlds_valid, frames_keep_worlds_valid, recursive_despawn_is_never_refused_midway,
+};
+pub use raw_laws::{
+    cells_come_back, commands_are_raw_changes, cut_rows_come_back, links_come_back,
+    recursive_despawn_comes_back, resource_commands_are_raw_changes, resources_come_back,
+    rows_come_back, shifted_rows_come_back,
 };
 pub use stage::Stage;
 pub use world::World;
