@@ -16,10 +16,6 @@ mod kind_sets;
 mod laws;
 mod moves;
 mod tables;
-#[cfg(test)]
-mod tests;
-#[cfg(test)]
-mod tree_tests;
 mod world;
 
 pub use examples::worked_examples_hold;
