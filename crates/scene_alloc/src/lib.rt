@@ -10,8 +10,6 @@
 
 mod laws;
 mod slots;
-#[cfg(test)]
-mod tests;
 
 pub use laws::{
     moves_change_one_index, release_comes_back, take_comes_back, unrelease_comes_back,

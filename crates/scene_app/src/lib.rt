@@ -18,8 +18,3 @@ mod show;
 pub use fault::AppFault;
 pub use play::play_script;
 pub use run::{RunEnd, run_script};
-
-#[cfg(test)]
-mod play_tests;
-#[cfg(test)]
-mod run_tests;

@@ -20,8 +20,6 @@ mod number;
 mod refusal;
 mod schema;
 mod shape;
-#[cfg(test)]
-mod tests;
 mod text;
 mod value;
 

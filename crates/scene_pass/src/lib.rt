@@ -16,8 +16,6 @@ mod entities;
 mod filter;
 mod laws;
 mod tables;
-#[cfg(test)]
-mod tests;
 
 pub use cell_name::CellName;
 pub use cells::{added_since, changed_since};

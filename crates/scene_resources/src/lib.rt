@@ -17,8 +17,6 @@
 
 mod laws;
 mod resources;
-#[cfg(test)]
-mod tests;
 
 pub use laws::{names_are_whole, restored_comes_back, worked_resources};
 pub use resources::Resources;

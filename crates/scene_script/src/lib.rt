@@ -26,6 +26,3 @@ pub use script_line::{Line, read_line};
 pub use slot_limit::SlotLimit;
 pub use target::{TargetWord, read_target};
 pub use word::{cut, words};
-
-#[cfg(test)]
-mod tests;

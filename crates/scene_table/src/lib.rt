@@ -10,8 +10,6 @@
 
 mod rows;
 mod table;
-#[cfg(test)]
-mod tests;
 
 pub use rows::{put_back_comes_back, swap_out_comes_back};
 pub use table::Table;

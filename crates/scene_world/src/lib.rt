@@ -21,10 +21,6 @@ mod moves;
 mod raw_laws;
 mod stage;
 mod tables;
-#[cfg(test)]
-mod tests;
-#[cfg(test)]
-mod tree_tests;
 mod world;
 
 pub use examples::worked_examples_hold;

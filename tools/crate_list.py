@@ -1,0 +1,25 @@
+"""What crates.txt says: the crates of this repository, and what each stands on."""
+from pathlib import Path
+
+TOP = Path(__file__).resolve().parent.parent
+
+
+def crates():
+    """The crates by name, each with those of this repository that it names."""
+    named = {}
+    for line in (TOP / "crates.txt").read_text().splitlines():
+        if line.strip() and not line.startswith("#"):
+            name, _, others = line.partition(":")
+            named[name.split()[0]] = others.split()
+    return {name: [other for other in others if other in named] for name, others in named.items()}
+
+
+def with_all_below(names):
+    """The crates named, and all that they stand on."""
+    named, wanted, left = crates(), set(), list(names)
+    while left:
+        name = left.pop()
+        if name not in wanted:
+            wanted.add(name)
+            left.extend(named[name])
+    return wanted
