@@ -51,18 +51,18 @@ module _ {E O : Type 0} where
   abbrev pub new_seat : Terms O → ℕ → ℕ → Knowledge E O
   new_seat terms n session = record { terms = Some terms; members = new_members n session; holding = false }
 
-  -- B1: the seat of a new lock, for all passes
+  -- Making a lock: its one seat, for all passes
   abbrev pub opening_seat : Terms O → Knowledge E O
   opening_seat terms = new_seat terms terms.passes 0
 
-  -- B2: the seat of the first pass, and that of the others
+  -- Parting: the seat of the first pass, and that of the others
   abbrev pub first_seat : Knowledge E O → Knowledge E O
   first_seat k = record k { members = first_member k.members; holding = false }
 
   abbrev pub others_seat : Knowledge E O → Knowledge E O
   others_seat k = record k { members = other_members k.members; holding = false }
 
-  -- B3: the seat of two, and what is left of the second, which stands for no pass
+  -- Joining: the seat of two, and what is left of the second, which stands for no pass
   abbrev pub joined_seat : Knowledge E O → Knowledge E O → Knowledge E O
   joined_seat k l = record k { members = k.members ++ l.members; holding = false }
 
@@ -104,7 +104,7 @@ module _ {X E O : Type 0} (legal : O → List E → Type 0) (by : E → ℕ) whe
   looked step before found after = Sees before after
 
 module _ {X E O : Type 0} (good : O → X → Type 0) (history : X → List E) (legal : O → List E → Type 0) (by : E → ℕ) where
-  -- K1 and K2: where the word was the one expected the state was taken out, and it is good. Else there was a look
+  -- Taking, to change or to share: where the word was the one expected the state was taken out, and it is good. Else there was a look
   abbrev pub TakesOut : Me (Option X) (Knowledge E O) → Me (Option X) (Knowledge E O) → Type 0
   TakesOut before after = (x : X) × (after ≡ (record before.0 { members = all_seeing (history x) before.0.members; holding = true }, (0, Some x) ∷ []))
       × Tells legal by before.0 (history x) × ((p : ℕ × List E) (terms : Terms O) → IsMember before.0.members p → before.0.terms ≡ Some terms → good terms.opening x)
@@ -118,6 +118,6 @@ module _ {X E O : Type 0} (history : X → List E) (legal : O → List E → Typ
   PutsHome x before after = (after ≡ (record before.0 { members = all_seeing (history x) before.0.members; holding = false }, []))
       × ((p : ℕ × List E) (terms : Terms O) → IsMember before.0.members p → before.0.terms ≡ Some terms → IsLegal legal by terms (history x))
 
-  -- K3, K4 and K5
+  -- Putting back, changed or as it was, with the state wanted or not
   abbrev pub put_home : Step (Option X) → Me (Option X) (Knowledge E O) → ℕ → Me (Option X) (Knowledge E O) → Type 0
   put_home step before found after = (x : X) → before.1 ≡ (0, Some x) ∷ [] → PutsHome x before after
