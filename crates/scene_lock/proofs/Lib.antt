@@ -1,0 +1,5 @@
+mod FirstPasses
+mod Growth
+mod Keeps
+mod Owners
+mod Passing

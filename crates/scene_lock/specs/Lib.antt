@@ -1,0 +1,4 @@
+pub mod History
+pub mod Pass
+pub mod Rule
+pub mod Shared

@@ -1,0 +1,20 @@
+//! The lock over a small state, by threads: what its contracts can't say.
+//!
+//! The state is a list of notes, each a session with a number. `worked` has a whole use by two sessions, alone; `threads` has
+//! many sessions at once; `inside` has looks and changes that wait within the lock for one another.
+#![tactic(auto)]
+
+mod beside;
+mod inside;
+mod notes;
+#[cfg(test)]
+mod tests;
+mod threads;
+
+pub use beside::{
+    BesideChange, is_shut_out, look_beside_wanting_write, look_together, read_until,
+    try_beside_change, write_among_readers,
+};
+pub use inside::{Gate, Meeting, Stay};
+pub use notes::{Count, Note, Notes, Write};
+pub use threads::{enter_all, enter_many, meet_in_chain, take_last};
