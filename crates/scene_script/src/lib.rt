@@ -7,8 +7,10 @@
 //! scene_app's.
 #![tactic(auto)]
 
+mod bad_line;
 mod cell_word;
 mod command;
+mod form;
 mod line;
 mod number;
 mod print;
@@ -17,8 +19,9 @@ mod slot_limit;
 mod target;
 mod word;
 
-pub use cell_word::{read_cell, read_shaped_value, read_value};
+pub use bad_line::{BadLine, LineError};
 pub use command::{Command, Given};
+pub use form::Form;
 pub use line::first_line;
 pub use number::{read_count, read_entity, read_number};
 pub use print::{write_cell, write_json_text, write_row, write_value};

@@ -1,4 +1,5 @@
 use super::*;
+use crate::cell_word::cell_word;
 use scene_kinds::{Cell, Cells, Entity, Row, Schema, Text, Value};
 use std::alloc::{AllocError, Global};
 use std::test::Fail;
@@ -132,7 +133,7 @@ fn cells_print_as_they_are_read(rt: HostRuntime) -> Result<(), Fail> {
     ];
     for (word, text) in cases {
         let mut out = String::new(alloc);
-        if let Some((kind, value)) = read_cell(alloc, &schema, word)? {
+        if let Ok((kind, value)) = cell_word(alloc, &schema, word) {
             let cell = Cell {
                 value,
                 added: 1,
@@ -173,7 +174,7 @@ fn words_of_no_cell_are_refused(rt: HostRuntime) -> Result<(), Fail> {
         "Y=+0",
     ];
     for word in others {
-        assert!(rt; read_cell(alloc, &schema, word)?.is_none(), "{word}");
+        assert!(rt; cell_word(alloc, &schema, word).is_err(), "{word}");
     }
     Ok(())
 }
@@ -286,8 +287,8 @@ fn lines_of_no_form_are_bad(rt: HostRuntime) -> Result<(), Fail> {
     let alloc = rt.alloc();
     let schema = kinds(alloc)?;
     for line in NO_FORMS {
-        let read = read_line(alloc, &schema, line.as_bytes())?;
-        assert!(rt; matches!(&read, Line::Bad), "{line}");
+        let read = read_line(alloc, &schema, line.as_bytes());
+        assert!(rt; matches!(&read, Err(LineError::Bad(_))), "{line}");
     }
     Ok(())
 }
@@ -338,8 +339,8 @@ fn lines_say_commands(rt: HostRuntime) -> Result<(), Fail> {
         ("drop sky", "drop sky"),
     ];
     for (line, text) in cases {
-        let said = match read_line(alloc, &schema, line.as_bytes())? {
-            Line::Do(command) => command_text(alloc, command)?,
+        let said = match read_line(alloc, &schema, line.as_bytes()) {
+            Ok(Line::Do(command)) => command_text(alloc, command)?,
             _other => String::new(alloc),
         };
         assert_eq!(rt; said.as_str(), text, "{line}");
