@@ -1,6 +1,6 @@
 -- Which bytes are a number or an entity, and of what value. A number has just one text: the one that it
 -- prints as.
-use Rattle.std.specs.Prelude.{ℕ, ℤ, pos, negsuc, ◌^◌, List, [], ◌∷◌, ◌==◌, Bool, false, not, ◌&&◌, Option, Some, None, Result, nat_lt, if◌then◌else◌, decimal, option_map, option_and_then}
+use Rattle.std.specs.Prelude.{ℕ, ℤ, pos, negsuc, ◌^◌, List, [], ◌∷◌, ◌==◌, Bool, false, not, ◌&&◌, Option, Some, None, Result, length, nat_eq, nat_lt, if◌then◌else◌, decimal, option_map, option_and_then}
 use Rattle.std.specs.List.{list_all}
 use Rattle.std.specs.Char.{is_ascii_digit}
 use Rattle.std.specs.Fmt.{signed_decimal}
@@ -46,10 +46,10 @@ abbrev pub is_digits : List ℕ → Bool
 is_digits [] = false
 is_digits (b ∷ bs) = not (b == 48) && list_all is_ascii_digit (b ∷ bs)
 
--- whether bytes are written as a whole number of any size: digits, perhaps after one - (45)
+-- whether bytes are written as a whole number of any size: a lone zero, or digits, perhaps after one - (45)
 abbrev pub is_whole : List ℕ → Bool
 is_whole [] = false
-is_whole (b ∷ bs) = if b == 45 then is_digits bs else is_digits (b ∷ bs)
+is_whole (b ∷ bs) = if b == 45 then is_digits bs else if b == 48 then nat_eq (length bs) 0 else is_digits (b ∷ bs)
 
 -- why bytes are no number from the least to the most
 abbrev pub bad_number : List ℕ → (least most : ℤ) → BadLine

@@ -16,33 +16,33 @@ pub enum BadLine {
     #[error("no command is named {}", .0.as_str())]
     UnknownCommand(Text),
     /// The first word names a line that doesn't run yet.
-    #[error("{} doesn't run yet", .0.as_str())]
+    #[error("`{}` doesn't run yet", .0.as_str())]
     NotYet(Text),
     #[error("a word is missing in `{0}`")]
     MissingWord(Form),
     /// The first word behind the last one of the form.
-    #[error("{} is a word too many for `{}`", .0.as_str(), .1)]
+    #[error("`{}` is a word too many for `{}`", .0.as_str(), .1)]
     ExtraWord(Text, Form),
     #[error("no shape is named {}: a shape is Tag, Int, Vec3, Text or Link", .0.as_str())]
     UnknownShape(Text),
     #[error("no kind is named {}", .0.as_str())]
     UnknownKind(Text),
     /// A kind or a shape other than a tag, with no `=` behind it.
-    #[error("{} needs = and a value behind it", .0.as_str())]
+    #[error("`{}` needs = and a value behind it", .0.as_str())]
     MissingValue(Text),
     /// A kind or a shape that is a tag, with a `=` behind it.
-    #[error("{} is a Tag, and so has no = behind it", .0.as_str())]
+    #[error("`{}` is a Tag, and so has no = behind it", .0.as_str())]
     ValueOfTag(Text),
-    #[error("{} is no whole number, as 0, 17 or -5", .0.as_str())]
+    #[error("`{}` is no whole number, as 0, 17 or -5", .0.as_str())]
     NoNumber(Text),
     /// A whole number below the second or above the third.
-    #[error("{} is out of range, which is {} to {}", .0.as_str(), .1, .2)]
+    #[error("`{}` is out of range, which is {} to {}", .0.as_str(), .1, .2)]
     OutOfRange(Text, i64, i64),
-    #[error("{} isn't three whole numbers with commas between them, as 1,-2,3", .0.as_str())]
+    #[error("`{}` isn't three whole numbers with commas between them, as 1,-2,3", .0.as_str())]
     NoVec3(Text),
-    #[error("{} is no entity, as 0v1", .0.as_str())]
+    #[error("`{}` is no entity, as 0v1", .0.as_str())]
     NoEntity(Text),
-    #[error("{} is neither an entity, as 0v1, nor + and a number", .0.as_str())]
+    #[error("`{}` is neither an entity, as 0v1, nor + and a number", .0.as_str())]
     NoTarget(Text),
     /// A line of the setup behind it.
     #[error("the setup has ended: kind and slots come before all other lines")]

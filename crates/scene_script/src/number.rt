@@ -80,6 +80,7 @@ fn is_whole(bytes: &[u8]) -> bool
 {
     match bytes {
         [b'-', digits @ ..] => is_digits(digits),
+        [b'0', rest @ ..] => rest.is_empty(),
         _ => is_digits(bytes),
     }
 }
