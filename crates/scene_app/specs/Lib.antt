@@ -1,4 +1,7 @@
 pub mod Fault
 pub mod Listed
 pub mod Play
+pub mod Reports
+pub mod ShowSteps
 pub mod Shown
+pub mod Steps

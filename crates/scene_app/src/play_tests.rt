@@ -1,4 +1,4 @@
-use super::*;
+use crate::play::play_script;
 use std::alloc::Global;
 use std::process::Abort;
 use std::test::Fail;
@@ -7,7 +7,7 @@ use std::test::Fail;
 fn play_each(rt: &impl Abort, alloc: Global, table: &[(&str, &str, usize)]) -> Result<(), Fail> {
     for &(script, output, bad_lines) in table {
         let mut out = String::new(alloc);
-        let bad = play_script(alloc, script.as_bytes(), &mut out)?;
+        let bad = play_script(alloc, script.as_bytes(), &mut out)?.count();
         assert_eq!(rt; out.as_str(), output, "{script}");
         assert_eq!(rt; bad, bad_lines, "{script}");
     }

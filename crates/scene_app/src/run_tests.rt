@@ -81,6 +81,14 @@ impl Write for Slow {
     }
 }
 
+/// How many bad lines a run had.
+fn bad_lines_of(end: Result<RunEnd, AppFault>) -> Result<u32, AppFault> {
+    match end {
+        Ok(end) => Ok(end.bad_lines),
+        Err(fault) => Err(fault),
+    }
+}
+
 #[test]
 fn a_run_writes_the_answers_and_counts_bad_lines(rt: HostRuntime) -> Result<(), Fail> {
     let alloc = rt.alloc();
@@ -101,8 +109,12 @@ fn a_run_writes_the_answers_and_counts_bad_lines(rt: HostRuntime) -> Result<(), 
     for (script, output, bad_lines) in cases {
         for step in [1, 3, 1000] {
             let mut sink = Sink::new(slow_writer(alloc, 0, true));
-            let end = run_script(alloc, &mut Source::new(parts_of(script, step)), &mut sink);
-            assert_eq!(rt; end, Ok(RunEnd { bad_lines }), "{script}");
+            let end = bad_lines_of(run_script(
+                alloc,
+                &mut Source::new(parts_of(script, step)),
+                &mut sink,
+            ));
+            assert_eq!(rt; end, Ok(bad_lines), "{script}");
             assert_eq!(rt;
                 sink.get_ref().taken.as_slice(),
                 output.as_bytes(),
@@ -121,13 +133,13 @@ fn a_failed_read_writes_nothing(rt: HostRuntime) -> Result<(), Fail> {
         reader.fails_at = fails_at;
         let mut sink = Sink::new(slow_writer(alloc, 0, true));
         let mut source = Source::new(reader);
-        let end = run_script(alloc, &mut source, &mut sink);
+        let end = bad_lines_of(run_script(alloc, &mut source, &mut sink));
         assert_eq!(rt; source.has_failed(), fails_at < 8, "call {fails_at}");
         if fails_at < 8 {
             assert_eq!(rt; end, Err(AppFault::ReadFault), "call {fails_at}");
             assert_eq!(rt; sink.get_ref().calls, 0, "call {fails_at}");
         } else {
-            assert_eq!(rt; end, Ok(RunEnd { bad_lines: 0 }), "call {fails_at}");
+            assert_eq!(rt; end, Ok(0), "call {fails_at}");
             assert_eq!(rt;
                 sink.get_ref().taken.as_slice(),
                 OUTPUT.as_bytes(),
@@ -147,8 +159,8 @@ fn an_interrupted_read_is_made_again(rt: HostRuntime) -> Result<(), Fail> {
         reader.kind = ErrorKind::Interrupted;
         let mut sink = Sink::new(slow_writer(alloc, 0, true));
         let mut source = Source::new(reader);
-        let end = run_script(alloc, &mut source, &mut sink);
-        assert_eq!(rt; end, Ok(RunEnd { bad_lines: 0 }), "call {fails_at}");
+        let end = bad_lines_of(run_script(alloc, &mut source, &mut sink));
+        assert_eq!(rt; end, Ok(0), "call {fails_at}");
         assert_eq!(rt; source.get_ref().calls, 8, "call {fails_at}");
         assert_eq!(rt;
             sink.get_ref().taken.as_slice(),
@@ -166,11 +178,15 @@ fn a_stopped_write_leaves_a_prefix_of_the_output(rt: HostRuntime) -> Result<(), 
     for before in 0..=calls {
         for fails in [false, true] {
             let mut sink = Sink::new(slow_writer(alloc, before as u32 + 1, fails));
-            let end = run_script(alloc, &mut Source::new(parts_of(SCRIPT, 6)), &mut sink);
+            let end = bad_lines_of(run_script(
+                alloc,
+                &mut Source::new(parts_of(SCRIPT, 6)),
+                &mut sink,
+            ));
             let wanted = if before < calls {
                 Err(AppFault::WriteFault)
             } else {
-                Ok(RunEnd { bad_lines: 0 })
+                Ok(0)
             };
             assert_eq!(rt; end, wanted, "after {before} calls");
             assert_eq!(rt; sink.has_failed(), before < calls, "after {before} calls");

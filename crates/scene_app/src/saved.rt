@@ -4,7 +4,7 @@ ghost use Rattle.scene_kinds.specs.Answers.{Answers, Outcome, refusal_of};
 ghost use Rattle.scene_kinds.specs.declared.fault.Fault.TheVariants.{NoMemory};
 ghost use Rattle.scene_kinds.specs.declared.refusal.Refusal.{Refusal as Refused};
 ghost use Rattle.scene_world.specs.Machine.{opening, submitted, undo, redo};
-ghost use Rattle.scene_app.specs.Play.{done, frame, frame_refusal, target_of};
+ghost use Rattle.scene_app.specs.Play.{command_outcome, frame_outcome, frame_refusal, target_of};
 
 use scene_kinds::{Entity, Fault, Place, Refusal};
 use scene_script::{Command, TargetWord};
@@ -44,7 +44,7 @@ fn entity_of(target: TargetWord) -> Result<Entity, Refusal>
 
 /// Does a command.
 fn do_command(world: &mut World, command: Command) -> Result<Option<Entity>, Refusal>
-    ensures { Answers result world.old world.new (done command world.old) }
+    ensures { Answers result world.old world.new (command_outcome command world.old) }
 {
     match command {
         Command::Spawn(cells) => {
@@ -86,7 +86,7 @@ fn placed(refusal: Refusal) -> Refusal
 
 /// Does a frame of one command on a world that is dropped where the frame is refused.
 fn do_frame(world: &mut World, command: Command) -> Result<Option<Entity>, Refusal>
-    ensures { MatchResult result (λ a. frame command world.old ≡ Ok (a, world.new)) (λ r. r ≢ refusal_of NoMemory → frame command world.old ≡ Err r) }
+    ensures { MatchResult result (λ a. frame_outcome command world.old ≡ Ok (a, world.new)) (λ r. r ≢ refusal_of NoMemory → frame_outcome command world.old ≡ Err r) }
 {
     world.raise_tick()?;
     match do_command(world, command) {
@@ -125,7 +125,7 @@ impl Saved {
     /// Does a frame of one command: the world before it is kept, and what was undone is forgotten. It costs a copy
     /// of the world.
     pub(crate) fn submit(&mut self, command: Command) -> Result<Option<Entity>, Refusal>
-        ensures { Answers result self.old self.new (submitted self.old (frame command self.old.now)) }
+        ensures { Answers result self.old self.new (submitted self.old (frame_outcome command self.old.now)) }
     {
         let mut next = self.now.try_clone()?;
         let made = do_frame(&mut next, command)?;
