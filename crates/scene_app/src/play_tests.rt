@@ -175,7 +175,7 @@ fn lines_are_bytes_up_to_a_line_feed(rt: HostRuntime) -> Result<(), Fail> {
     ];
     for (script, output, lines) in cases {
         let mut out = String::new(alloc);
-        let bad = play_script(alloc, script, &mut out)?;
+        let bad = play_script(alloc, script, &mut out)?.count();
         assert_eq!(rt; out.as_str(), output, "{script:?}");
         assert_eq!(rt; bad, lines, "{script:?}");
     }
