@@ -5,6 +5,7 @@ ghost use Rattle.scene_script.specs.declared.bad_line.LineError.TheVariants.{Bad
 use crate::form::Form;
 use scene_kinds::Text;
 use std::alloc::{AllocError, AllocFailed, Global};
+use std::fmt;
 use thiserror::Error;
 
 /// Why a line is bad: its first mistake, read from the left (docs/SCRIPTS.md, "Bad lines"). `Display` says it in words.
@@ -13,36 +14,36 @@ pub enum BadLine {
     #[error("the line is no UTF-8")]
     NotUtf8,
     /// The first word names no line.
-    #[error("no command is named {}", .0.as_str())]
+    #[error("no command is named {}", quoted(.0))]
     UnknownCommand(Text),
     /// The first word names a line that doesn't run yet.
-    #[error("`{}` doesn't run yet", .0.as_str())]
+    #[error("`{}` doesn't run yet", quoted(.0))]
     NotYet(Text),
     #[error("a word is missing in `{0}`")]
     MissingWord(Form),
     /// The first word behind the last one of the form.
-    #[error("`{}` is a word too many for `{}`", .0.as_str(), .1)]
+    #[error("`{}` is a word too many for `{}`", quoted(.0), .1)]
     ExtraWord(Text, Form),
-    #[error("no shape is named {}: a shape is Tag, Int, Vec3, Text or Link", .0.as_str())]
+    #[error("no shape is named {}: a shape is Tag, Int, Vec3, Text or Link", quoted(.0))]
     UnknownShape(Text),
-    #[error("no kind is named {}", .0.as_str())]
+    #[error("no kind is named {}", quoted(.0))]
     UnknownKind(Text),
     /// A kind or a shape other than a tag, with no `=` behind it.
-    #[error("`{}` needs = and a value behind it", .0.as_str())]
+    #[error("`{}` needs = and a value behind it", quoted(.0))]
     MissingValue(Text),
     /// A kind or a shape that is a tag, with a `=` behind it.
-    #[error("`{}` is a Tag, and so has no = behind it", .0.as_str())]
+    #[error("`{}` is a Tag, and so has no = behind it", quoted(.0))]
     ValueOfTag(Text),
-    #[error("`{}` is no whole number, as 0, 17 or -5", .0.as_str())]
+    #[error("`{}` is no whole number, as 0, 17 or -5", quoted(.0))]
     NoNumber(Text),
     /// A whole number below the second or above the third.
-    #[error("`{}` is out of range, which is {} to {}", .0.as_str(), .1, .2)]
+    #[error("`{}` is out of range, which is {} to {}", quoted(.0), .1, .2)]
     OutOfRange(Text, i64, i64),
-    #[error("`{}` isn't three whole numbers with commas between them, as 1,-2,3", .0.as_str())]
+    #[error("`{}` isn't three whole numbers with commas between them, as 1,-2,3", quoted(.0))]
     NoVec3(Text),
-    #[error("`{}` is no entity, as 0v1", .0.as_str())]
+    #[error("`{}` is no entity, as 0v1", quoted(.0))]
     NoEntity(Text),
-    #[error("`{}` is neither an entity, as 0v1, nor + and a number", .0.as_str())]
+    #[error("`{}` is neither an entity, as 0v1, nor + and a number", quoted(.0))]
     NoTarget(Text),
     /// A line of the setup behind it.
     #[error("the setup has ended: kind and slots come before all other lines")]
@@ -80,6 +81,29 @@ impl From<BadLine> for LineError {
 
     fn from(reason: BadLine) -> LineError {
         LineError::Bad(reason)
+    }
+}
+
+/// A word as a message shows it: as it stands, but quoted and escaped where it is empty or has a control character.
+#[derive(Clone, Copy)]
+struct Shown<'a> {
+    word: &'a str,
+}
+
+fn quoted(word: &Text) -> Shown<'_> {
+    Shown {
+        word: word.as_str(),
+    }
+}
+
+impl<'a> fmt::Display for Shown<'a> {
+    fn fmt<W: fmt::Write>(&self, f: &mut fmt::Formatter<W>) -> fmt::Result {
+        let word = self.word;
+        if word.is_empty() || word.as_bytes().iter().any(|byte| byte.is_ascii_control()) {
+            write!(f, "{word:?}")
+        } else {
+            write!(f, "{word}")
+        }
     }
 }
 
