@@ -3,7 +3,8 @@ use Rattle.std.proofs.Common.{◌≡◌, ℕ, List, [], ◌∷◌, ◌++◌, Som
 use Rattle.scene_kinds.specs.declared.cell.Cell.{Cell}
 use Rattle.scene_resources.specs.Resources.{NamedCells, cell_of, names_of}
 use Rattle.scene_resources.proofs.Names.{names_found}
-use Rattle.scene_app.specs.Shown.{resource_text, one_resource, named_text, resources_text}
+use Rattle.scene_app.specs.Shown.{resource_text, resources_text}
+use Rattle.scene_app.specs.ShowSteps.{one_resource, named_text}
 
 -- names that find the cells beside them
 named_found : (r : NamedCells) (es : List (List ℕ × Cell)) → map (cell_of r) (map (λ e. e.0) es) ≡ map (λ e. Some e.1) es

@@ -4,7 +4,8 @@ use Rattle.std.proofs.lemmas.List.{append_assoc, drop_more}
 use Rattle.std.proofs.lemmas.Option.{slice_get-get_or}
 use Rattle.scene_kinds.specs.Schema.{Kinds}
 use Rattle.scene_kinds.specs.declared.shape.Shape.TheVariants as shape
-use Rattle.scene_app.specs.Shown.{name_in, one_name, names_from}
+use Rattle.scene_app.specs.Shown.{names_from}
+use Rattle.scene_app.specs.ShowSteps.{name_in, one_name}
 
 -- the names from a kind on: its own where it is in the set, and those from the next on
 pub names_step : (kinds : Kinds) (k mask : ℕ) → k < length kinds → names_from (drop k kinds) k mask ≡ one_name (name_in kinds mask k) ++ names_from (drop (k + 1) kinds) (k + 1) mask

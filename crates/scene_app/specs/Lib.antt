@@ -2,4 +2,7 @@ pub mod Fault
 pub mod Listed
 pub mod Requests
 pub mod Play
+pub mod Reports
+pub mod ShowSteps
 pub mod Shown
+pub mod Steps

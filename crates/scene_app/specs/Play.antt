@@ -1,5 +1,6 @@
--- A script as a function of its lines: the setup, the machine of saved worlds line by line, and the printed text.
-use Rattle.std.specs.Prelude.{◌≡◌, ℕ, ◌+◌, List, [], ◌∷◌, ◌++◌, Option, Some, None, Result, Ok, Err, option_map, flat_map, codes, decimal, nat_eq, if◌then◌else◌}
+-- A script as a function of its lines: the setup, the machine of saved worlds line by line, the printed text, and the bad lines
+-- with their reasons.
+use Rattle.std.specs.Prelude.{ℕ, ◌+◌, List, [], ◌∷◌, ◌++◌, Option, Some, None, Result, Ok, Err, option_map, flat_map, codes, decimal, nat_eq, if◌then◌else◌}
 use Rattle.std.specs.Str.Lines.{lines}
 use Rattle.scene_kinds.specs.declared.entity.Entity.{Entity}
 use Rattle.scene_kinds.specs.declared.fault.Fault.TheVariants.{NoSuchEntity, Rewound}
@@ -20,7 +21,10 @@ use Rattle.scene_pass.specs.declared.filter.Filter.{Filter}
 use Rattle.scene_app.specs.declared.cursor.Cursor.{Cursor}
 use Rattle.scene_app.specs.declared.play_state.PlayState.{PlayState}
 use Rattle.scene_script.specs.declared.script_line.Line.{Line}
-use Rattle.scene_script.specs.declared.script_line.Line.TheVariants.{Empty, Bad, Kind, Slots, Do, Undo, Redo, Show, Get, Mark, Changed, Added}
+use Rattle.scene_script.specs.declared.script_line.Line.TheVariants.{Empty, Kind, Slots, Do, Undo, Redo, Show, Get, Mark, Changed, Added}
+use Rattle.scene_script.specs.declared.bad_line.BadLine.{BadLine}
+use Rattle.scene_script.specs.declared.bad_line.BadLine.TheVariants.{SetupEnded}
+use Rattle.scene_app.specs.declared.report.BadLineReport.{BadLineReport}
 use Rattle.scene_app.specs.Listed.{listed_text}
 use Rattle.scene_script.specs.Printed.{row_text}
 use Rattle.scene_script.specs.Script.{line_in}
@@ -83,68 +87,74 @@ changed_text s = since_text (codes "changed") s.machine.now.schema (changed_sinc
 abbrev pub added_text : PlayState → List ℕ
 added_text s = since_text (codes "added") s.machine.now.schema (added_since s.machine.now no_filter) (since s)
 
--- what a line prints, whether it is bad, and the state after it
+-- what a line prints, why it is bad where it is, and the state after it
 pub record Reply : Type 0 where
   pub text : List ℕ
-  pub bad : ℕ
+  pub bad : Option BadLine
   pub state : PlayState
-
--- what a body that answers a line did: it added the text, so many lines are bad, and this is the state after it
-abbrev pub Replies : (old new : List ℕ) → PlayState → ℕ → Reply → Type 0
-Replies old new state bad r = (new ≡ old ++ r.text) × (state ≡ r.state) × (bad ≡ r.bad)
 
 abbrev pub answer_text : (List Entity → List ℕ) → Answer → List ℕ
 answer_text text (Ok es) = text es
 answer_text text (Err r) = refused_text r
 
--- the answer of a call, by the text of an accepted one, after the machine's step
-abbrev pub answered : PlayState → (List Entity → List ℕ) → Machine World × Answer → Reply
-answered s text p = record { text = answer_text text p.1; bad = 0; state = with_machine s p.0 }
+-- the reply to a call, by the text of an accepted one, after the machine's step
+abbrev pub call_reply : PlayState → (List Entity → List ℕ) → Machine World × Answer → Reply
+call_reply s text p = record { text = answer_text text p.1; bad = None; state = with_machine s p.0 }
 
-abbrev pub bad_reply : PlayState → Reply
-bad_reply s = record { text = codes "bad line\n"; bad = 1; state = s }
+-- the reply to a bad line, which says no reason
+abbrev pub bad_reply : PlayState → BadLine → Reply
+bad_reply s reason = record { text = codes "bad line\n"; bad = Some reason; state = s }
 
--- the answer of a query, which changes nothing
-abbrev pub told : PlayState → List ℕ → Reply
-told s text = record { text = text; bad = 0; state = s }
+-- the reply to a query, which changes nothing
+abbrev pub query_reply : PlayState → List ℕ → Reply
+query_reply s text = record { text = text; bad = None; state = s }
 
--- a line after the setup
-abbrev pub reply : PlayState → Line → Reply
-reply s Empty = told s []
-reply s Bad = bad_reply s
-reply s (Kind name shape) = bad_reply s
-reply s (Slots n) = bad_reply s
-reply s (Do command) = answered s made_text (step s.machine (Submit (alone command)))
-reply s Undo = answered s undone_text (step s.machine UndoCall)
-reply s Redo = answered s redone_text (step s.machine RedoCall)
-reply s Show = told s (show_text s.machine.now)
-reply s (Get e) = told s (row_answer s.machine.now.schema (option_map (λ p. p.1) (row_of s.machine.now e)))
-reply s Mark = record { text = mark_text (cursor_of s.machine); bad = 0; state = with_cursor s (cursor_of s.machine) }
-reply s Changed = told s (changed_text s)
-reply s Added = told s (added_text s)
+-- the reply to a line after the setup
+abbrev pub line_reply : PlayState → Line → Reply
+line_reply s Empty = query_reply s []
+line_reply s (Kind name shape) = bad_reply s SetupEnded
+line_reply s (Slots n) = bad_reply s SetupEnded
+line_reply s (Do command) = call_reply s made_text (step s.machine (Submit (alone command)))
+line_reply s Undo = call_reply s undone_text (step s.machine UndoCall)
+line_reply s Redo = call_reply s redone_text (step s.machine RedoCall)
+line_reply s Show = query_reply s (show_text s.machine.now)
+line_reply s (Get e) = query_reply s (row_answer s.machine.now.schema (option_map (λ p. p.1) (row_of s.machine.now e)))
+line_reply s Mark = record { text = mark_text (cursor_of s.machine); bad = None; state = with_cursor s (cursor_of s.machine) }
+line_reply s Changed = query_reply s (changed_text s)
+line_reply s Added = query_reply s (added_text s)
+
+-- a line by what it says, or why it is bad
+abbrev pub said_reply : PlayState → Result Line BadLine → Reply
+said_reply s (Ok line) = line_reply s line
+said_reply s (Err reason) = bad_reply s reason
 
 -- ---- the run
 
--- what a run prints, and how many of its lines are bad
+-- what a run prints, and its bad lines, each by its number from 1, with the reason
 pub record Printed : Type 0 where
   pub text : List ℕ
-  pub bad : ℕ
+  pub bad : List BadLineReport
 
 abbrev pub nothing : Printed
-nothing = record { text = []; bad = 0 }
+nothing = record { text = []; bad = [] }
+
+-- the report of a line of this number, where it is bad
+abbrev pub reports_at : ℕ → Option BadLine → List BadLineReport
+reports_at number None = []
+reports_at number (Some reason) = record { line = number; reason = reason } ∷ []
 
 -- a text, perhaps of a bad line, before the rest
-abbrev pub and_more : List ℕ → ℕ → Printed → Printed
-and_more text bad rest = record { text = text ++ rest.text; bad = bad + rest.bad }
+abbrev pub and_more : List ℕ → List BadLineReport → Printed → Printed
+and_more text bad rest = record { text = text ++ rest.text; bad = bad ++ rest.bad }
 
--- the lines after the setup, one after another
-abbrev pub run_from : PlayState → List (List ℕ) → Printed
-run_from s [] = nothing
-run_from s (l ∷ ls) = let r : Reply = reply s (line_in s.machine.now.schema l) in and_more r.text r.bad (run_from r.state ls)
+-- what a reply adds before the rest, which goes on from its state
+abbrev pub then_rest : ℕ → Reply → (PlayState → Printed) → Printed
+then_rest number r rest = and_more r.text (reports_at number r.bad) (rest r.state)
 
--- what a body that plays lines did: it added their text, and so many are bad
-abbrev pub Prints : (old new : List ℕ) → ℕ → Printed → Type 0
-Prints old new bad p = (new ≡ old ++ p.text) × (bad ≡ p.bad)
+-- the lines after the setup, one after another, the first of this number
+abbrev pub run_from : ℕ → PlayState → List (List ℕ) → Printed
+run_from number s [] = nothing
+run_from number s (l ∷ ls) = then_rest number (said_reply s (line_in s.machine.now.schema l)) (λ t. run_from (number + 1) t ls)
 
 -- the answer of a declaration, and the kinds after it
 abbrev pub declaration_text : Outcome ℕ Kinds → List ℕ
@@ -161,27 +171,31 @@ declared_text kinds name shape = declaration_text (with_kind kinds name shape)
 abbrev pub after_kind : Kinds → List ℕ → Shape → Kinds
 after_kind kinds name shape = kinds_after kinds (with_kind kinds name shape)
 
--- a line of the setup, or else the run begins with it; a bad line, an empty one and a comment don't end the setup
+-- a line of the setup, or else the run begins with it; an empty one and a comment don't end the setup
 abbrev pub setup_line : Kinds → ℕ → (Kinds → ℕ → Printed) → Printed → Line → Printed
 setup_line kinds limit rest begin Empty = rest kinds limit
-setup_line kinds limit rest begin Bad = and_more (codes "bad line\n") 1 (rest kinds limit)
-setup_line kinds limit rest begin (Kind name shape) = and_more (declared_text kinds name shape) 0 (rest (after_kind kinds name shape) limit)
-setup_line kinds limit rest begin (Slots n) = and_more (codes "ok\n") 0 (rest kinds n)
+setup_line kinds limit rest begin (Kind name shape) = and_more (declared_text kinds name shape) [] (rest (after_kind kinds name shape) limit)
+setup_line kinds limit rest begin (Slots n) = and_more (codes "ok\n") [] (rest kinds n)
 setup_line kinds limit rest begin line = begin
 
--- the lines from the start, with the kinds and the slot limit so far
-abbrev pub setup_from : Kinds → ℕ → List (List ℕ) → Printed
-setup_from kinds limit [] = nothing
-setup_from kinds limit (l ∷ ls) =
-    setup_line kinds limit (λ k n. setup_from k n ls) (run_from (opening_state (new_world kinds limit)) (l ∷ ls)) (line_in kinds l)
+-- a bad line doesn't end it either
+abbrev pub setup_said : ℕ → Kinds → ℕ → (Kinds → ℕ → Printed) → Printed → Result Line BadLine → Printed
+setup_said number kinds limit rest begin (Ok line) = setup_line kinds limit rest begin line
+setup_said number kinds limit rest begin (Err reason) = and_more (codes "bad line\n") (reports_at number (Some reason)) (rest kinds limit)
+
+-- the lines from the start, the first of this number, with the kinds and the slot limit so far
+abbrev pub setup_from : ℕ → Kinds → ℕ → List (List ℕ) → Printed
+setup_from number kinds limit [] = nothing
+setup_from number kinds limit (l ∷ ls) =
+    setup_said number kinds limit (λ k n. setup_from (number + 1) k n ls) (run_from number (opening_state (new_world kinds limit)) (l ∷ ls)) (line_in kinds l)
 
 abbrev pub printed : List ℕ → Printed
-printed script = setup_from [] 1048576 (lines script)
+printed script = setup_from 1 [] 1048576 (lines script)
 
 -- what a script prints
 abbrev pub output : List ℕ → List ℕ
 output script = (printed script).text
 
--- how many of its lines are bad
-abbrev pub bad_count : List ℕ → ℕ
-bad_count script = (printed script).bad
+-- its bad lines, first to last
+abbrev pub bad_lines : List ℕ → List BadLineReport
+bad_lines script = (printed script).bad

@@ -1,14 +1,13 @@
 -- How a world prints.
-use Rattle.std.specs.Prelude.{ℕ, ◌+◌, List, [], ◌∷◌, ◌++◌, Option, Some, None, if◌then◌else◌, codes, decimal}
+use Rattle.std.specs.Prelude.{ℕ, ◌+◌, List, [], ◌∷◌, ◌++◌, if◌then◌else◌, codes, decimal}
 use Rattle.scene_kinds.specs.declared.cells.Row.{Row}
 use Rattle.scene_kinds.specs.declared.cell.Cell.{Cell}
 use Rattle.scene_kinds.specs.declared.entity.Entity.{Entity}
 use Rattle.scene_kinds.specs.Entity.{entity_text}
 use Rattle.scene_kinds.specs.KindSet.{has_kind}
-use Rattle.scene_kinds.specs.Schema.{Kinds, name_of}
+use Rattle.scene_kinds.specs.Schema.{Kinds}
 use Rattle.scene_kinds.specs.Shape.{shape_name, shape_of_value}
 use Rattle.scene_links.specs.Forest.{Forest, children_of, parents}
-use Rattle.scene_resources.specs.Resources.{NamedCells, cell_of}
 use Rattle.scene_world.specs.World.{World, kind_sets, rows_at}
 use Rattle.scene_script.specs.Printed.{cell_text, row_text}
 
@@ -16,15 +15,6 @@ use Rattle.scene_script.specs.Printed.{cell_text, row_text}
 abbrev pub numbers_text : List ℕ → List ℕ
 numbers_text [] = []
 numbers_text (n ∷ ns) = 32 ∷ (decimal n ++ numbers_text ns)
-
--- the name of a kind that a kind set has
-abbrev pub name_in : Kinds → ℕ → ℕ → Option (List ℕ)
-name_in kinds mask k = if has_kind mask k then name_of kinds k else None
-
--- a name that may be there, as a list
-abbrev pub one_name : Option (List ℕ) → List (List ℕ)
-one_name None = []
-one_name (Some name) = name ∷ []
 
 -- the names of the kinds from number k on that a kind set has
 abbrev pub names_from : Kinds → ℕ → ℕ → List (List ℕ)
@@ -77,16 +67,6 @@ resource_text name cell = codes "resource " ++ (name ++ (codes " " ++ (cell_text
 abbrev pub resources_text : List (List ℕ × Cell) → List ℕ
 resources_text [] = []
 resources_text (r ∷ rs) = resource_text r.0 r.1 ++ resources_text rs
-
--- a resource that may be there
-abbrev pub one_resource : List ℕ → Option Cell → List ℕ
-one_resource name None = []
-one_resource name (Some cell) = resource_text name cell
-
--- the resources of names
-abbrev pub named_text : NamedCells → List (List ℕ) → List ℕ
-named_text resources [] = []
-named_text resources (n ∷ ns) = one_resource n (cell_of resources n) ++ named_text resources ns
 
 -- the tick, the generations and the free list, a line each
 abbrev pub head_text : World → List ℕ

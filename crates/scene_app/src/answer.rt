@@ -1,18 +1,19 @@
 //! The answer to one line after the setup.
-ghost use Rattle.std.specs.Prelude.{◌≡◌, ◌≢◌, ◌++◌, ◌≤◌, OnOk, IfOk, string_bytes, option_map};
+ghost use Rattle.std.specs.Prelude.{◌≡◌, ◌≢◌, ◌++◌, OnOk, IfOk, Some, None, codes, string_bytes, option_map};
 ghost use Rattle.scene_kinds.specs.Answers.{refusal_of};
 ghost use Rattle.scene_kinds.specs.declared.fault.Fault.TheVariants.{NoMemory};
 ghost use Rattle.scene_world.specs.Frame.{Submit, Undo as UndoCall, Redo as RedoCall, step};
 ghost use Rattle.scene_app.specs.Requests.{alone, entities};
 ghost use Rattle.scene_world.specs.World.{row_of};
-ghost use Rattle.scene_app.specs.Play.{Replies, reply, answered, made_text, refused_text, row_answer, undone_text, redone_text, mark_text, changed_text, added_text, cursor_of, with_cursor};
+ghost use Rattle.scene_app.specs.Play.{line_reply, said_reply, call_reply, made_text, refused_text, row_answer, undone_text, redone_text, mark_text, changed_text, added_text, cursor_of, with_cursor};
+ghost use Rattle.scene_app.specs.Steps.{Replies};
 
 use crate::listed::write_listed;
 use crate::play_state::PlayState;
 use crate::show::{row_of, write_show};
 use scene_kinds::{Entity, Fault, Refusal};
 use scene_pass::{Filter, added_since, changed_since};
-use scene_script::{Command, Line, write_row};
+use scene_script::{BadLine, Command, Line, write_row};
 use scene_world::World;
 use std::alloc::{AllocError, Global};
 
@@ -54,8 +55,8 @@ fn answer_command(
     state: &mut PlayState,
     command: Command,
 ) -> Result<(), AllocError>
-    ensures { OnOk result (Replies (string_bytes out.old) (string_bytes out.new) state.new 0
-        (answered state.old made_text (step state.old.machine (Submit (alone command))))) }
+    ensures { OnOk result (Replies (string_bytes out.old) (string_bytes out.new) state.new None
+        (call_reply state.old made_text (step state.old.machine (Submit (alone command))))) }
 {
     match state.machine.submit(command) {
         Ok(made) => write_made(out, made),
@@ -65,8 +66,8 @@ fn answer_command(
 
 /// `undo`.
 fn answer_undo(out: &mut String, state: &mut PlayState) -> Result<(), AllocError>
-    ensures { OnOk result (Replies (string_bytes out.old) (string_bytes out.new) state.new 0
-        (answered state.old undone_text (step state.old.machine UndoCall))) }
+    ensures { OnOk result (Replies (string_bytes out.old) (string_bytes out.new) state.new None
+        (call_reply state.old undone_text (step state.old.machine UndoCall))) }
 {
     match state.machine.undo() {
         Ok(()) => out.push_str("undone\n"),
@@ -76,8 +77,8 @@ fn answer_undo(out: &mut String, state: &mut PlayState) -> Result<(), AllocError
 
 /// `redo`.
 fn answer_redo(out: &mut String, state: &mut PlayState) -> Result<(), AllocError>
-    ensures { OnOk result (Replies (string_bytes out.old) (string_bytes out.new) state.new 0
-        (answered state.old redone_text (step state.old.machine RedoCall))) }
+    ensures { OnOk result (Replies (string_bytes out.old) (string_bytes out.new) state.new None
+        (call_reply state.old redone_text (step state.old.machine RedoCall))) }
 {
     match state.machine.redo() {
         Ok(()) => out.push_str("redone\n"),
@@ -139,22 +140,27 @@ fn answer_added(alloc: Global, out: &mut String, state: &PlayState) -> Result<()
     write_listed(out, "added", world.schema(), cells.as_slice())
 }
 
-/// Answers a line after the setup, and gives how many bad lines it is.
-pub(crate) fn answer(
+/// Answers a bad line, and gives the reason back.
+fn answer_bad(out: &mut String, reason: BadLine) -> Result<Option<BadLine>, AllocError>
+    ensures text { OnOk result (string_bytes out.new ≡ string_bytes out.old ++ codes "bad line\n") }
+    ensures bad { IfOk result (λ bad. bad ≡ Some reason) }
+{
+    out.push_str("bad line\n")?;
+    Ok(Some(reason))
+}
+
+/// Answers a line after the setup, and gives why it is bad, where it is.
+fn answer_line(
     alloc: Global,
     out: &mut String,
     state: &mut PlayState,
     line: Line,
-) -> Result<usize, AllocError>
-    ensures reply { IfOk result (λ bad. Replies (string_bytes out.old) (string_bytes out.new) state.new bad (reply state.old line)) }
-    ensures one { IfOk result (λ bad. bad ≤ 1) }
+) -> Result<Option<BadLine>, AllocError>
+    ensures { IfOk result (λ bad. Replies (string_bytes out.old) (string_bytes out.new) state.new bad (line_reply state.old line)) }
 {
     match line {
         Line::Empty => {}
-        Line::Bad | Line::Kind(..) | Line::Slots(_) => {
-            out.push_str("bad line\n")?;
-            return Ok(1);
-        }
+        Line::Kind(..) | Line::Slots(_) => return answer_bad(out, BadLine::SetupEnded),
         Line::Do(command) => answer_command(out, state, command)?,
         Line::Undo => answer_undo(out, state)?,
         Line::Redo => answer_redo(out, state)?,
@@ -164,5 +170,20 @@ pub(crate) fn answer(
         Line::Changed => answer_changed(alloc, out, state)?,
         Line::Added => answer_added(alloc, out, state)?,
     }
-    Ok(0)
+    Ok(None)
+}
+
+/// Answers what a line after the setup says, and gives why it is bad, where it is.
+pub(crate) fn answer(
+    alloc: Global,
+    out: &mut String,
+    state: &mut PlayState,
+    said: Result<Line, BadLine>,
+) -> Result<Option<BadLine>, AllocError>
+    ensures { IfOk result (λ bad. Replies (string_bytes out.old) (string_bytes out.new) state.new bad (said_reply state.old said)) }
+{
+    match said {
+        Ok(line) => answer_line(alloc, out, state, line),
+        Err(reason) => answer_bad(out, reason),
+    }
 }

@@ -3,7 +3,7 @@ ghost use Rattle.std.specs.Prelude.{◌≡◌};
 ghost use Rattle.scene_app.specs.Fault.{app_number, app_name, of_read_error};
 ghost use Rattle.scene_app.specs.declared.fault.AppFault.TheVariants.{WriteFault, NoMemory};
 
-use scene_streams::ReadError;
+use scene_streams::{ReadError, WriteError};
 use std::alloc::AllocError;
 use thiserror::Error;
 
@@ -56,10 +56,10 @@ impl From<ReadError> for AppFault {
     }
 }
 
-impl From<scene_streams::WriteFault> for AppFault {
+impl From<WriteError> for AppFault {
     ghost from_gives = { λ _ fault. fault ≡ WriteFault };
 
-    fn from(_fault: scene_streams::WriteFault) -> AppFault {
+    fn from(_error: WriteError) -> AppFault {
         AppFault::WriteFault
     }
 }

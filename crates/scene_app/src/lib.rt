@@ -1,8 +1,8 @@
 //! Scripts played: the bytes that a script prints, as one function of the bytes that it is.
 //!
 //! A script is read to its end and played line by line on a machine that keeps whole saved worlds; what it prints
-//! goes to a writer in one piece. What a line says is scene_script's; what it does and answers is here, exact against
-//! `output` in `specs/Play.antt` (docs/SCRIPTS.md explains the language).
+//! goes to a writer in one piece, and its bad lines are handed out with their reasons. What a line says is scene_script's; what it does and answers is here, exact against
+//! `output` and `bad_lines` in `specs/Play.antt` (docs/SCRIPTS.md explains the language).
 #![tactic(auto)]
 
 mod answer;
@@ -11,10 +11,11 @@ mod fault;
 mod listed;
 mod play;
 mod play_state;
+mod report;
 mod run;
 mod saved;
 mod show;
 
 pub use fault::AppFault;
-pub use play::play_script;
+pub use report::BadLineReport;
 pub use run::{RunEnd, run_script};

@@ -1,48 +1,95 @@
 //! A whole script: the setup, and then line after line on the machine of saved worlds.
-ghost use Rattle.std.specs.Prelude.{◌≡◌, ◌++◌, ◌≤◌, OnOk, IfOk, length, string_bytes};
+ghost use Rattle.std.specs.Prelude.{◌≡◌, ◌++◌, ◌+◌, ◌<◌, ◌≤◌, ◌^◌, OnOk, IfOk, length, string_bytes, Ok};
 ghost use Rattle.std.specs.Str.Lines.{lines};
-ghost use Rattle.scene_app.specs.Play.{Prints, opening_state, run_from, printed, declared_text, after_kind};
+ghost use Rattle.scene_script.specs.Script.{line_in};
+ghost use Rattle.scene_app.specs.Play.{said_reply, opening_state, then_rest, run_from, printed, declared_text, after_kind};
+ghost use Rattle.scene_app.specs.Steps.{Prints, LinePlayed};
+ghost use Rattle.scene_app.specs.Reports.{no_bad_lines};
 
 use crate::answer::{answer, answer_refused};
 use crate::play_state::PlayState;
+use crate::report::Reports;
 use scene_kinds::{Schema, Shape};
-use scene_script::{Line, SlotLimit, first_line, read_line};
+use scene_script::{BadLine, Line, LineError, SlotLimit, first_line, read_line};
 use scene_world::World;
 use std::alloc::{AllocError, Global};
 
-/// Plays lines after the setup, and gives how many are bad.
+/// What a line says, or why it is bad.
+fn said_in(
+    alloc: Global,
+    schema: &Schema,
+    bytes: &[u8],
+) -> Result<Result<Line, BadLine>, AllocError>
+    ensures { IfOk result (λ said. said ≡ line_in schema.now bytes.now) }
+{
+    match read_line(alloc, schema, bytes) {
+        Ok(line) => Ok(Ok(line)),
+        Err(LineError::Bad(reason)) => Ok(Err(reason)),
+        Err(LineError::NoMemory) => Err(AllocError),
+    }
+}
+
+/// Plays a line after the setup, and notes it where it is bad.
+fn play_line(
+    alloc: Global,
+    state: &mut PlayState,
+    number: usize,
+    said: Result<Line, BadLine>,
+    out: &mut String,
+    reports: &mut Reports,
+) -> Result<(), AllocError>
+    requires { reports.old.count + 1 < 2 ^ 64 }
+    ensures played { OnOk result (LinePlayed (string_bytes out.old) (string_bytes out.new) reports.old reports.new state.new number (said_reply state.old said)) }
+    ensures few { OnOk result (reports.new.count ≤ reports.old.count + 1) }
+{
+    let bad = answer(alloc, out, state, said)?;
+    reports.note(number, bad)
+}
+
+/// Plays lines after the setup, of which the first has a number.
 fn play_lines(
     alloc: Global,
     state: &mut PlayState,
+    first: usize,
     script: &[u8],
     out: &mut String,
-) -> Result<usize, AllocError>
-    ensures printed { IfOk result (λ bad. Prints (string_bytes out.old) (string_bytes out.new) bad (run_from state.old (lines script.now))) }
-    ensures few { IfOk result (λ bad. bad ≤ length script.now) }
+    reports: &mut Reports,
+) -> Result<(), AllocError>
+    requires few { reports.old.count < first }
+    requires room { first + length script.now < 2 ^ 64 }
+    ensures printed { OnOk result (Prints (string_bytes out.old) (string_bytes out.new) reports.old reports.new (run_from first state.old (lines script.now))) }
+    ensures few { OnOk result (reports.new.count < first + length script.now) }
 {
     let mut rest = script;
-    let mut bad = 0;
+    let mut number = first;
     'lines: while !rest.is_empty() {
         let (bytes, after) = first_line(rest);
-        let line = read_line(alloc, state.machine.now().schema(), bytes)?;
-        bad += answer(alloc, out, state, line)?;
+        let said = said_in(alloc, state.machine.now().schema(), bytes)?;
+        play_line(alloc, state, number, said, out, reports)?;
         rest = after;
+        number += 1;
     }
-    Ok(bad)
+    Ok(())
 }
 
-/// Plays the lines after the setup, and gives how many are bad.
+/// Plays the line that ends the setup, and the lines after it.
 fn play_run(
     alloc: Global,
     world: World,
-    script: &[u8],
+    number: usize,
+    line: Line,
+    after: &[u8],
     out: &mut String,
-) -> Result<usize, AllocError>
-    ensures printed { IfOk result (λ bad. Prints (string_bytes out.old) (string_bytes out.new) bad (run_from (opening_state world) (lines script.now))) }
-    ensures few { IfOk result (λ bad. bad ≤ length script.now) }
+    reports: &mut Reports,
+) -> Result<(), AllocError>
+    requires few { reports.old.count < number }
+    requires room { number + 1 + length after.now < 2 ^ 64 }
+    ensures printed { OnOk result (Prints (string_bytes out.old) (string_bytes out.new) reports.old reports.new (then_rest number (said_reply (opening_state world) (Ok line)) (λ s. run_from (number + 1) s (lines after.now)))) }
+    ensures few { OnOk result (reports.new.count < number + 1 + length after.now) }
 {
     let mut state = PlayState::new(alloc, world);
-    play_lines(alloc, &mut state, script, out)
+    play_line(alloc, &mut state, number, Ok(line), out, reports)?;
+    play_lines(alloc, &mut state, number + 1, after, out, reports)
 }
 
 /// Declares a kind, and adds the answer.
@@ -63,39 +110,45 @@ fn declare(
     }
 }
 
-/// Plays a script from its first line, adds what it prints, and gives how many of its lines are bad
-/// (docs/SCRIPTS.md, "Lines").
+/// Plays a script from its first line, adds what it prints, and notes its bad lines (docs/SCRIPTS.md, "Lines").
 ///
 /// The first line that is no `kind` or `slots`, not empty and not bad ends the setup, and is played itself. Want
 /// of memory ends it with an error, and then a part of the text may be there. Each frame costs a copy of the
 /// world.
-pub fn play_script(alloc: Global, script: &[u8], out: &mut String) -> Result<usize, AllocError>
-    ensures printed { IfOk result (λ bad. Prints (string_bytes out.old) (string_bytes out.new) bad (printed script.now)) }
-    ensures few { IfOk result (λ bad. bad ≤ length script.now) }
+pub(crate) fn play_script(
+    alloc: Global,
+    script: &[u8],
+    out: &mut String,
+) -> Result<Reports, AllocError>
+    ensures printed { IfOk result (λ reports. Prints (string_bytes out.old) (string_bytes out.new) no_bad_lines reports (printed script.now)) }
+    ensures few { IfOk result (λ reports. reports.count ≤ length script.now) }
 {
     let mut schema = Schema::new(alloc);
     let mut limit = SlotLimit::most();
+    let mut reports = Reports::new(alloc);
     let mut rest = script;
-    let mut bad = 0;
+    let mut number = 1usize;
     'lines: while !rest.is_empty() {
         let (bytes, after) = first_line(rest);
-        match read_line(alloc, &schema, bytes)? {
-            Line::Empty => {}
-            Line::Bad => {
+        match said_in(alloc, &schema, bytes)? {
+            Err(reason) => {
                 out.push_str("bad line\n")?;
-                bad += 1;
+                reports.note(number, Some(reason))?;
             }
-            Line::Kind(name, shape) => declare(alloc, out, &mut schema, name.as_str(), shape)?,
-            Line::Slots(slots) => {
+            Ok(Line::Empty) => {}
+            Ok(Line::Kind(name, shape)) => declare(alloc, out, &mut schema, name.as_str(), shape)?,
+            Ok(Line::Slots(slots)) => {
                 out.push_str("ok\n")?;
                 limit = slots;
             }
-            _ => {
+            Ok(line) => {
                 let world = World::new(alloc, schema, limit.get());
-                return Ok(bad + play_run(alloc, world, rest, out)?);
+                play_run(alloc, world, number, line, after, out, &mut reports)?;
+                return Ok(reports);
             }
         }
         rest = after;
+        number += 1;
     }
-    Ok(bad)
+    Ok(reports)
 }

@@ -3,7 +3,8 @@ ghost use Rattle.std.specs.Prelude.{◌≡◌, ◌++◌, ◌<◌, OnOk, IfOk, ma
 ghost use Rattle.scene_world.specs.World.{kind_sets, rows_at, row_of};
 ghost use Rattle.scene_links.specs.Forest.{parents};
 ghost use Rattle.scene_resources.specs.Resources.{cell_of};
-ghost use Rattle.scene_app.specs.Shown.{numbers_text, name_in, one_name, names_from, more_names, names_text, rows_text, table_text, tables_text, entities_text, link_text, links_text, resource_text, one_resource, named_text, resources_text, head_text, show_text};
+ghost use Rattle.scene_app.specs.Shown.{numbers_text, names_from, more_names, names_text, rows_text, table_text, tables_text, entities_text, link_text, links_text, resource_text, resources_text, head_text, show_text};
+ghost use Rattle.scene_app.specs.ShowSteps.{name_in, one_name, one_resource, named_text};
 
 use scene_kinds::{Cell, Entity, Row, Schema, has_kind};
 use scene_links::Links;

@@ -1,10 +1,15 @@
 -- Which bytes are a number or an entity, and of what value. A number has just one text: the one that it
 -- prints as.
-use Rattle.std.specs.Prelude.{ℕ, ℤ, pos, negsuc, ◌^◌, List, Bool, ◌&&◌, Option, Some, None, nat_lt, if◌then◌else◌, decimal, option_map, option_and_then}
+use Rattle.std.specs.Prelude.{ℕ, ℤ, pos, negsuc, ◌^◌, List, [], ◌∷◌, ◌==◌, Bool, false, not, ◌&&◌, Option, Some, None, Result, length, nat_eq, nat_lt, if◌then◌else◌, decimal, option_map, option_and_then}
+use Rattle.std.specs.List.{list_all}
+use Rattle.std.specs.Char.{is_ascii_digit}
 use Rattle.std.specs.Fmt.{signed_decimal}
 use Rattle.std.specs.Str.{bytes_eq}
 use Rattle.std.specs.Str.Parse.{digits_value, signed_digits_value}
 use Rattle.scene_kinds.specs.declared.entity.Entity.{Entity}
+use Rattle.scene_script.specs.declared.bad_line.BadLine.{BadLine}
+use Rattle.scene_script.specs.declared.bad_line.BadLine.TheVariants as bad
+use Rattle.scene_script.specs.Reading.{or_bad}
 use Rattle.scene_script.specs.Words.{cut_at}
 
 -- a number that 64 bits hold with its sign: from -(2 ^ 63), which is negsuc (2 ^ 63 - 1), to 2 ^ 63 - 1
@@ -35,3 +40,25 @@ entity_of index generation = option_and_then (λ i. option_map (λ g. record { i
 -- the entity that these bytes are: two numbers round the first v (118)
 abbrev pub entity_in : List ℕ → Option Entity
 entity_in bytes = option_and_then (λ p. entity_of (count_in p.0) (count_in p.1)) (cut_at 118 bytes)
+
+-- whether bytes are digits, the first no zero (48)
+abbrev pub is_digits : List ℕ → Bool
+is_digits [] = false
+is_digits (b ∷ bs) = not (b == 48) && list_all is_ascii_digit (b ∷ bs)
+
+-- whether bytes are written as a whole number of any size: a lone zero, or digits, perhaps after one - (45)
+abbrev pub is_whole : List ℕ → Bool
+is_whole [] = false
+is_whole (b ∷ bs) = if b == 45 then is_digits bs else if b == 48 then nat_eq (length bs) 0 else is_digits (b ∷ bs)
+
+-- why bytes are no number from the least to the most
+abbrev pub bad_number : List ℕ → (least most : ℤ) → BadLine
+bad_number bytes least most = if is_whole bytes then bad.OutOfRange bytes least most else bad.NoNumber bytes
+
+-- the whole number of 64 bits that bytes are, or why they are none
+abbrev pub number_said : List ℕ → Result ℤ BadLine
+number_said bytes = or_bad (bad_number bytes (negsuc 9223372036854775807) (pos 9223372036854775807)) (number_in bytes)
+
+-- the entity that bytes are, or why they are none
+abbrev pub entity_said : List ℕ → Result Entity BadLine
+entity_said bytes = or_bad (bad.NoEntity bytes) (entity_in bytes)

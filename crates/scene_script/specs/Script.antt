@@ -1,122 +1,157 @@
--- What a line of a script says.
-use Rattle.std.specs.Prelude.{ℕ, List, [], ◌∷◌, ◌==◌, Bool, false, ◌&&◌, Option, Some, None, nat_lt, nat_le, if◌then◌else◌, option_map, option_and_then, codes}
-use Rattle.std.specs.Str.{is_utf8, bytes_eq}
+-- What a line of a script says, or why it is bad: the first mistake, read from the left.
+use Rattle.std.specs.Prelude.{ℕ, List, [], ◌∷◌, ◌==◌, Bool, false, ◌&&◌, Option, Some, None, Result, Ok, Err, pos, nat_lt, nat_le, if◌then◌else◌, option_and_then}
+use Rattle.std.specs.Str.{is_utf8}
 use Rattle.scene_kinds.specs.declared.value.Value.{Value}
-use Rattle.scene_kinds.specs.Schema.{Kinds, number_of}
-use Rattle.scene_script.specs.declared.target.TargetWord.{TargetWord}
+use Rattle.scene_kinds.specs.Schema.{Kinds}
 use Rattle.scene_script.specs.declared.command.Command.TheVariants.{Spawn, Insert, Despawn, Remove, SetParent, RemoveParent, DespawnAll, PutResource, RemoveResource}
 use Rattle.scene_script.specs.declared.script_line.Line.{Line}
-use Rattle.scene_script.specs.declared.script_line.Line.TheVariants.{Empty, Bad, Kind, Slots, Do, Undo, Redo, Show, Get, Mark, Changed, Added}
-use Rattle.scene_kinds.specs.Shape.{shape_named}
-use Rattle.scene_script.specs.Cells.{cell_in, shaped_value_in, target_in}
-use Rattle.scene_script.specs.Numbers.{count_in, entity_in}
+use Rattle.scene_script.specs.declared.script_line.Line.TheVariants.{Empty, Kind, Slots, Do, Undo, Redo, Show, Get, Mark, Changed, Added}
+use Rattle.scene_script.specs.declared.form.Form.{Form}
+use Rattle.scene_script.specs.declared.form.Form.TheVariants as form
+use Rattle.scene_script.specs.declared.bad_line.BadLine.{BadLine}
+use Rattle.scene_script.specs.declared.bad_line.BadLine.TheVariants as bad
+use Rattle.scene_script.specs.Forms.{form_named, runs_later}
+use Rattle.scene_script.specs.Reading.{◌>>=◌, or_bad, next_word, ended}
+use Rattle.scene_script.specs.Cells.{kind_said, cell_said, shape_said, shaped_value_said, target_said}
+use Rattle.scene_script.specs.Numbers.{count_in, bad_number, entity_said}
 use Rattle.scene_script.specs.Words.{words_of}
 
--- a line that has a meaning, or else is bad
-abbrev pub or_bad : Option Line → Line
-or_bad None = Bad
-or_bad (Some line) = line
-
--- `kind NAME SHAPE`
-abbrev pub kind_line : List (List ℕ) → Line
-kind_line (name ∷ shape ∷ []) = or_bad (option_map (λ s. Kind name s) (shape_named shape))
-kind_line words = Bad
+-- `kind NAME SHAPE`; the name is any word
+abbrev pub kind_line : List (List ℕ) → Result Line BadLine
+kind_line words = do
+  name ← next_word form.Kind words
+  shape ← next_word form.Kind name.1
+  s ← shape_said shape.0
+  ended form.Kind shape.1 (Kind name.0 s)
 
 -- the slot limit that a number is
 abbrev pub limit_of : ℕ → Option ℕ
 limit_of n = if nat_lt 0 n && nat_le n 1048576 then Some n else None
 
--- `slots N`
-abbrev pub slots_line : List (List ℕ) → Line
-slots_line (word ∷ []) = or_bad (option_map (λ n. Slots n) (option_and_then limit_of (count_in word)))
-slots_line words = Bad
+-- the slot limit that a word is
+abbrev pub limit_said : List ℕ → Result ℕ BadLine
+limit_said word = or_bad (bad_number word (pos 1) (pos 1048576)) (option_and_then limit_of (count_in word))
 
--- cells, where each word is one
-abbrev pub cells_in : Kinds → List (List ℕ) → Option (List (ℕ × Value))
-cells_in kinds [] = Some []
-cells_in kinds (w ∷ ws) = option_and_then (λ c. option_map (λ cs. c ∷ cs) (cells_in kinds ws)) (cell_in kinds w)
+-- `slots N`
+abbrev pub slots_line : List (List ℕ) → Result Line BadLine
+slots_line words = do
+  word ← next_word form.Slots words
+  n ← limit_said word.0
+  ended form.Slots word.1 (Slots n)
+
+-- the cells that words are
+abbrev pub cells_said : Kinds → List (List ℕ) → Result (List (ℕ × Value)) BadLine
+cells_said kinds [] = Ok []
+cells_said kinds (w ∷ ws) = do
+  c ← cell_said kinds w
+  cs ← cells_said kinds ws
+  Ok (c ∷ cs)
 
 -- `spawn CELL..`
-abbrev pub spawn_line : Kinds → List (List ℕ) → Line
-spawn_line kinds words = or_bad (option_map (λ cells. Do (Spawn cells)) (cells_in kinds words))
-
-abbrev pub inserted : TargetWord → ℕ × Value → Line
-inserted target cell = Do (Insert target cell.0 cell.1)
+abbrev pub spawn_line : Kinds → List (List ℕ) → Result Line BadLine
+spawn_line kinds words = do
+  cells ← cells_said kinds words
+  Ok (Do (Spawn cells))
 
 -- `insert T CELL`
-abbrev pub insert_line : Kinds → List (List ℕ) → Line
-insert_line kinds (target ∷ cell ∷ []) = or_bad (option_and_then (λ t. option_map (inserted t) (cell_in kinds cell)) (target_in target))
-insert_line kinds words = Bad
-
--- the target that is the only word
-abbrev pub lone_target : List (List ℕ) → Option TargetWord
-lone_target (word ∷ []) = target_in word
-lone_target words = None
+abbrev pub insert_line : Kinds → List (List ℕ) → Result Line BadLine
+insert_line kinds words = do
+  target ← next_word form.Insert words
+  t ← target_said target.0
+  cell ← next_word form.Insert target.1
+  c ← cell_said kinds cell.0
+  ended form.Insert cell.1 (Do (Insert t c.0 c.1))
 
 -- `despawn T`
-abbrev pub despawn_line : List (List ℕ) → Line
-despawn_line words = or_bad (option_map (λ t. Do (Despawn t)) (lone_target words))
+abbrev pub despawn_line : List (List ℕ) → Result Line BadLine
+despawn_line words = do
+  target ← next_word form.Despawn words
+  t ← target_said target.0
+  ended form.Despawn target.1 (Do (Despawn t))
 
 -- `remove T NAME`
-abbrev pub remove_line : Kinds → List (List ℕ) → Line
-remove_line kinds (target ∷ name ∷ []) = or_bad (option_and_then (λ t. option_map (λ k. Do (Remove t k)) (number_of kinds name)) (target_in target))
-remove_line kinds words = Bad
+abbrev pub remove_line : Kinds → List (List ℕ) → Result Line BadLine
+remove_line kinds words = do
+  target ← next_word form.Remove words
+  t ← target_said target.0
+  name ← next_word form.Remove target.1
+  k ← kind_said kinds name.0
+  ended form.Remove name.1 (Do (Remove t k))
 
 -- `parent T T`, the child and then its parent
-abbrev pub parent_line : List (List ℕ) → Line
-parent_line (child ∷ parent ∷ []) = or_bad (option_and_then (λ c. option_map (λ p. Do (SetParent c p)) (target_in parent)) (target_in child))
-parent_line words = Bad
+abbrev pub parent_line : List (List ℕ) → Result Line BadLine
+parent_line words = do
+  child ← next_word form.Parent words
+  c ← target_said child.0
+  parent ← next_word form.Parent child.1
+  p ← target_said parent.0
+  ended form.Parent parent.1 (Do (SetParent c p))
 
 -- `unparent T`
-abbrev pub unparent_line : List (List ℕ) → Line
-unparent_line words = or_bad (option_map (λ t. Do (RemoveParent t)) (lone_target words))
+abbrev pub unparent_line : List (List ℕ) → Result Line BadLine
+unparent_line words = do
+  child ← next_word form.Unparent words
+  t ← target_said child.0
+  ended form.Unparent child.1 (Do (RemoveParent t))
 
 -- `despawnall T`
-abbrev pub despawnall_line : List (List ℕ) → Line
-despawnall_line words = or_bad (option_map (λ t. Do (DespawnAll t)) (lone_target words))
+abbrev pub despawnall_line : List (List ℕ) → Result Line BadLine
+despawnall_line words = do
+  target ← next_word form.DespawnAll words
+  t ← target_said target.0
+  ended form.DespawnAll target.1 (Do (DespawnAll t))
 
 -- `put NAME SHAPE` for a Tag, else `put NAME SHAPE=VALUE`; the name is any word
-abbrev pub put_line : List (List ℕ) → Line
-put_line (name ∷ value ∷ []) = or_bad (option_map (λ v. Do (PutResource name v)) (shaped_value_in value))
-put_line words = Bad
+abbrev pub put_line : List (List ℕ) → Result Line BadLine
+put_line words = do
+  name ← next_word form.Put words
+  value ← next_word form.Put name.1
+  v ← shaped_value_said value.0
+  ended form.Put value.1 (Do (PutResource name.0 v))
 
 -- `drop NAME`; the name is any word
-abbrev pub drop_line : List (List ℕ) → Line
-drop_line (name ∷ []) = Do (RemoveResource name)
-drop_line words = Bad
+abbrev pub drop_line : List (List ℕ) → Result Line BadLine
+drop_line words = do
+  name ← next_word form.Drop words
+  ended form.Drop name.1 (Do (RemoveResource name.0))
 
 -- `get T`, T an entity text
-abbrev pub get_line : List (List ℕ) → Line
-get_line (word ∷ []) = or_bad (option_map (λ e. Get e) (entity_in word))
-get_line words = Bad
+abbrev pub get_line : List (List ℕ) → Result Line BadLine
+get_line words = do
+  word ← next_word form.Get words
+  e ← entity_said word.0
+  ended form.Get word.1 (Get e)
 
--- a line of one word
-abbrev pub lone : Line → List (List ℕ) → Line
-lone line [] = line
-lone line words = Bad
+-- a line by its form and the words behind the first
+abbrev pub line_of_form : Kinds → Form → List (List ℕ) → Result Line BadLine
+line_of_form kinds form.Kind words = kind_line words
+line_of_form kinds form.Slots words = slots_line words
+line_of_form kinds form.Spawn words = spawn_line kinds words
+line_of_form kinds form.Insert words = insert_line kinds words
+line_of_form kinds form.Despawn words = despawn_line words
+line_of_form kinds form.Remove words = remove_line kinds words
+line_of_form kinds form.Parent words = parent_line words
+line_of_form kinds form.Unparent words = unparent_line words
+line_of_form kinds form.DespawnAll words = despawnall_line words
+line_of_form kinds form.Put words = put_line words
+line_of_form kinds form.Drop words = drop_line words
+line_of_form kinds form.Undo words = ended form.Undo words Undo
+line_of_form kinds form.Redo words = ended form.Redo words Redo
+line_of_form kinds form.Show words = ended form.Show words Show
+line_of_form kinds form.Get words = get_line words
+line_of_form kinds form.Mark words = ended form.Mark words Mark
+line_of_form kinds form.Changed words = ended form.Changed words Changed
+line_of_form kinds form.Added words = ended form.Added words Added
+
+-- why a first word names no form
+abbrev pub unknown_word : List ℕ → BadLine
+unknown_word word = if runs_later word then bad.NotYet word else bad.UnknownCommand word
 
 -- a line by its first word and the others
-abbrev pub named_line : Kinds → List ℕ → List (List ℕ) → Line
-named_line kinds first rest =
-    if bytes_eq first (codes "kind") then kind_line rest
-    else if bytes_eq first (codes "slots") then slots_line rest
-    else if bytes_eq first (codes "spawn") then spawn_line kinds rest
-    else if bytes_eq first (codes "insert") then insert_line kinds rest
-    else if bytes_eq first (codes "despawn") then despawn_line rest
-    else if bytes_eq first (codes "remove") then remove_line kinds rest
-    else if bytes_eq first (codes "parent") then parent_line rest
-    else if bytes_eq first (codes "unparent") then unparent_line rest
-    else if bytes_eq first (codes "despawnall") then despawnall_line rest
-    else if bytes_eq first (codes "put") then put_line rest
-    else if bytes_eq first (codes "drop") then drop_line rest
-    else if bytes_eq first (codes "undo") then lone Undo rest
-    else if bytes_eq first (codes "redo") then lone Redo rest
-    else if bytes_eq first (codes "show") then lone Show rest
-    else if bytes_eq first (codes "get") then get_line rest
-    else if bytes_eq first (codes "mark") then lone Mark rest
-    else if bytes_eq first (codes "changed") then lone Changed rest
-    else if bytes_eq first (codes "added") then lone Added rest
-    else Bad
+abbrev pub named_line : Kinds → List ℕ → List (List ℕ) → Result Line BadLine
+named_line kinds first rest = do
+  f ← or_bad (unknown_word first) (form_named first)
+  line_of_form kinds f rest
 
 -- whether a word begins a comment, with # (35)
 abbrev pub is_comment : List ℕ → Bool
@@ -124,10 +159,10 @@ is_comment [] = false
 is_comment (b ∷ bs) = b == 35
 
 -- a line by its words: one without words and a comment say nothing
-abbrev pub line_of_words : Kinds → List (List ℕ) → Line
-line_of_words kinds [] = Empty
-line_of_words kinds (first ∷ rest) = if is_comment first then Empty else named_line kinds first rest
+abbrev pub line_of_words : Kinds → List (List ℕ) → Result Line BadLine
+line_of_words kinds [] = Ok Empty
+line_of_words kinds (first ∷ rest) = if is_comment first then Ok Empty else named_line kinds first rest
 
 -- a line that is no UTF-8 is bad, a comment too
-abbrev pub line_in : Kinds → List ℕ → Line
-line_in kinds bytes = if is_utf8 bytes then line_of_words kinds (words_of bytes) else Bad
+abbrev pub line_in : Kinds → List ℕ → Result Line BadLine
+line_in kinds bytes = if is_utf8 bytes then line_of_words kinds (words_of bytes) else Err bad.NotUtf8

@@ -1,94 +1,114 @@
 //! Values and cells as words.
-ghost use Rattle.std.specs.Prelude.{◌≡◌, IfOk, option_and_then};
-ghost use Rattle.scene_kinds.specs.Schema.{number_of};
-ghost use Rattle.scene_script.specs.Cells.{vec3_in, value_in, tag_of, cell_in, lone_shape, shaped_value_in};
+ghost use Rattle.std.specs.Prelude.{◌≡◌};
+ghost use Rattle.scene_script.specs.Cells.{vec3_said, value_said, kind_said, lone_name, cell_said, shape_said, lone_shape, shaped_value_said};
+ghost use Rattle.scene_script.specs.Reading.{Reads};
 
-use crate::number::{read_entity, read_number};
+use crate::bad_line::{BadLine, LineError, text_of};
+use crate::number::{entity_word, number_word};
 use crate::word::cut;
 use scene_kinds::{ParseShapeError, Schema, Shape, Text, Value};
-use std::alloc::{AllocError, Global};
+use std::alloc::Global;
 
 /// Three whole numbers with commas between them.
-fn vec3(text: &str) -> Option<[i64; 3]>
-    ensures { result ≡ vec3_in text.now }
+fn vec3(alloc: Global, text: &str) -> Result<[i64; 3], LineError>
+    ensures { Reads result (vec3_said text.now) }
 {
-    let (x, rest) = cut(text, ',')?;
-    let (y, z) = cut(rest, ',')?;
-    Some([read_number(x)?, read_number(y)?, read_number(z)?])
+    let Some((x, rest)) = cut(text, ',') else {
+        return Err(LineError::Bad(BadLine::NoVec3(text_of(alloc, text)?)));
+    };
+    let Some((y, z)) = cut(rest, ',') else {
+        return Err(LineError::Bad(BadLine::NoVec3(text_of(alloc, text)?)));
+    };
+    let x = number_word(alloc, x)?;
+    let y = number_word(alloc, y)?;
+    let z = number_word(alloc, z)?;
+    Ok([x, y, z])
 }
 
-/// The value of a shape that a text is (docs/SCRIPTS.md, "Words"): a whole number, three of them joined by
-/// commas, the text itself, also an empty one, or an entity text. `Ok(None)` only where it is none; a tag
-/// has no value.
-pub fn read_value(alloc: Global, shape: Shape, text: &str) -> Result<Option<Value>, AllocError>
-    ensures { IfOk result (λ r. r ≡ value_in shape text.now) }
+/// The value of a shape that a text behind a name is (docs/SCRIPTS.md, "Words"): a whole number, three of them joined by
+/// commas, the text itself, also an empty one, or an entity text. A tag has no value.
+fn value(alloc: Global, name: &str, shape: Shape, text: &str) -> Result<Value, LineError>
+    ensures { Reads result (value_said name.now shape text.now) }
 {
     match shape {
-        Shape::Tag => Ok(None),
-        Shape::Int => Ok(read_number(text).map(Value::Int)),
-        Shape::Vec3 => Ok(vec3(text).map(Value::Vec3)),
-        Shape::Text => {
-            let owned = String::from_str(alloc, text)?;
-            Ok(Some(Value::Text(Text::from(owned))))
-        }
-        Shape::Link => Ok(read_entity(text).map(Value::Link)),
+        Shape::Tag => Err(LineError::Bad(BadLine::ValueOfTag(text_of(alloc, name)?))),
+        Shape::Int => Ok(Value::Int(number_word(alloc, text)?)),
+        Shape::Vec3 => Ok(Value::Vec3(vec3(alloc, text)?)),
+        Shape::Text => Ok(Value::Text(text_of(alloc, text)?)),
+        Shape::Link => Ok(Value::Link(entity_word(alloc, text)?)),
+    }
+}
+
+/// The kind of a name.
+pub(crate) fn kind_word(alloc: Global, schema: &Schema, name: &str) -> Result<u8, LineError>
+    ensures { Reads result (kind_said schema.now name.now) }
+{
+    match schema.number_of(name) {
+        Some(kind) => Ok(kind),
+        None => Err(LineError::Bad(BadLine::UnknownKind(text_of(alloc, name)?))),
     }
 }
 
 /// A word that is the name of a tag.
-fn read_tag(schema: &Schema, name: &str) -> Option<(u8, Value)>
-    ensures { result ≡ option_and_then (λ kind. tag_of schema.now kind) (number_of schema.now name.now) }
+fn tag_word(alloc: Global, schema: &Schema, name: &str) -> Result<(u8, Value), LineError>
+    ensures { Reads result (lone_name schema.now name.now) }
 {
-    let kind = schema.number_of(name)?;
+    let kind = kind_word(alloc, schema, name)?;
     if schema.fits(&Value::Tag, kind) {
-        Some((kind, Value::Tag))
+        Ok((kind, Value::Tag))
     } else {
-        None
+        Err(LineError::Bad(BadLine::MissingValue(text_of(alloc, name)?)))
     }
 }
 
 /// The kind and the value that a word names (docs/SCRIPTS.md, "Words"): `NAME` of a tag, else `NAME=VALUE`.
-/// `Ok(None)` only where the kind isn't declared or the word isn't of its form.
-pub fn read_cell(
+pub(crate) fn cell_word(
     alloc: Global,
     schema: &Schema,
     word: &str,
-) -> Result<Option<(u8, Value)>, AllocError>
-    ensures { IfOk result (λ r. r ≡ cell_in schema.now word.now) }
+) -> Result<(u8, Value), LineError>
+    ensures { Reads result (cell_said schema.now word.now) }
 {
     let Some((name, text)) = cut(word, '=') else {
-        return Ok(read_tag(schema, word));
+        return tag_word(alloc, schema, word);
     };
-    let Some(kind) = schema.number_of(name) else {
-        return Ok(None);
-    };
+    let kind = kind_word(alloc, schema, name)?;
     let Some(shape) = schema.shape_of(kind) else {
-        return Ok(None);
+        return Err(LineError::Bad(BadLine::UnknownKind(text_of(alloc, name)?)));
     };
-    let value = read_value(alloc, shape, text)?;
-    Ok(value.map(|value| (kind, value)))
+    Ok((kind, value(alloc, name, shape, text)?))
+}
+
+/// The shape of a name.
+pub(crate) fn shape_word(alloc: Global, name: &str) -> Result<Shape, LineError>
+    ensures { Reads result (shape_said name.now) }
+{
+    match name.parse() {
+        Ok(shape) => Ok(shape),
+        Err(ParseShapeError) => {
+            Err(LineError::Bad(BadLine::UnknownShape(text_of(alloc, name)?)))
+        }
+    }
 }
 
 /// The value of a shape that needs no text, which is `Tag` alone.
-fn lone_shape(shape: Shape) -> Option<Value>
-    ensures { result ≡ lone_shape shape }
+fn lone_shape(alloc: Global, name: &str, shape: Shape) -> Result<Value, LineError>
+    ensures { Reads result (lone_shape name.now shape) }
 {
     match shape {
-        Shape::Tag => Some(Value::Tag),
-        _ => None,
+        Shape::Tag => Ok(Value::Tag),
+        _ => Err(LineError::Bad(BadLine::MissingValue(text_of(alloc, name)?))),
     }
 }
 
 /// The value that a word names with its shape (docs/SCRIPTS.md, "Words"): `SHAPE` of a tag, else `SHAPE=VALUE`.
-/// `Ok(None)` only where the word isn't of its form.
-pub fn read_shaped_value(alloc: Global, word: &str) -> Result<Option<Value>, AllocError>
-    ensures { IfOk result (λ r. r ≡ shaped_value_in word.now) }
+pub(crate) fn shaped_value_word(alloc: Global, word: &str) -> Result<Value, LineError>
+    ensures { Reads result (shaped_value_said word.now) }
 {
     let Some((name, text)) = cut(word, '=') else {
-        return Ok(word.parse().ok().and_then(lone_shape));
+        let shape = shape_word(alloc, word)?;
+        return lone_shape(alloc, word, shape);
     };
-    match name.parse() {
-        Err(ParseShapeError) => Ok(None),
-        Ok(shape) => read_value(alloc, shape, text),
-    }
+    let shape = shape_word(alloc, name)?;
+    value(alloc, name, shape, text)
 }

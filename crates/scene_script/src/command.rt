@@ -6,7 +6,7 @@ use scene_kinds::{Text, Value};
 use std::marker::Model;
 
 /// The components that a spawn is given, each with its kind. Contracts see a list.
-#[derive(Drop)]
+#[derive(Drop, Debug)]
 pub struct Given {
     cells: Vec<(u8, Value)>,
 }
@@ -38,7 +38,7 @@ impl Given {
 }
 
 /// A command on the world (docs/SCRIPTS.md, "Commands").
-#[derive(Drop)]
+#[derive(Drop, Debug)]
 pub enum Command {
     Spawn(Given),
     Insert(TargetWord, u8, Value),

@@ -1,14 +1,16 @@
 //! The language of scripts: what a line says, and how values print.
 //!
 //! A script's bytes are cut into lines and a line into words. The words are read as numbers, entities, targets,
-//! cells and commands, and a line becomes one value of the type `Line`; what is no form of the language is `Bad`.
-//! Values, cells and rows print as the texts from which they are read. Each step is exact against a total function
-//! of bytes in `specs/` (docs/SCRIPTS.md explains the language). The crate knows of no world: what a line does is
+//! cells and commands, and a line becomes one value of the type `Line`, or a `BadLine`, which says its first mistake.
+//! Values, cells and rows print as docs/SCRIPTS.md, "Output", says. Each step is exact against a total function of
+//! bytes in `specs/` (docs/SCRIPTS.md explains the language). The crate knows of no world: what a line does is
 //! scene_app's.
 #![tactic(auto)]
 
+mod bad_line;
 mod cell_word;
 mod command;
+mod form;
 mod line;
 mod number;
 mod print;
@@ -17,8 +19,9 @@ mod slot_limit;
 mod target;
 mod word;
 
-pub use cell_word::{read_cell, read_shaped_value, read_value};
+pub use bad_line::{BadLine, LineError};
 pub use command::{Command, Given};
+pub use form::Form;
 pub use line::first_line;
 pub use number::{read_count, read_entity, read_number};
 pub use print::{write_cell, write_json_text, write_row, write_value};

@@ -1,23 +1,25 @@
-//! What a line of a script says.
+//! What a line of a script says, or why it is bad.
 ghost use Rattle.std.specs.Prelude.{◌≡◌, IfOk, map};
-ghost use Rattle.scene_script.specs.Script.{line_in, line_of_words, named_line, kind_line, slots_line, cells_in, spawn_line, insert_line, lone_target, despawn_line, remove_line, parent_line, unparent_line, despawnall_line, put_line, drop_line, get_line, lone};
+ghost use Rattle.scene_script.specs.Reading.{Reads, ended};
+ghost use Rattle.scene_script.specs.Forms.{runs_later};
+ghost use Rattle.scene_script.specs.Script.{line_in, line_of_words, unknown_word, named_line, line_of_form, kind_line, limit_said, slots_line, cells_said, spawn_line, insert_line, despawn_line, remove_line, parent_line, unparent_line, despawnall_line, put_line, drop_line, get_line};
 
-use crate::cell_word::{read_cell, read_shaped_value};
+use crate::bad_line::{BadLine, LineError, text_of};
+use crate::cell_word::{cell_word, kind_word, shape_word, shaped_value_word};
 use crate::command::{Command, Given};
-use crate::number::{read_count, read_entity};
+use crate::form::Form;
+use crate::number::{bad_number, entity_word, read_count};
 use crate::slot_limit::SlotLimit;
-use crate::target::{TargetWord, read_target};
+use crate::target::target_word;
 use crate::word::words;
-use scene_kinds::{Entity, ParseShapeError, Schema, Shape, Text};
+use scene_kinds::{Entity, Schema, Shape, Text};
 use std::alloc::{AllocError, Global};
 
 /// The meaning of a line (docs/SCRIPTS.md, "Lines").
-#[derive(Drop)]
+#[derive(Drop, Debug)]
 pub enum Line {
     /// No words, or a comment.
     Empty,
-    /// No form of the language.
-    Bad,
     /// A kind is declared: its name and its shape.
     Kind(Text, Shape),
     /// The slot limit.
@@ -33,229 +35,306 @@ pub enum Line {
     Added,
 }
 
-/// `kind NAME SHAPE`.
-fn kind_line(alloc: Global, rest: &[&str]) -> Result<Line, AllocError>
-    ensures { IfOk result (λ line. line ≡ kind_line (map (λ w. w.now) rest.now)) }
+/// A line that ends here says this.
+fn ended(alloc: Global, form: Form, words: &[&str], line: Line) -> Result<Line, LineError>
+    ensures { Reads result (ended form (map (λ w. w.now) words.now) line) }
 {
-    let [name, shape] = rest else {
-        return Ok(Line::Bad);
+    match words {
+        [] => Ok(line),
+        [word, ..] => Err(LineError::Bad(BadLine::ExtraWord(text_of(alloc, word)?, form))),
+    }
+}
+
+/// `kind NAME SHAPE`.
+fn kind_line(alloc: Global, words: &[&str]) -> Result<Line, LineError>
+    ensures { Reads result (kind_line (map (λ w. w.now) words.now)) }
+{
+    let [name, rest @ ..] = words else {
+        return Err(LineError::Bad(BadLine::MissingWord(Form::Kind)));
     };
-    match shape.parse() {
-        Err(ParseShapeError) => Ok(Line::Bad),
-        Ok(shape) => Ok(Line::Kind(Text::from(String::from_str(alloc, name)?), shape)),
+    let [shape, rest @ ..] = rest else {
+        return Err(LineError::Bad(BadLine::MissingWord(Form::Kind)));
+    };
+    let shape = shape_word(alloc, shape)?;
+    let name = text_of(alloc, name)?;
+    ended(alloc, Form::Kind, rest, Line::Kind(name, shape))
+}
+
+/// The slot limit that a word is.
+fn limit_word(alloc: Global, word: &str) -> Result<SlotLimit, LineError>
+    ensures { Reads result (limit_said word.now) }
+{
+    match read_count(word).and_then(SlotLimit::new) {
+        Some(limit) => Ok(limit),
+        None => Err(LineError::Bad(bad_number(alloc, word, 1, 1_048_576)?)),
     }
 }
 
 /// `slots N`.
-fn slots_line(rest: &[&str]) -> Line
-    ensures { result ≡ slots_line (map (λ w. w.now) rest.now) }
+fn slots_line(alloc: Global, words: &[&str]) -> Result<Line, LineError>
+    ensures { Reads result (slots_line (map (λ w. w.now) words.now)) }
 {
-    let [word] = rest else {
-        return Line::Bad;
+    let [word, rest @ ..] = words else {
+        return Err(LineError::Bad(BadLine::MissingWord(Form::Slots)));
     };
-    let Some(slots) = read_count(word) else {
-        return Line::Bad;
-    };
-    match SlotLimit::new(slots) {
-        Some(limit) => Line::Slots(limit),
-        None => Line::Bad,
-    }
+    let limit = limit_word(alloc, word)?;
+    ended(alloc, Form::Slots, rest, Line::Slots(limit))
 }
 
-/// The components that words name, or `None` where one names none.
-fn read_cells(alloc: Global, schema: &Schema, rest: &[&str]) -> Result<Option<Given>, AllocError>
-    ensures { IfOk result (λ cells. cells ≡ cells_in schema.now (map (λ w. w.now) rest.now)) }
+/// The components that words name.
+fn cell_words(alloc: Global, schema: &Schema, words: &[&str]) -> Result<Given, LineError>
+    ensures { Reads result (cells_said schema.now (map (λ w. w.now) words.now)) }
 {
     let mut cells = Vec::new(alloc);
-    for word in rest {
-        match read_cell(alloc, schema, word)? {
-            None => return Ok(None),
-            Some(cell) => cells.push(cell)?,
-        }
+    for word in words {
+        cells.push(cell_word(alloc, schema, word)?)?;
     }
-    Ok(Some(Given::from_vec(cells)))
+    Ok(Given::from_vec(cells))
 }
 
 /// `spawn CELL..`.
-fn spawn_line(alloc: Global, schema: &Schema, rest: &[&str]) -> Result<Line, AllocError>
-    ensures { IfOk result (λ line. line ≡ spawn_line schema.now (map (λ w. w.now) rest.now)) }
+fn spawn_line(alloc: Global, schema: &Schema, words: &[&str]) -> Result<Line, LineError>
+    ensures { Reads result (spawn_line schema.now (map (λ w. w.now) words.now)) }
 {
-    match read_cells(alloc, schema, rest)? {
-        None => Ok(Line::Bad),
-        Some(cells) => Ok(Line::Do(Command::Spawn(cells))),
-    }
+    let cells = cell_words(alloc, schema, words)?;
+    Ok(Line::Do(Command::Spawn(cells)))
 }
 
 /// `insert T CELL`.
-fn insert_line(alloc: Global, schema: &Schema, rest: &[&str]) -> Result<Line, AllocError>
-    ensures { IfOk result (λ line. line ≡ insert_line schema.now (map (λ w. w.now) rest.now)) }
+fn insert_line(alloc: Global, schema: &Schema, words: &[&str]) -> Result<Line, LineError>
+    ensures { Reads result (insert_line schema.now (map (λ w. w.now) words.now)) }
 {
-    let [target, cell] = rest else {
-        return Ok(Line::Bad);
+    let [target, rest @ ..] = words else {
+        return Err(LineError::Bad(BadLine::MissingWord(Form::Insert)));
     };
-    let Some(target) = read_target(target) else {
-        return Ok(Line::Bad);
+    let target = target_word(alloc, target)?;
+    let [cell, rest @ ..] = rest else {
+        return Err(LineError::Bad(BadLine::MissingWord(Form::Insert)));
     };
-    match read_cell(alloc, schema, cell)? {
-        None => Ok(Line::Bad),
-        Some((kind, value)) => Ok(Line::Do(Command::Insert(target, kind, value))),
-    }
-}
-
-/// The target that is the only word.
-fn lone_target(rest: &[&str]) -> Option<TargetWord>
-    ensures { result ≡ lone_target (map (λ w. w.now) rest.now) }
-{
-    match rest {
-        [word] => read_target(word),
-        _ => None,
-    }
+    let (kind, value) = cell_word(alloc, schema, cell)?;
+    ended(
+        alloc,
+        Form::Insert,
+        rest,
+        Line::Do(Command::Insert(target, kind, value)),
+    )
 }
 
 /// `despawn T`.
-fn despawn_line(rest: &[&str]) -> Line
-    ensures { result ≡ despawn_line (map (λ w. w.now) rest.now) }
+fn despawn_line(alloc: Global, words: &[&str]) -> Result<Line, LineError>
+    ensures { Reads result (despawn_line (map (λ w. w.now) words.now)) }
 {
-    match lone_target(rest) {
-        None => Line::Bad,
-        Some(target) => Line::Do(Command::Despawn(target)),
-    }
+    let [target, rest @ ..] = words else {
+        return Err(LineError::Bad(BadLine::MissingWord(Form::Despawn)));
+    };
+    let target = target_word(alloc, target)?;
+    ended(
+        alloc,
+        Form::Despawn,
+        rest,
+        Line::Do(Command::Despawn(target)),
+    )
 }
 
 /// `remove T NAME`.
-fn remove_line(schema: &Schema, rest: &[&str]) -> Line
-    ensures { result ≡ remove_line schema.now (map (λ w. w.now) rest.now) }
+fn remove_line(alloc: Global, schema: &Schema, words: &[&str]) -> Result<Line, LineError>
+    ensures { Reads result (remove_line schema.now (map (λ w. w.now) words.now)) }
 {
-    let [target, name] = rest else {
-        return Line::Bad;
+    let [target, rest @ ..] = words else {
+        return Err(LineError::Bad(BadLine::MissingWord(Form::Remove)));
     };
-    let Some(target) = read_target(target) else {
-        return Line::Bad;
+    let target = target_word(alloc, target)?;
+    let [name, rest @ ..] = rest else {
+        return Err(LineError::Bad(BadLine::MissingWord(Form::Remove)));
     };
-    match schema.number_of(name) {
-        None => Line::Bad,
-        Some(kind) => Line::Do(Command::Remove(target, kind)),
-    }
+    let kind = kind_word(alloc, schema, name)?;
+    ended(
+        alloc,
+        Form::Remove,
+        rest,
+        Line::Do(Command::Remove(target, kind)),
+    )
 }
 
 /// `parent T T`, the child and then its parent.
-fn parent_line(rest: &[&str]) -> Line
-    ensures { result ≡ parent_line (map (λ w. w.now) rest.now) }
+fn parent_line(alloc: Global, words: &[&str]) -> Result<Line, LineError>
+    ensures { Reads result (parent_line (map (λ w. w.now) words.now)) }
 {
-    let [child, parent] = rest else {
-        return Line::Bad;
+    let [child, rest @ ..] = words else {
+        return Err(LineError::Bad(BadLine::MissingWord(Form::Parent)));
     };
-    let Some(child) = read_target(child) else {
-        return Line::Bad;
+    let child = target_word(alloc, child)?;
+    let [parent, rest @ ..] = rest else {
+        return Err(LineError::Bad(BadLine::MissingWord(Form::Parent)));
     };
-    match read_target(parent) {
-        None => Line::Bad,
-        Some(parent) => Line::Do(Command::SetParent(child, parent)),
-    }
+    let parent = target_word(alloc, parent)?;
+    ended(
+        alloc,
+        Form::Parent,
+        rest,
+        Line::Do(Command::SetParent(child, parent)),
+    )
 }
 
 /// `unparent T`.
-fn unparent_line(rest: &[&str]) -> Line
-    ensures { result ≡ unparent_line (map (λ w. w.now) rest.now) }
+fn unparent_line(alloc: Global, words: &[&str]) -> Result<Line, LineError>
+    ensures { Reads result (unparent_line (map (λ w. w.now) words.now)) }
 {
-    match lone_target(rest) {
-        None => Line::Bad,
-        Some(child) => Line::Do(Command::RemoveParent(child)),
-    }
+    let [child, rest @ ..] = words else {
+        return Err(LineError::Bad(BadLine::MissingWord(Form::Unparent)));
+    };
+    let child = target_word(alloc, child)?;
+    ended(
+        alloc,
+        Form::Unparent,
+        rest,
+        Line::Do(Command::RemoveParent(child)),
+    )
 }
 
 /// `despawnall T`.
-fn despawnall_line(rest: &[&str]) -> Line
-    ensures { result ≡ despawnall_line (map (λ w. w.now) rest.now) }
+fn despawnall_line(alloc: Global, words: &[&str]) -> Result<Line, LineError>
+    ensures { Reads result (despawnall_line (map (λ w. w.now) words.now)) }
 {
-    match lone_target(rest) {
-        None => Line::Bad,
-        Some(target) => Line::Do(Command::DespawnAll(target)),
-    }
+    let [target, rest @ ..] = words else {
+        return Err(LineError::Bad(BadLine::MissingWord(Form::DespawnAll)));
+    };
+    let target = target_word(alloc, target)?;
+    ended(
+        alloc,
+        Form::DespawnAll,
+        rest,
+        Line::Do(Command::DespawnAll(target)),
+    )
 }
 
 /// `put NAME SHAPE` for a tag, else `put NAME SHAPE=VALUE`.
-fn put_line(alloc: Global, rest: &[&str]) -> Result<Line, AllocError>
-    ensures { IfOk result (λ line. line ≡ put_line (map (λ w. w.now) rest.now)) }
+fn put_line(alloc: Global, words: &[&str]) -> Result<Line, LineError>
+    ensures { Reads result (put_line (map (λ w. w.now) words.now)) }
 {
-    let [name, value] = rest else {
-        return Ok(Line::Bad);
+    let [name, rest @ ..] = words else {
+        return Err(LineError::Bad(BadLine::MissingWord(Form::Put)));
     };
-    match read_shaped_value(alloc, value)? {
-        None => Ok(Line::Bad),
-        Some(value) => {
-            let name = Text::from(String::from_str(alloc, name)?);
-            Ok(Line::Do(Command::PutResource(name, value)))
-        }
-    }
+    let [value, rest @ ..] = rest else {
+        return Err(LineError::Bad(BadLine::MissingWord(Form::Put)));
+    };
+    let value = shaped_value_word(alloc, value)?;
+    let name = text_of(alloc, name)?;
+    ended(
+        alloc,
+        Form::Put,
+        rest,
+        Line::Do(Command::PutResource(name, value)),
+    )
 }
 
 /// `drop NAME`.
-fn drop_line(alloc: Global, rest: &[&str]) -> Result<Line, AllocError>
-    ensures { IfOk result (λ line. line ≡ drop_line (map (λ w. w.now) rest.now)) }
+fn drop_line(alloc: Global, words: &[&str]) -> Result<Line, LineError>
+    ensures { Reads result (drop_line (map (λ w. w.now) words.now)) }
 {
-    let [name] = rest else {
-        return Ok(Line::Bad);
+    let [name, rest @ ..] = words else {
+        return Err(LineError::Bad(BadLine::MissingWord(Form::Drop)));
     };
-    let name = Text::from(String::from_str(alloc, name)?);
-    Ok(Line::Do(Command::RemoveResource(name)))
+    let name = text_of(alloc, name)?;
+    ended(
+        alloc,
+        Form::Drop,
+        rest,
+        Line::Do(Command::RemoveResource(name)),
+    )
 }
 
 /// `get T`.
-fn get_line(rest: &[&str]) -> Line
-    ensures { result ≡ get_line (map (λ w. w.now) rest.now) }
+fn get_line(alloc: Global, words: &[&str]) -> Result<Line, LineError>
+    ensures { Reads result (get_line (map (λ w. w.now) words.now)) }
 {
-    let [word] = rest else {
-        return Line::Bad;
+    let [word, rest @ ..] = words else {
+        return Err(LineError::Bad(BadLine::MissingWord(Form::Get)));
     };
-    match read_entity(word) {
-        None => Line::Bad,
-        Some(entity) => Line::Get(entity),
+    let entity = entity_word(alloc, word)?;
+    ended(alloc, Form::Get, rest, Line::Get(entity))
+}
+
+/// A line by its form and the words behind the first.
+fn line_of_form(
+    alloc: Global,
+    schema: &Schema,
+    form: Form,
+    words: &[&str],
+) -> Result<Line, LineError>
+    ensures { Reads result (line_of_form schema.now form (map (λ w. w.now) words.now)) }
+{
+    match form {
+        Form::Kind => kind_line(alloc, words),
+        Form::Slots => slots_line(alloc, words),
+        Form::Spawn => spawn_line(alloc, schema, words),
+        Form::Insert => insert_line(alloc, schema, words),
+        Form::Despawn => despawn_line(alloc, words),
+        Form::Remove => remove_line(alloc, schema, words),
+        Form::Parent => parent_line(alloc, words),
+        Form::Unparent => unparent_line(alloc, words),
+        Form::DespawnAll => despawnall_line(alloc, words),
+        Form::Put => put_line(alloc, words),
+        Form::Drop => drop_line(alloc, words),
+        Form::Undo => ended(alloc, form, words, Line::Undo),
+        Form::Redo => ended(alloc, form, words, Line::Redo),
+        Form::Show => ended(alloc, form, words, Line::Show),
+        Form::Get => get_line(alloc, words),
+        Form::Mark => ended(alloc, form, words, Line::Mark),
+        Form::Changed => ended(alloc, form, words, Line::Changed),
+        Form::Added => ended(alloc, form, words, Line::Added),
     }
 }
 
-/// A line that is one word.
-fn lone(line: Line, rest: &[&str]) -> Line
-    ensures { result ≡ lone line (map (λ w. w.now) rest.now) }
+/// Whether a first word is one of the language that doesn't run yet.
+fn runs_later(word: &str) -> bool
+    ensures { result ≡ runs_later word.now }
 {
-    if rest.is_empty() { line } else { Line::Bad }
+    match word {
+        "load"
+        | "calls"
+        | "depth"
+        | "despawnifalive"
+        | "begin"
+        | "queue"
+        | "commit"
+        | "phase"
+        | "system"
+        | "clear"
+        | "advance"
+        | "dump"
+        | "dumpall"
+        | "as"
+        | "history" => true,
+        _ => false,
+    }
+}
+
+/// Why a first word names no form.
+fn unknown_word(alloc: Global, word: &str) -> Result<BadLine, AllocError>
+    ensures { IfOk result (λ reason. reason ≡ unknown_word word.now) }
+{
+    let text = text_of(alloc, word)?;
+    if runs_later(word) {
+        Ok(BadLine::NotYet(text))
+    } else {
+        Ok(BadLine::UnknownCommand(text))
+    }
 }
 
 /// A line by its first word and the others.
-fn named_line(
-    alloc: Global,
-    schema: &Schema,
-    first: &str,
-    rest: &[&str],
-) -> Result<Line, AllocError>
-    ensures { IfOk result (λ line. line ≡ named_line schema.now first.now (map (λ w. w.now) rest.now)) }
+fn named_line(alloc: Global, schema: &Schema, first: &str, rest: &[&str]) -> Result<Line, LineError>
+    ensures { Reads result (named_line schema.now first.now (map (λ w. w.now) rest.now)) }
 {
-    match first {
-        "kind" => kind_line(alloc, rest),
-        "slots" => Ok(slots_line(rest)),
-        "spawn" => spawn_line(alloc, schema, rest),
-        "insert" => insert_line(alloc, schema, rest),
-        "despawn" => Ok(despawn_line(rest)),
-        "remove" => Ok(remove_line(schema, rest)),
-        "parent" => Ok(parent_line(rest)),
-        "unparent" => Ok(unparent_line(rest)),
-        "despawnall" => Ok(despawnall_line(rest)),
-        "put" => put_line(alloc, rest),
-        "drop" => drop_line(alloc, rest),
-        "undo" => Ok(lone(Line::Undo, rest)),
-        "redo" => Ok(lone(Line::Redo, rest)),
-        "show" => Ok(lone(Line::Show, rest)),
-        "get" => Ok(get_line(rest)),
-        "mark" => Ok(lone(Line::Mark, rest)),
-        "changed" => Ok(lone(Line::Changed, rest)),
-        "added" => Ok(lone(Line::Added, rest)),
-        _ => Ok(Line::Bad),
+    match Form::named(first) {
+        Some(form) => line_of_form(alloc, schema, form, rest),
+        None => Err(LineError::Bad(unknown_word(alloc, first)?)),
     }
 }
 
 /// A line by its words.
-fn line_of_words(alloc: Global, schema: &Schema, words: &[&str]) -> Result<Line, AllocError>
-    ensures { IfOk result (λ line. line ≡ line_of_words schema.now (map (λ w. w.now) words.now)) }
+fn line_of_words(alloc: Global, schema: &Schema, words: &[&str]) -> Result<Line, LineError>
+    ensures { Reads result (line_of_words schema.now (map (λ w. w.now) words.now)) }
 {
     let [first, rest @ ..] = words else {
         return Ok(Line::Empty);
@@ -267,11 +346,14 @@ fn line_of_words(alloc: Global, schema: &Schema, words: &[&str]) -> Result<Line,
 }
 
 /// What a line says, where these kinds are declared. It costs a walk over the line.
-pub fn read_line(alloc: Global, schema: &Schema, bytes: &[u8]) -> Result<Line, AllocError>
-    ensures { IfOk result (λ line. line ≡ line_in schema.now bytes.now) }
+///
+/// Refused: `Bad` with the first mistake, read from the left, where the line has no form of the language, and
+/// `NoMemory`.
+pub fn read_line(alloc: Global, schema: &Schema, bytes: &[u8]) -> Result<Line, LineError>
+    ensures { Reads result (line_in schema.now bytes.now) }
 {
     match str::from_utf8(bytes) {
-        Err(_) => Ok(Line::Bad),
+        Err(_) => Err(LineError::Bad(BadLine::NotUtf8)),
         Ok(text) => {
             let words = words(alloc, text)?;
             line_of_words(alloc, schema, words.as_slice())

@@ -5,7 +5,7 @@ ghost use Rattle.scene_script.specs.Script.{limit_of};
 use std::marker::Model;
 
 /// A slot limit, from 1 to 1,048,576.
-#[derive(Drop)]
+#[derive(Drop, Debug)]
 pub struct SlotLimit {
     slots: u32,
 }

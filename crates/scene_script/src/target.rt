@@ -1,9 +1,12 @@
 //! Targets of commands as words.
 ghost use Rattle.std.specs.Prelude.{◌≡◌};
-ghost use Rattle.scene_script.specs.Cells.{target_in};
+ghost use Rattle.scene_script.specs.Cells.{target_in, target_said};
+ghost use Rattle.scene_script.specs.Reading.{Reads};
 
+use crate::bad_line::{BadLine, LineError, text_of};
 use crate::number::{read_count, read_entity};
 use scene_kinds::Entity;
+use std::alloc::Global;
 
 /// What a command is about, as a script writes it (docs/SCRIPTS.md, "Words").
 #[derive(Clone, Copy, Debug, PartialEq, Eq)]
@@ -21,5 +24,15 @@ pub fn read_target(word: &str) -> Option<TargetWord>
     match word.strip_prefix('+') {
         Some(digits) => read_count(digits).map(TargetWord::New),
         None => read_entity(word).map(TargetWord::Entity),
+    }
+}
+
+/// The target that a word is.
+pub(crate) fn target_word(alloc: Global, word: &str) -> Result<TargetWord, LineError>
+    ensures { Reads result (target_said word.now) }
+{
+    match read_target(word) {
+        Some(target) => Ok(target),
+        None => Err(LineError::Bad(BadLine::NoTarget(text_of(alloc, word)?))),
     }
 }

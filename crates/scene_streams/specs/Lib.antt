@@ -1,4 +1,5 @@
 pub mod Known
+pub mod Limits
 pub mod Sink
 pub mod Source
 pub mod Turns

@@ -8,8 +8,8 @@
 //! also after a refusal. Nothing tells that a call fails, so the mark stands in for it: a fault is answered
 //! exactly where the mark is set after the call (docs/MODEL.md, "Faults").
 //!
-//! `specs/Source.antt` and `specs/Sink.antt` have what a clause sees of the two, `specs/Known.antt` what is known
-//! of a stream after a refusal.
+//! `specs/Source.antt` and `specs/Sink.antt` have what a clause sees of the two, `specs/Limits.antt` how much is read,
+//! and `specs/Known.antt` what is known of a stream after a refusal.
 #![tactic(auto)]
 
 mod sink;
@@ -17,5 +17,5 @@ mod source;
 #[cfg(test)]
 mod tests;
 
-pub use sink::{Sink, WriteFault};
+pub use sink::{Sink, WriteError};
 pub use source::{MOST_BYTES, MOST_TURNS, ReadError, Source};

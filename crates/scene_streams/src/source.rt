@@ -3,12 +3,14 @@ ghost use Rattle.std.specs.Prelude.{◌≡◌, ◌≢◌, ◌+◌, ◌<◌, ◌�
 ghost use Rattle.std.specs.IoError.{error_kind};
 ghost use Rattle.std.specs.Io.KnownBytes.{IsAtEnd};
 ghost use Rattle.scene_streams.specs.Known.{ConsumesSome};
+ghost use Rattle.scene_streams.specs.Limits.{most_bytes, most_turns};
 ghost use Rattle.scene_streams.specs.declared.source.ReadError.TheVariants.{Fault, TooLong, NoMemory};
 ghost use Rattle.scene_streams.specs.declared.source.Turn.TheVariants.{End, Bytes, Again};
 
 use std::alloc::{AllocError, Global};
 use std::io;
 use std::io::{ErrorKind, Read};
+use thiserror::Error;
 
 /// The most bytes that a source gives in one reading (docs/SCRIPTS.md, "Exit status").
 pub const MOST_BYTES: usize = 67_108_864;
@@ -20,13 +22,16 @@ pub const MOST_TURNS: u32 = 1_048_576;
 const CHUNK: usize = 8192;
 
 /// Why a reader wasn't read to its end (docs/MODEL.md, "Faults").
-#[derive(Clone, Copy, Debug, PartialEq, Eq)]
+#[derive(Clone, Copy, Debug, PartialEq, Eq, Error)]
 pub enum ReadError {
     /// A call of the reader failed, now or before, other than by an interruption.
+    #[error("a read failed")]
     Fault,
     /// There were more than `MOST_BYTES` bytes, or no turn was left before the end.
+    #[error("more than {} bytes, or more than {} reads", MOST_BYTES, MOST_TURNS)]
     TooLong,
     /// A growth of memory was refused.
+    #[error("no memory")]
     NoMemory,
 }
 
@@ -76,7 +81,7 @@ fn turn_of(answer: io::Result<usize>, room: usize) -> Result<Turn, ReadError>
 
 /// A reader that is read in turns, each one call of it. It keeps how many turns are left, and whether one of them
 /// failed; after that it reads no more.
-#[derive(Drop)]
+#[derive(Drop, Debug)]
 pub struct Source<R> {
     reader: R,
     turns: u32,
@@ -89,7 +94,7 @@ impl<R> Source<R> {
     /// A source with all its `MOST_TURNS` turns left, none of which failed.
     pub fn new(reader: R) -> Self
         ensures reader { reader_of result ≡ reader }
-        ensures turns { turns_left result ≡ MOST_TURNS }
+        ensures turns { turns_left result ≡ most_turns }
         ensures mark { read_failed result ≡ false }
     {
         Source {
@@ -158,13 +163,13 @@ impl<R: Read> Source<R> {
     pub fn read_all(&mut self, alloc: Global) -> Result<Vec<u8>, ReadError>
         ensures all { IfOk result (λ v. IfSome (R.remaining (reader_of self.old)) (λ bytes. v.items ≡ bytes)) }
         ensures end { OnOk result (IsAtEnd (R.remaining (reader_of self.new))) }
-        ensures within { IfOk result (λ v. vec_len v ≤ MOST_BYTES) }
+        ensures within { IfOk result (λ v. vec_len v ≤ most_bytes) }
         ensures mark { (result ≡ Err Fault) ↔ (read_failed self.new ≡ true) }
         ensures stays { read_failed self.old ≡ true → self.new ≡ self.old }
         ensures turns { read_failed self.old ≡ false → IfErr result (λ e. e ≡ Fault → turns_left self.new < turns_left self.old) }
         ensures spent { turns_left self.new ≤ turns_left self.old }
         ensures long { IfErr result (λ e. e ≡ TooLong
-            → (turns_left self.new ≡ 0) ⊎ IfSome (R.remaining (reader_of self.old)) (λ bytes. MOST_BYTES < length bytes)) }
+            → (turns_left self.new ≡ 0) ⊎ IfSome (R.remaining (reader_of self.old)) (λ bytes. most_bytes < length bytes)) }
         ensures some { OnErr result (ConsumesSome (R.remaining (reader_of self.old)) (R.remaining (reader_of self.new))) }
     {
         if self.has_failed {

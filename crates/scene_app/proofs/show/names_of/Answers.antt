@@ -1,5 +1,6 @@
 use Rattle.std.proofs.Common.{rules, ◌+◌, drop, map}
-use Rattle.scene_app.specs.Shown.{name_in, one_name, names_from}
+use Rattle.scene_app.specs.Shown.{names_from}
+use Rattle.scene_app.specs.ShowSteps.{name_in, one_name}
 use Rattle.scene_app.proofs.ShowLaws.{names_step, moved}
 use Rattle.scene_app.proofs.show.names_of.Goals as goal
 

@@ -1,5 +1,5 @@
 use Rattle.std.proofs.Common.{◌≡◌, ◌++◌, drop, map, string_bytes}
-use Rattle.scene_app.specs.Shown.{named_text}
+use Rattle.scene_app.specs.ShowSteps.{named_text}
 use Rattle.scene_app.proofs.show.write_each_named.Given as goal
 
 abbrev pub invariant-names : goal.invariant-names

@@ -1,0 +1,47 @@
+-- The first words of lines.
+use Rattle.std.specs.Prelude.{ℕ, List, Bool, true, Option, Some, None, if◌then◌else◌, codes}
+use Rattle.std.specs.Str.{bytes_eq}
+use Rattle.scene_script.specs.declared.form.Form.{Form}
+use Rattle.scene_script.specs.declared.form.Form.TheVariants as form
+
+-- the form that a first word names
+abbrev pub form_named : List ℕ → Option Form
+form_named word =
+    if bytes_eq word (codes "kind") then Some form.Kind
+    else if bytes_eq word (codes "slots") then Some form.Slots
+    else if bytes_eq word (codes "spawn") then Some form.Spawn
+    else if bytes_eq word (codes "insert") then Some form.Insert
+    else if bytes_eq word (codes "despawn") then Some form.Despawn
+    else if bytes_eq word (codes "remove") then Some form.Remove
+    else if bytes_eq word (codes "parent") then Some form.Parent
+    else if bytes_eq word (codes "unparent") then Some form.Unparent
+    else if bytes_eq word (codes "despawnall") then Some form.DespawnAll
+    else if bytes_eq word (codes "put") then Some form.Put
+    else if bytes_eq word (codes "drop") then Some form.Drop
+    else if bytes_eq word (codes "undo") then Some form.Undo
+    else if bytes_eq word (codes "redo") then Some form.Redo
+    else if bytes_eq word (codes "show") then Some form.Show
+    else if bytes_eq word (codes "get") then Some form.Get
+    else if bytes_eq word (codes "mark") then Some form.Mark
+    else if bytes_eq word (codes "changed") then Some form.Changed
+    else if bytes_eq word (codes "added") then Some form.Added
+    else None
+
+-- whether a first word is one of the language that doesn't run yet
+abbrev pub runs_later : List ℕ → Bool
+runs_later word =
+    if bytes_eq word (codes "load") then true
+    else if bytes_eq word (codes "calls") then true
+    else if bytes_eq word (codes "depth") then true
+    else if bytes_eq word (codes "despawnifalive") then true
+    else if bytes_eq word (codes "begin") then true
+    else if bytes_eq word (codes "queue") then true
+    else if bytes_eq word (codes "commit") then true
+    else if bytes_eq word (codes "phase") then true
+    else if bytes_eq word (codes "system") then true
+    else if bytes_eq word (codes "clear") then true
+    else if bytes_eq word (codes "advance") then true
+    else if bytes_eq word (codes "dump") then true
+    else if bytes_eq word (codes "dumpall") then true
+    else if bytes_eq word (codes "as") then true
+    else bytes_eq word (codes "history")

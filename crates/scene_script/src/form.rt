@@ -1,0 +1,84 @@
+//! The forms of lines.
+ghost use Rattle.std.specs.Prelude.{◌≡◌};
+ghost use Rattle.scene_script.specs.Forms.{form_named};
+
+use std::fmt;
+
+/// The form of a line, which its first word names (docs/SCRIPTS.md, "Lines").
+#[derive(Clone, Copy, Debug, PartialEq, Eq)]
+pub enum Form {
+    Kind,
+    Slots,
+    Spawn,
+    Insert,
+    Despawn,
+    Remove,
+    Parent,
+    Unparent,
+    DespawnAll,
+    Put,
+    Drop,
+    Undo,
+    Redo,
+    Show,
+    Get,
+    Mark,
+    Changed,
+    Added,
+}
+
+impl Form {
+    /// The form that a first word names, or `None` only where it names none.
+    pub fn named(word: &str) -> Option<Form>
+        ensures { result ≡ form_named word.now }
+    {
+        match word {
+            "kind" => Some(Form::Kind),
+            "slots" => Some(Form::Slots),
+            "spawn" => Some(Form::Spawn),
+            "insert" => Some(Form::Insert),
+            "despawn" => Some(Form::Despawn),
+            "remove" => Some(Form::Remove),
+            "parent" => Some(Form::Parent),
+            "unparent" => Some(Form::Unparent),
+            "despawnall" => Some(Form::DespawnAll),
+            "put" => Some(Form::Put),
+            "drop" => Some(Form::Drop),
+            "undo" => Some(Form::Undo),
+            "redo" => Some(Form::Redo),
+            "show" => Some(Form::Show),
+            "get" => Some(Form::Get),
+            "mark" => Some(Form::Mark),
+            "changed" => Some(Form::Changed),
+            "added" => Some(Form::Added),
+            _ => None,
+        }
+    }
+}
+
+/// The form as docs/SCRIPTS.md writes it, as `insert T CELL`.
+impl fmt::Display for Form {
+    fn fmt<W: fmt::Write>(&self, f: &mut fmt::Formatter<W>) -> fmt::Result {
+        let text = match self {
+            Form::Kind => "kind NAME SHAPE",
+            Form::Slots => "slots N",
+            Form::Spawn => "spawn CELL..",
+            Form::Insert => "insert T CELL",
+            Form::Despawn => "despawn T",
+            Form::Remove => "remove T NAME",
+            Form::Parent => "parent T T",
+            Form::Unparent => "unparent T",
+            Form::DespawnAll => "despawnall T",
+            Form::Put => "put NAME SHAPE=VALUE",
+            Form::Drop => "drop NAME",
+            Form::Undo => "undo",
+            Form::Redo => "redo",
+            Form::Show => "show",
+            Form::Get => "get T",
+            Form::Mark => "mark",
+            Form::Changed => "changed",
+            Form::Added => "added",
+        };
+        write!(f, "{text}")
+    }
+}
