@@ -1,0 +1,96 @@
+//! Runs whose reader or writer fails at each call in turn.
+use crate::{Pieces, Taker};
+use scene_app::{AppFault, RunEnd, run_script};
+use scene_streams::{Sink, Source};
+use std::io::ErrorKind;
+use std::test::Fail;
+
+/// A script, of which 6 bytes a call come in 7 calls, with one more for its end.
+const SCRIPT: &str = "kind A Int\nspawn A=5\nundo\nredo\nshow\n";
+
+const OUTPUT: &str =
+    "ok\ndone 0v1\nundone\nredone\ntick 1\ngens 1\nfree\ntable A\nrow 0v1 A=5@1/1\n";
+
+/// The reader of the script that fails at one call.
+fn script_that_fails(fails_at: u32, kind: ErrorKind) -> Source<Pieces<'static>> {
+    Source::new(Pieces::new(SCRIPT.as_bytes(), 6, fails_at, kind))
+}
+
+#[test]
+fn a_failed_read_writes_nothing(rt: HostRuntime) -> Result<(), Fail> {
+    for fails_at in 1..=8 {
+        let mut source = script_that_fails(fails_at, ErrorKind::Other);
+        let mut sink = Sink::new(Taker::new(rt.alloc(), 0, true));
+        let end = run_script(rt.alloc(), &mut source, &mut sink);
+        let failed = fails_at < 8;
+        let wanted = if failed {
+            Err(AppFault::ReadFault)
+        } else {
+            Ok(RunEnd { bad_lines: 0 })
+        };
+        assert_eq!(rt; end, wanted, "call {fails_at}");
+        assert_eq!(rt; source.has_failed(), failed, "call {fails_at}");
+        let written = if failed { "" } else { OUTPUT };
+        assert_eq!(rt;
+            sink.get_ref().taken(),
+            written.as_bytes(),
+            "call {fails_at}"
+        );
+        assert_eq!(rt; sink.get_ref().calls() == 0, failed, "call {fails_at}");
+    }
+    Ok(())
+}
+
+#[test]
+fn an_interrupted_read_is_made_again(rt: HostRuntime) -> Result<(), Fail> {
+    for fails_at in 1..=7 {
+        let mut source = script_that_fails(fails_at, ErrorKind::Interrupted);
+        let mut sink = Sink::new(Taker::new(rt.alloc(), 0, true));
+        let end = run_script(rt.alloc(), &mut source, &mut sink);
+        assert_eq!(rt; end, Ok(RunEnd { bad_lines: 0 }), "call {fails_at}");
+        assert_eq!(rt; source.get_ref().calls(), 8, "call {fails_at}");
+        assert_eq!(rt;
+            sink.get_ref().taken(),
+            OUTPUT.as_bytes(),
+            "call {fails_at}"
+        );
+    }
+    Ok(())
+}
+
+#[test]
+fn a_stopped_write_leaves_a_prefix_of_the_output(rt: HostRuntime) -> Result<(), Fail> {
+    let calls = OUTPUT.len().div_ceil(2);
+    for before in 0..=calls {
+        for fails in [false, true] {
+            let mut source = script_that_fails(0, ErrorKind::Other);
+            let mut sink = Sink::new(Taker::new(rt.alloc(), before as u32 + 1, fails));
+            let end = run_script(rt.alloc(), &mut source, &mut sink);
+            let failed = before < calls;
+            let wanted = if failed {
+                Err(AppFault::WriteFault)
+            } else {
+                Ok(RunEnd { bad_lines: 0 })
+            };
+            assert_eq!(rt; end, wanted, "after {before} calls");
+            assert_eq!(rt; sink.has_failed(), failed, "after {before} calls");
+            let length = OUTPUT.len().min(2 * before);
+            assert_eq!(rt;
+                sink.get_ref().taken(),
+                &OUTPUT.as_bytes()[..length],
+                "after {before} calls"
+            );
+        }
+    }
+    Ok(())
+}
+
+#[test]
+fn a_fault_of_a_run_says_its_number_and_name(rt: HostRuntime) -> Result<(), Fail> {
+    let text = |fault: AppFault| fault.to_string(rt.alloc());
+    assert_eq!(rt; text(AppFault::NoMemory)?.as_str(), "fault 20 NoMemory");
+    assert_eq!(rt; text(AppFault::ReadFault)?.as_str(), "fault 54 ReadFault");
+    assert_eq!(rt; text(AppFault::WriteFault)?.as_str(), "fault 55 WriteFault");
+    assert_eq!(rt; text(AppFault::TooLong)?.as_str(), "fault 56 TooLong");
+    Ok(())
+}

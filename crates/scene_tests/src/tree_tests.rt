@@ -1,0 +1,54 @@
+//! Deep and wide trees: they are built and taken apart without recursion, and without walks over the whole forest.
+use scene_kinds::{Entity, Refusal, Schema};
+use scene_world::World;
+use std::alloc::Global;
+use std::test::Fail;
+
+/// How many entities stand below the root.
+const BELOW: u32 = 20_000;
+
+/// A world with room for just one such tree.
+fn empty_world(alloc: Global) -> World {
+    World::new(alloc, Schema::new(alloc), BELOW + 1)
+}
+
+/// Spawns an entity without components below another one.
+fn spawn_below(alloc: Global, world: &mut World, parent: Entity) -> Result<Entity, Refusal> {
+    let child = world.spawn(Vec::new(alloc))?;
+    world.set_parent(child, parent)?;
+    Ok(child)
+}
+
+/// Whether all entities are gone, the last of them the root, which has index 0.
+fn is_taken_apart(world: &World, first_gone: u32) -> bool {
+    let free = world.slots().free();
+    world.links().is_empty()
+        && free.len() == BELOW as usize + 1
+        && free.first() == Some(&first_gone)
+        && free.last() == Some(&0)
+}
+
+#[test]
+fn a_deep_chain_is_taken_apart_from_its_end(rt: HostRuntime) -> Result<(), Fail> {
+    let mut world = empty_world(rt.alloc());
+    let root = world.spawn(Vec::new(rt.alloc()))?;
+    let mut above = root;
+    for _ in 0..BELOW {
+        above = spawn_below(rt.alloc(), &mut world, above)?;
+    }
+    world.despawn_recursive(root)?;
+    assert!(rt; is_taken_apart(&world, BELOW));
+    Ok(())
+}
+
+#[test]
+fn a_wide_parent_is_taken_apart_from_its_first_child(rt: HostRuntime) -> Result<(), Fail> {
+    let mut world = empty_world(rt.alloc());
+    let root = world.spawn(Vec::new(rt.alloc()))?;
+    for _ in 0..BELOW {
+        let _child = spawn_below(rt.alloc(), &mut world, root)?;
+    }
+    world.despawn_recursive(root)?;
+    assert!(rt; is_taken_apart(&world, 1));
+    Ok(())
+}
