@@ -20,7 +20,7 @@ fn two_free(alloc: Global) -> Result<Slots, AllocError> {
 
 /// One slot of at most two, of the highest generation.
 fn highest(alloc: Global) -> Result<Slots, AllocError>
-    ensures { IfOk result (λ s. s ≡ slots_of 2 (4294967295 ∷ []) []) }
+    ensures { IfOk result (λ s. s.state ≡ slots_of 2 (4294967295 ∷ []) []) }
 {
     Slots::from_lists(2, vec![in alloc; 4294967295]?, Vec::new(alloc))
 }
@@ -28,11 +28,11 @@ fn highest(alloc: Global) -> Result<Slots, AllocError>
 #[test]
 fn takes_the_last_freed_first_and_then_a_new_slot(rt: HostRuntime) -> Result<(), Fail> {
     let mut slots = two_free(rt.alloc())?;
-    assert!(rt; slots.has_free());
+    assert!(rt; !slots.takes_new_slot());
     assert_eq!(rt; slots.take(), Ok(entity(2, 7)));
     assert_eq!(rt; slots.free(), [0].as_slice());
     assert_eq!(rt; slots.take(), Ok(entity(0, 2)));
-    assert!(rt; !slots.has_free());
+    assert!(rt; slots.takes_new_slot());
     assert_eq!(rt; slots.take(), Ok(entity(3, 1)));
     assert_eq!(rt; slots.generations(), [2, 1, 7, 1].as_slice());
     assert_eq!(rt; slots.generation_of(2), Some(7));
@@ -61,6 +61,31 @@ fn retires_an_index_at_the_highest_generation(rt: HostRuntime) -> Result<(), Fai
     assert!(rt; slots.free().is_empty());
     assert_eq!(rt; slots.take(), Ok(entity(1, 1)));
     assert_eq!(rt; slots.generations(), [4294967295, 1].as_slice());
+    Ok(())
+}
+
+#[test]
+fn ways_back_lead_to_no_slot(rt: HostRuntime) -> Result<(), Fail> {
+    let mut slots = Slots::new(rt.alloc(), 2);
+    let first = slots.take()?;
+    assert!(rt; !slots.release(first));
+    slots.unrelease(first, false);
+    assert_eq!(rt; slots.generations(), [1].as_slice());
+    slots.untake(first, true);
+    assert!(rt; slots.is_empty());
+    Ok(())
+}
+
+#[test]
+fn slots_with_room_are_made_without_memory(rt: HostRuntime) -> Result<(), Fail> {
+    let mut slots = Slots::new(rt.alloc(), 2);
+    slots.reserve(2)?;
+    assert_eq!(rt; slots.take_reserved(), entity(0, 1));
+    assert_eq!(rt; slots.take_reserved(), entity(1, 1));
+    assert!(rt; !slots.release(entity(0, 1)));
+    assert_eq!(rt; slots.take_reserved(), entity(0, 2));
+    slots.untake(entity(0, 2), false);
+    assert_eq!(rt; slots.free(), [0].as_slice());
     Ok(())
 }
 
