@@ -1,11 +1,13 @@
 -- Named cells, as one ordered map, and what the calls on resources do to it.
-use Rattle.std.specs.Prelude.{ℕ, map, List, Option, Some, None, Ok}
+use Rattle.std.specs.Prelude.{refl, ℕ, map, Contains, List, Option, Some, None, Ok}
+use Rattle.std.specs.Coded.{Coded, code_by, coded×, coded_list, coded_ℕ}
 use Rattle.std.specs.declared.cmp.Ordering.{Ordering}
 use Rattle.std.specs.Ordering.{nat_cmp}
 use Rattle.std.specs.Cmp.{IsTotalOrder}
 use Rattle.std.specs.Cmp.Lexicographic.{slice_cmp, nat_list_cmp_total}
 use Rattle.std.specs.FinMap.{IsAntisymmetric}
 use Rattle.std.proofs.lemmas.Map.Lookups.{exact_bytes}
+use Rattle.scene_kinds.specs.contracts.cell.Cell as cell
 use Rattle.scene_kinds.specs.declared.cell.Cell.{Cell}
 use Rattle.scene_kinds.specs.declared.fault.Fault.TheVariants.{NoSuchResource}
 use Rattle.scene_kinds.specs.declared.value.Value.{Value}
@@ -28,6 +30,20 @@ name_cmp_exact a b h = exact_bytes a b h
 -- the cell of each name that has one
 abbrev pub NamedCells : Type 0
 NamedCells = Map name_cmp Cell
+
+-- what contracts see of resources: the cell of each name that has one, and the names that are kept, by their bytes: for a
+-- cell of each of these there is memory
+pub record StoredResources : Type 0 where
+  pub cells : NamedCells
+  pub kept : List (List ℕ)
+
+-- resources are told apart by their cells and names
+abbrev pub stored_code : Coded StoredResources
+stored_code = code_by (NamedCells × List (List ℕ)) (coded× (cells.code {R = name_cmp} (coded_list coded_ℕ) cell.the_row.coded) (coded_list (coded_list coded_ℕ))) (λ r. (r.cells, r.kept)) (λ p. record { cells = p.0; kept = p.1 }) (λ _. refl)
+
+-- each name that was kept still is
+pub record IsWider (old new : List (List ℕ)) : Type 0 where
+  pub each : (name : List ℕ) → Contains old name → Contains new name
 
 abbrev pub cell_of : NamedCells → List ℕ → Option Cell
 cell_of r name = cells.get r name

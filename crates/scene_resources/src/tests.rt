@@ -34,7 +34,7 @@ fn a_cell_is_taken_once(rt: HostRuntime) -> Result<(), Fail> {
     resources.put("left", Value::Int(7), 1)?;
     let taken = resources.take("left")?;
     assert_eq!(rt; seen(Some(&taken)), Some((7, 1, 1)));
-    assert!(rt; resources.is_empty());
+    assert!(rt; resources.names()?.is_empty());
     let refused = Refusal {
         fault: Fault::NoSuchResource,
         place: None,
@@ -54,7 +54,35 @@ fn cells_come_back(rt: HostRuntime) -> Result<(), Fail> {
     resources.restore("left", Some(taken))?;
     assert_eq!(rt; seen(resources.get("left")), Some((7, 1, 1)));
     resources.restore("left", none)?;
-    assert!(rt; resources.is_empty());
+    assert!(rt; resources.get("left").is_none());
+    Ok(())
+}
+
+#[test]
+fn a_kept_name_takes_a_cell_without_memory(rt: HostRuntime) -> Result<(), Fail> {
+    let mut resources = Resources::new(rt.alloc());
+    resources.reserve("left")?;
+    assert!(rt; resources.get("left").is_none());
+    assert!(rt; resources.names()?.is_empty());
+    assert!(rt; resources.put_reserved("left", Value::Int(7), 1).is_none());
+    let taken = resources.take("left")?;
+    assert!(rt; resources.restore_reserved("left", Some(taken)).is_none());
+    assert_eq!(rt; seen(resources.get("left")), Some((7, 1, 1)));
+    Ok(())
+}
+
+#[test]
+fn a_trim_leaves_the_cells(rt: HostRuntime) -> Result<(), Fail> {
+    let mut resources = Resources::new(rt.alloc());
+    resources.put("left", Value::Int(7), 1)?;
+    resources.put("gold", Value::Int(3), 2)?;
+    let _taken = resources.take("gold")?;
+    resources.trim();
+    assert_eq!(rt; seen(resources.get("left")), Some((7, 1, 1)));
+    let names = resources.names()?;
+    assert_eq!(rt; names.len(), 1);
+    resources.put("gold", Value::Int(4), 3)?;
+    assert_eq!(rt; seen(resources.get("gold")), Some((4, 3, 3)));
     Ok(())
 }
 
@@ -76,7 +104,6 @@ fn names_ascend_by_their_bytes(rt: HostRuntime) -> Result<(), Fail> {
 #[test]
 fn a_copy_stays(rt: HostRuntime) -> Result<(), Fail> {
     let mut resources = Resources::new(rt.alloc());
-    assert!(rt; resources.try_clone()?.is_empty());
     resources.put("left", Value::Int(7), 1)?;
     let copy = resources.try_clone()?;
     resources.put("left", Value::Int(8), 2)?;
