@@ -1,5 +1,5 @@
 -- Named cells, as one ordered map, and what the calls on resources do to it.
-use Rattle.std.specs.Prelude.{refl, ℕ, map, Contains, List, Option, Some, None, Ok}
+use Rattle.std.specs.Prelude.{refl, ℕ, map, Contains, IsSome, List, Option, Some, None, Ok}
 use Rattle.std.specs.Coded.{Coded, code_by, coded×, coded_list, coded_ℕ}
 use Rattle.std.specs.declared.cmp.Ordering.{Ordering}
 use Rattle.std.specs.Ordering.{nat_cmp}
@@ -47,6 +47,10 @@ pub record IsWider (old new : List (List ℕ)) : Type 0 where
 
 abbrev pub cell_of : NamedCells → List ℕ → Option Cell
 cell_of r name = cells.get r name
+
+-- each name that has a cell is kept
+pub record Holds (kept : List (List ℕ)) (r : NamedCells) : Type 0 where
+  pub each : (name : List ℕ) → IsSome (cell_of r name) → Contains kept name
 
 -- the names, by their bytes
 abbrev pub names_of : NamedCells → List (List ℕ)

@@ -4,7 +4,7 @@ ghost use Rattle.scene_kinds.specs.Answers.{Gives};
 ghost use Rattle.scene_kinds.specs.Cells.{put_over};
 ghost use Rattle.scene_kinds.specs.Map as map;
 ghost use Rattle.scene_kinds.specs.Ranges.{is_in_range};
-ghost use Rattle.scene_resources.specs.Resources.{IsWider, cell_of, names_of, put_of, take_of, restore_of};
+ghost use Rattle.scene_resources.specs.Resources.{IsWider, Holds, cell_of, names_of, put_of, take_of, restore_of};
 
 use scene_kinds::{Cell, Fault, Refusal, Value};
 use std::alloc::{AllocError, Global};
@@ -46,9 +46,10 @@ impl Resources {
         }
     }
 
-    /// The cell of a name, or `None` where there is no resource of that name.
+    /// The cell of a name, or `None` where there is no resource of that name. A name with a cell is kept.
     pub fn get(&self, name: &str) -> Option<&Cell>
-        ensures { option_copied result ≡ cell_of self.now.cells name.now }
+        ensures cell { option_copied result ≡ cell_of self.now.cells name.now }
+        ensures held { Holds self.now.kept self.now.cells }
     {
         self.cells.get(name)?.as_ref()
     }

@@ -2,7 +2,7 @@ use Rattle.std.proofs.Common.{◌≡◌, ◌∙◌, ap, sym, Option, Some, None,
 use Rattle.scene_kinds.specs.declared.cell.Cell.{Cell}
 use Rattle.scene_kinds.specs.declared.refusal.Refusal.{Refusal}
 use Rattle.scene_resources.specs.Resources.{NamedCells, cell_of, restore_of, taken}
-use Rattle.scene_resources.proofs.Cells.{restore_of-cell_of}
+use Rattle.scene_resources.proofs.ResourceLaws.{restore_of-cell_of}
 use Rattle.scene_resources.proofs.resources.Resources.take.Goals as goal
 
 none_left : (o : Option Cell) → ((x : Cell) → o ≡ Some x → ⊥) → o ≡ None
