@@ -338,6 +338,6 @@ fn resources_are_put_and_removed(rt: HostRuntime) -> Result<(), Fail> {
     let left = world.resources().get("left");
     assert_eq!(rt; left.map(|cell| (cell.added, cell.changed)), Some((0, 1)));
     world.remove_resource("left")?;
-    assert!(rt; world.resources().is_empty());
+    assert!(rt; world.resources().names()?.is_empty());
     Ok(())
 }

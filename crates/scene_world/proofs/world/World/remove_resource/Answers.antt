@@ -7,4 +7,4 @@ pub invariant_of-self-2 : goal.invariant_of-self-2
 invariant_of-self-2 c =
     let w = c.self.inside in
     let old : World = world_of w.schema w.slots w.tick w.tables.items w.links w.resources in
-    record { apart = c.self.invariant.apart; valid = taken_valid old c.args.name.now c.in_ok-_cell._cell c.take.new.self c.self.invariant.valid c.in_ok-_cell.ensures }
+    record { apart = c.self.invariant.apart; valid = taken_valid old c.args.name.now c.in_ok-_cell._cell c.take.new.self.cells c.self.invariant.valid c.in_ok-_cell.ensures.cells }
