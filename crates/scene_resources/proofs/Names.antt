@@ -1,6 +1,6 @@
 -- The names of the entries of the map of the code: in order, and which are kept.
 use Rattle.std.proofs.Common.{◌≡◌, ℕ, cond, is_some, Bool, true, false, ◌||◌, List, [], ◌∷◌, ◌++◌, refl, ap, sym, subst, ◌∙◌, map, filter, Option, Some, None, String, string_bytes}
-use Rattle.std.specs.Prelude.{Contains, IsSome}
+use Rattle.std.specs.Prelude.{◌≢◌, Contains, IsSome}
 use Rattle.std.specs.declared.alloc.Global.{Global}
 use Rattle.std.specs.declared.cmp.Ordering.TheVariants.{Less}
 use Rattle.std.specs.Cmp.{eq_by_cmp_equiv}
@@ -13,11 +13,11 @@ use Rattle.std.specs.BTreeMap.{BTreeMap, UpdatesBy}
 use Rattle.std.specs.Ordering.{is_eq}
 use Rattle.std.specs.String.{string_cmp}
 use Rattle.std.proofs.lemmas.Map.Keys.{sorted_head, sorted_tail}
-use Rattle.std.proofs.lemmas.Map.Text.{btree_map_updates_text}
+use Rattle.std.proofs.lemmas.Map.Text.{btree_map_updates_text, is_eq-slice_cmp}
 use Rattle.std.proofs.lemmas.Map.Views.{list_any-from_Contains, Contains-from_any}
 use Rattle.scene_kinds.specs.declared.cell.Cell.{Cell}
 use Rattle.scene_kinds.proofs.Maps.{equal_keys}
-use Rattle.scene_resources.specs.Resources.{NamedCells, StoredResources, IsWider, Holds, name_cmp, name_cmp_total, name_cmp_exact, cell_of, restore_of, names_of}
+use Rattle.scene_resources.specs.Resources.{NamedCells, StoredResources, IsWider, Forgets, Holds, name_cmp, name_cmp_total, name_cmp_exact, cell_of, restore_of, names_of}
 use Rattle.scene_resources.specs.Entries.{named_cells, kept_names, stored}
 use Rattle.scene_resources.proofs.Cells.{cell_of-named_cells, found_cell}
 use Rattle.scene_resources.proofs.ResourceLaws.{is_name, restore_of-cell_of}
@@ -132,6 +132,41 @@ holds_own es r seen = subst (λ (s : StoredResources). Holds s.kept s.cells) see
     inner : (o : Option (Option Cell)) → IsSome (option_flatten o) → IsSome o
     inner None h = h
     inner (Some x) h = refl
+
+-- ---- names that are forgotten
+
+-- a map in which a name has no place
+pub forgotten : (m n : BTreeMap (String Global) (Option Cell)) (r : StoredResources) (name : List ℕ) → stored m.entries ≡ r → cell_of r.cells name ≡ None
+    → UpdatesBy string_cmp (λ k. name_cmp name (string_bytes k)) m n None → Forgets r (kept_names n.entries) name
+forgotten m n r name seen empty h = subst (λ (s : StoredResources). Forgets s (kept_names n.entries) name) seen (record {
+  fewer = record { each = λ q c. kept_where_found m.entries q (older _ _ (sym (ap is_some (found q)) ∙ found_kept n.entries q c)) };
+  others = λ q apart c. kept_where_found n.entries q (ap is_some (found q) ∙ stays q apart (found_kept m.entries q c));
+  gone = λ e c. let no : false ≡ true = sym (ap is_some h.1) ∙ found_kept n.entries name c in absurd cc;
+  stays = λ e. let no : false ≡ true = sym (ap is_some (ap (λ (s : StoredResources). cell_of s.cells name) seen ∙ empty)) ∙ e in absurd cc;
+})
+  where
+    found : (q : List ℕ) → lookup (λ k. is_eq (name_cmp q (string_bytes k))) n.entries ≡ cond (is_name q name) None (lookup (λ k. is_eq (name_cmp q (string_bytes k))) m.entries)
+    found q = btree_map_updates_text name m n None h q
+        ∙ ap (λ b. cond b None (lookup (λ k. is_eq (name_cmp q (string_bytes k))) m.entries)) (sym (is_eq-slice_cmp name q) ∙ (eq_by_cmp_equiv name_cmp_total).symm name q)
+
+    older : (b : Bool) (o : Option (Option Cell)) → IsSome (cond b None o) → IsSome o
+    older true o e = let no : false ≡ true = e in absurd cc
+    older false o e = e
+
+    stays : (q : List ℕ) → q ≢ name → IsSome (lookup (λ k. is_eq (name_cmp q (string_bytes k))) m.entries) → IsSome (cond (is_name q name) None (lookup (λ k. is_eq (name_cmp q (string_bytes k))) m.entries))
+    stays q apart e = elim (is_name q name) as (λ b. is_name q name ≡ b → IsSome (cond b None (lookup (λ k. is_eq (name_cmp q (string_bytes k))) m.entries))) [
+      | true ↦ λ same. absurd (apart (equal_keys name_cmp_exact q name same))
+      | false ↦ λ same. e
+    ] refl
+
+-- a name with a cell stays
+pub not_forgotten : (r : StoredResources) (name : List ℕ) → Holds r.kept r.cells → IsSome (cell_of r.cells name) → Forgets r r.kept name
+not_forgotten r name held there = record {
+  fewer = record { each = λ q c. c };
+  others = λ q apart c. c;
+  gone = λ e c. let no : false ≡ true = sym (ap is_some e) ∙ there in absurd cc;
+  stays = λ e. held.each name e;
+}
 
 -- ---- a trim
 

@@ -1,5 +1,5 @@
 -- Named cells, as one ordered map, and what the calls on resources do to it.
-use Rattle.std.specs.Prelude.{refl, ℕ, map, Contains, IsSome, List, Option, Some, None, Ok}
+use Rattle.std.specs.Prelude.{◌≡◌, ◌≢◌, refl, ℕ, map, Contains, IsSome, List, Option, Some, None, Ok}
 use Rattle.std.specs.Coded.{Coded, code_by, coded×, coded_list, coded_ℕ}
 use Rattle.std.specs.declared.cmp.Ordering.{Ordering}
 use Rattle.std.specs.Ordering.{nat_cmp}
@@ -51,6 +51,13 @@ cell_of r name = cells.get r name
 -- each name that has a cell is kept
 pub record Holds (kept : List (List ℕ)) (r : NamedCells) : Type 0 where
   pub each : (name : List ℕ) → IsSome (cell_of r name) → Contains kept name
+
+-- no more names are kept than were, and all that were but one; that one is kept no more where it has no cell
+pub record Forgets (r : StoredResources) (kept : List (List ℕ)) (name : List ℕ) : Type 0 where
+  pub fewer : IsWider kept r.kept
+  pub others : (q : List ℕ) → q ≢ name → Contains r.kept q → Contains kept q
+  pub gone : cell_of r.cells name ≡ None → Contains kept name → ⊥
+  pub stays : IsSome (cell_of r.cells name) → Contains kept name
 
 -- the names, by their bytes
 abbrev pub names_of : NamedCells → List (List ℕ)

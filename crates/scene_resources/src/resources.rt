@@ -4,7 +4,7 @@ ghost use Rattle.scene_kinds.specs.Answers.{Gives};
 ghost use Rattle.scene_kinds.specs.Cells.{put_over};
 ghost use Rattle.scene_kinds.specs.Map as map;
 ghost use Rattle.scene_kinds.specs.Ranges.{is_in_range};
-ghost use Rattle.scene_resources.specs.Resources.{IsWider, Holds, cell_of, names_of, put_of, take_of, restore_of};
+ghost use Rattle.scene_resources.specs.Resources.{IsWider, Forgets, Holds, cell_of, names_of, put_of, take_of, restore_of};
 
 use scene_kinds::{Cell, Fault, Refusal, Value};
 use std::alloc::{AllocError, Global};
@@ -15,7 +15,7 @@ use std::marker::Model;
 /// resources").
 ///
 /// Contracts see the cell of each name that has one, and the names that are kept, those without a cell too: a
-/// cell for a kept name takes no memory. A name with a cell is kept, and only `trim` forgets names.
+/// cell for a kept name takes no memory. A name with a cell is kept, and only `forget` and `trim` forget names.
 #[derive(Drop, Debug)]
 pub struct Resources {
     alloc: Global,
@@ -183,6 +183,17 @@ impl Resources {
         ensures kept { self.new.kept ≡ names_of self.old.cells }
     {
         self.cells.retain(|_, cell| cell.is_some());
+    }
+
+    /// Forgets a name where it is kept without a cell, and frees its memory. It takes no memory.
+    pub fn forget(&mut self, name: &str)
+        ensures cells { self.new.cells ≡ self.old.cells }
+        ensures kept { Forgets self.old self.new.kept name.now }
+    {
+        if self.get(name).is_some() {
+            return;
+        }
+        let _place = self.cells.remove(name);
     }
 
     /// Equal resources that keep the same names, or an error where no memory was found.

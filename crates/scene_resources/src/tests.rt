@@ -72,7 +72,7 @@ fn a_kept_name_takes_a_cell_without_memory(rt: HostRuntime) -> Result<(), Fail> 
 }
 
 #[test]
-fn a_trim_leaves_the_cells(rt: HostRuntime) -> Result<(), Fail> {
+fn what_forgets_names_leaves_the_cells(rt: HostRuntime) -> Result<(), Fail> {
     let mut resources = Resources::new(rt.alloc());
     resources.put("left", Value::Int(7), 1)?;
     resources.put("gold", Value::Int(3), 2)?;
@@ -83,6 +83,10 @@ fn a_trim_leaves_the_cells(rt: HostRuntime) -> Result<(), Fail> {
     assert_eq!(rt; names.len(), 1);
     resources.put("gold", Value::Int(4), 3)?;
     assert_eq!(rt; seen(resources.get("gold")), Some((4, 3, 3)));
+    resources.forget("gold");
+    let _taken = resources.take("gold")?;
+    resources.forget("gold");
+    assert!(rt; resources.get("gold").is_none());
     Ok(())
 }
 
