@@ -1,5 +1,5 @@
 -- The last of a list and its front, against a push.
-use Rattle.std.proofs.Common.{◌≡◌, ℕ, ◌+◌, ◌<◌, false, nat_eq, List, [], ◌∷◌, ◌++◌, length, get_or, Some, None, refl, sym, ap, ◌∙◌, arith}
+use Rattle.std.proofs.Common.{◌≡◌, ℕ, ◌+◌, ◌-◌, ◌<◌, false, nat_eq, List, [], ◌∷◌, ◌++◌, length, take, get_or, Some, None, refl, sym, ap, ◌∙◌, arith}
 use Rattle.std.specs.List.{list_any, IsDistinct}
 use Rattle.std.specs.Cmp.{nat_eq_equiv}
 use Rattle.std.proofs.lemmas.Grind.{common_steps}
@@ -30,6 +30,15 @@ pub last-None : {X : Type 0} (xs : List X) → last xs ≡ None → xs ≡ []
 last-None [] h = refl
 last-None (x ∷ []) h = cc
 last-None (x ∷ y ∷ ys) h = let e : y ∷ ys ≡ [] = last-None (y ∷ ys) h in cc
+
+-- what stands before the last, by length
+front_taken : (x : ℕ) (xs : List ℕ) → take (length xs) (x ∷ xs) ≡ front (x ∷ xs)
+front_taken x [] = refl
+front_taken x (y ∷ ys) = ap (λ t. x ∷ t) (front_taken y ys)
+
+pub take-front : (xs : List ℕ) (n : ℕ) → n ≡ length xs → take (n - 1) xs ≡ front xs
+take-front [] n e = rw e refl
+take-front (x ∷ xs) n e = let m : n - 1 ≡ length xs = omega (arith, e) in rw m (front_taken x xs)
 
 -- a number that stands last in a list of distinct numbers stands nowhere else there
 pub distinct_before : (xs : List ℕ) (x : ℕ) → IsDistinct nat_eq (xs ++ x ∷ []) → IsDistinct nat_eq xs × (list_any (nat_eq x) xs ≡ false)

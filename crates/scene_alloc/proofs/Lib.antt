@@ -1,4 +1,5 @@
 pub mod Elsewhere
 pub mod Ends
 pub mod Moves
+pub mod SlotLaws
 pub mod Written

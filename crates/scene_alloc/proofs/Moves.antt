@@ -1,5 +1,5 @@
 -- The four moves of slots, and their ways back.
-use Rattle.std.proofs.Common.{◌≡◌, ℕ, ◌+◌, ◌<◌, ◌≤◌, Bool, true, false, not, nat_eq, nat_lt, List, [], ◌∷◌, ◌++◌, length, get_or, set, Some, None, Ok, All, get_or-set_same, if◌then◌else◌, refl, sym, ap, ◌∙◌, subst, subst₂, arith, length-append, length-set, set-set, slice_get, slice_index}
+use Rattle.std.proofs.Common.{◌≡◌, ℕ, ◌+◌, ◌<◌, ◌≤◌, Bool, true, false, nat_eq, nat_lt, IsOk, List, [], ◌∷◌, ◌++◌, length, get_or, set, Some, None, Ok, All, get_or-set_same, if◌then◌else◌, refl, sym, ap, ◌∙◌, subst, subst₂, arith, length-append, length-set, set-set, slice_get, slice_index}
 use Rattle.std.specs.List.{list_any, IsDistinct}
 use Rattle.std.proofs.lemmas.Bool.{ltb-true, lt-ltb, eqb-true}
 use Rattle.std.proofs.lemmas.Bool.Decides.{nat_tests}
@@ -15,7 +15,7 @@ use Rattle.scene_kinds.specs.declared.entity.Entity.{Entity}
 use Rattle.scene_kinds.specs.Answers.{Outcome, refuse}
 use Rattle.scene_kinds.specs.declared.fault.Fault.TheVariants.{EntitiesFull}
 use Rattle.scene_alloc.specs.Ends.{last, front}
-use Rattle.scene_alloc.specs.Slots.{SlotState, IsSlots, CanRelease, CanUntake, CanUnrelease, IsRaised, has_free, retires, highest, most_slots, new_slots, take_from, take_of, untake_of, release_of, unrelease_of}
+use Rattle.scene_alloc.specs.Slots.{SlotState, IsSlots, CanRelease, CanUntake, CanUnrelease, IsRaised, takes_new_slot, retires, highest, most_slots, new_slots, take_from, take_of, untake_of, release_of, unrelease_of}
 use Rattle.scene_alloc.proofs.Ends.{last-push, front-push, push-last, last-None, distinct_before}
 
 -- the entity and the state of a take that reuses an index, and of one that makes a new slot
@@ -47,6 +47,15 @@ take_cases s P reuse new e t h =
       ] refl g
       | Some i ↦ λ q g. same_answer P (reused s i) e (after_reuse s) t g (reuse i q)
     ] refl h
+
+-- a take is accepted where an index is free, or the slots are below the limit
+pub accepted : (s : SlotState) → (takes_new_slot s ≡ true → length s.generations < s.limit) → IsOk (take_of s)
+accepted s below = elim (last s.free) as (λ o. last s.free ≡ o → IsOk (take_from s o)) [
+  | None ↦ λ q.
+      let t : nat_lt (length s.generations) s.limit ≡ true = lt-ltb _ _ (below (ap (λ f. nat_eq (length f) 0) (last-None s.free q))) in
+      subst (λ b. IsOk (if b then Ok (created s, after_new s) else refuse EntitiesFull)) (sym t) refl
+  | Some i ↦ λ q. refl
+] refl
 
 -- two states are equal where their parts are
 pub same_state : (s t : SlotState) → s.limit ≡ t.limit → s.generations ≡ t.generations → s.free ≡ t.free → s ≡ t
@@ -98,16 +107,16 @@ freed_last s i g v there once = refreed s (s.free ++ i ∷ []) v
 
 -- ---- a take and its way back
 
-has_free-last : (s : SlotState) (i : ℕ) → last s.free ≡ Some i → has_free s ≡ true
-has_free-last s i h = let e = push-last s.free i h in rw (sym e) (positive (front s.free))
+pub reuses-last : (s : SlotState) (i : ℕ) → last s.free ≡ Some i → takes_new_slot s ≡ false
+reuses-last s i h = let e = push-last s.free i h in rw (sym e) (positive (front s.free))
   where
-    positive : (xs : List ℕ) → nat_lt 0 (length (xs ++ i ∷ [])) ≡ true
+    positive : (xs : List ℕ) → nat_eq (length (xs ++ i ∷ [])) 0 ≡ false
     positive xs = grind (arith, nat_tests, common_steps)
 
-pub untake-take : (s t : SlotState) (e : Entity) → take_of s ≡ Ok (e, t) → untake_of t e (not (has_free s)) ≡ s
-untake-take s t e h = take_cases s (λ e t. untake_of t e (not (has_free s)) ≡ s)
-    (λ i q. rw (has_free-last s i q) (same_state _ _ refl refl (push-last s.free i q)))
-    (λ none l. subst (λ b. untake_of (after_new s) (created s) (not b) ≡ s) (sym (ap (λ f. nat_lt 0 (length f)) none)) (same_state _ _ refl (front-push s.generations 1) refl))
+pub untake-take : (s t : SlotState) (e : Entity) → take_of s ≡ Ok (e, t) → untake_of t e (takes_new_slot s) ≡ s
+untake-take s t e h = take_cases s (λ e t. untake_of t e (takes_new_slot s) ≡ s)
+    (λ i q. rw (reuses-last s i q) (same_state _ _ refl refl (push-last s.free i q)))
+    (λ none l. subst (λ b. untake_of (after_new s) (created s) b ≡ s) (sym (ap (λ f. nat_eq (length f) 0) none)) (same_state _ _ refl (front-push s.generations 1) refl))
     e t h
 
 -- what a pop of the free list leaves is a take
@@ -145,12 +154,12 @@ IsSlots-take s t e v h = take_cases s (λ _ t. IsSlots t)
 pub after_pop : (s : SlotState) (rest : List ℕ) (i : ℕ) → IsSlots s → s.free ≡ rest ++ i ∷ [] → IsSlots (record s { free = rest })
 after_pop s rest i v e = IsSlots-take s (record s { free = rest }) (reused s i) v (take-pop s rest i (slice_index s.generations i) e refl)
 
-pub CanUntake-take : (s t : SlotState) (e : Entity) → IsSlots s → take_of s ≡ Ok (e, t) → CanUntake t e (not (has_free s))
-CanUntake-take s t e v h = take_cases s (λ e t. CanUntake t e (not (has_free s)))
+pub CanUntake-take : (s t : SlotState) (e : Entity) → IsSlots s → take_of s ≡ Ok (e, t) → CanUntake t e (takes_new_slot s)
+CanUntake-take s t e v h = take_cases s (λ e t. CanUntake t e (takes_new_slot s))
     (λ i q. let l = last_free s i v q in record {
       current = slice_get-get_or s.generations i 0 l.within;
       not_free = l.once;
-      newest = λ f. absurd (let g = has_free-last s i q in let r : not true ≡ true = ap not (sym g) ∙ f in cc);
+      newest = λ f. absurd (let r : false ≡ true = sym (reuses-last s i q) ∙ f in cc);
     })
     (λ none l. record {
       current = slice_get-get_or (s.generations ++ 1 ∷ []) (length s.generations) 0 (omega (arith, length-append s.generations (1 ∷ []))) ∙ ap Some (seam s.generations);
@@ -196,9 +205,9 @@ take-untake s e true v c =
 take-untake s e false v c =
     ap (take_from (untake_of s e false)) (last-push s.free e.index) ∙ (λ j. Ok (record { index = e.index; generation = get_or_from_slice_get s.generations e.index e.generation 0 c.current j }, record { limit = s.limit; generations = s.generations; free = front-push s.free e.index j }))
 
-pub has_free-untake : (s : SlotState) (e : Entity) (fresh : Bool) → CanUntake s e fresh → has_free (untake_of s e fresh) ≡ not fresh
-has_free-untake s e true c = ap (λ f. nat_lt 0 (length f)) (c.newest refl).none_free
-has_free-untake s e false c = has_free-last (untake_of s e false) e.index (last-push s.free e.index)
+pub takes_new_slot-untake : (s : SlotState) (e : Entity) (fresh : Bool) → CanUntake s e fresh → takes_new_slot (untake_of s e fresh) ≡ fresh
+takes_new_slot-untake s e true c = ap (λ f. nat_eq (length f) 0) (c.newest refl).none_free
+takes_new_slot-untake s e false c = reuses-last (untake_of s e false) e.index (last-push s.free e.index)
 
 pub IsSlots-untake : (s : SlotState) (e : Entity) (fresh : Bool) → IsSlots s → CanUntake s e fresh → IsSlots (untake_of s e fresh)
 IsSlots-untake s e true v c =
@@ -306,6 +315,14 @@ pub few_distinct : (n : ℕ) (xs : List ℕ) → IsDistinct nat_eq xs → All (�
 few_distinct n xs d a = length-le_from_distinct_below xs n d (λ q h.
     let w = Any-from_list_any (nat_eq q) xs h in
     subst (λ x. x < n) (w.3 ∙ sym (eqb-true q w.1 w.4)) (a w.0 w.1 w.2))
+
+-- free indices are no more than the slots
+pub few_free : (s : SlotState) → IsSlots s → length s.free ≤ length s.generations
+few_free s v = few_distinct (length s.generations) s.free v.distinct v.in_range
+
+-- where a take may be taken back, the entity may be released
+pub CanRelease-from_untake : (s : SlotState) (e : Entity) (fresh : Bool) → CanUntake s e fresh → CanRelease s e
+CanRelease-from_untake s e fresh c = record { current = c.current; not_free = c.not_free }
 
 -- where an entity may be released, some index isn't free
 pub room_left : (s : SlotState) (e : Entity) → IsSlots s → CanRelease s e → length s.free < length s.generations

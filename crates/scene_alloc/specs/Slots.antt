@@ -12,6 +12,15 @@ pub record SlotState : Type 0 where
   pub generations : List ℕ
   pub free : List ℕ
 
+-- the slots, and for how many of them there is memory
+pub record StoredSlots : Type 0 where
+  pub state : SlotState
+  pub capacity : ℕ
+
+-- there is memory for this many more new slots
+abbrev pub HasRoom : StoredSlots → ℕ → Type 0
+HasRoom s n = length s.state.generations + n ≤ s.capacity
+
 -- the slots with a limit, these generations by index, and this free list
 abbrev pub slots_of : ℕ → List ℕ → List ℕ → SlotState
 slots_of limit generations free = record { limit = limit; generations = generations; free = free }
@@ -32,9 +41,9 @@ new_slots limit = slots_of limit [] []
 abbrev pub is_free : SlotState → ℕ → Bool
 is_free s i = list_any (nat_eq i) s.free
 
--- some index is free, so that the next entity reuses one; else it takes a new slot
-abbrev pub has_free : SlotState → Bool
-has_free s = nat_lt 0 (length s.free)
+-- no index is free, so that the next entity takes a new slot; else it reuses an index
+abbrev pub takes_new_slot : SlotState → Bool
+takes_new_slot s = nat_eq (length s.free) 0
 
 -- a new slot, of generation 1, goes last
 abbrev pub take_new : SlotState → Outcome Entity SlotState

@@ -1,15 +1,15 @@
 //! That each move of the slots has an exact way back.
-ghost use Rattle.std.specs.Prelude.{◌≡◌, Bool, not, Ok};
+ghost use Rattle.std.specs.Prelude.{◌≡◌, Bool, Ok};
 ghost use Rattle.scene_kinds.specs.declared.entity.Entity.{Entity};
-ghost use Rattle.scene_alloc.specs.Slots.{SlotState, IsSlots, CanRelease, CanUntake, CanUnrelease, SameElsewhere, IsUnused, has_free, retires, take_of, untake_of, release_of, unrelease_of};
+ghost use Rattle.scene_alloc.specs.Slots.{SlotState, IsSlots, CanRelease, CanUntake, CanUnrelease, SameElsewhere, IsUnused, takes_new_slot, retires, take_of, untake_of, release_of, unrelease_of};
 
 /// A law: untaking what was just taken gives the slots as they were. After a take the condition of the
 /// way back holds, and slots stay slots.
 pub fn take_comes_back()
     ensures state { (s t : SlotState) (e : Entity) → take_of s ≡ Ok (e, t)
-        → untake_of t e (not (has_free s)) ≡ s }
+        → untake_of t e (takes_new_slot s) ≡ s }
     ensures condition { (s t : SlotState) (e : Entity) → IsSlots s → take_of s ≡ Ok (e, t)
-        → CanUntake t e (not (has_free s)) }
+        → CanUntake t e (takes_new_slot s) }
     ensures sound { (s t : SlotState) (e : Entity) → IsSlots s → take_of s ≡ Ok (e, t) → IsSlots t }
 {}
 
@@ -19,7 +19,7 @@ pub fn untake_comes_back()
     ensures state { (s : SlotState) (e : Entity) (fresh : Bool) → IsSlots s → CanUntake s e fresh
         → take_of (untake_of s e fresh) ≡ Ok (e, s) }
     ensures fresh { (s : SlotState) (e : Entity) (fresh : Bool) → CanUntake s e fresh
-        → has_free (untake_of s e fresh) ≡ not fresh }
+        → takes_new_slot (untake_of s e fresh) ≡ fresh }
     ensures sound { (s : SlotState) (e : Entity) (fresh : Bool) → IsSlots s → CanUntake s e fresh
         → IsSlots (untake_of s e fresh) }
 {}

@@ -2,7 +2,7 @@
 use Rattle.std.proofs.Common.{◌≡◌, ℕ, List, [], ◌∷◌, ◌++◌, Some, map, refl, ap, ◌∙◌}
 use Rattle.scene_kinds.specs.declared.cell.Cell.{Cell}
 use Rattle.scene_resources.specs.Resources.{NamedCells, cell_of, names_of}
-use Rattle.scene_resources.proofs.Names.{names_found}
+use Rattle.scene_resources.proofs.ResourceLaws.{names_found}
 use Rattle.scene_app.specs.Shown.{resource_text, resources_text}
 use Rattle.scene_app.specs.ShowSteps.{one_resource, named_text}
 

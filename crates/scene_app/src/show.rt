@@ -212,7 +212,7 @@ fn write_named(
     resources: &Resources,
     name: &str,
 ) -> Result<(), AllocError>
-    ensures { OnOk result (string_bytes out.new ≡ string_bytes out.old ++ one_resource name.now (cell_of resources.now name.now)) }
+    ensures { OnOk result (string_bytes out.new ≡ string_bytes out.old ++ one_resource name.now (cell_of resources.now.cells name.now)) }
 {
     match resources.get(name) {
         None => Ok(()),
@@ -227,7 +227,7 @@ fn write_each_named(
     resources: &Resources,
     names: &[String],
 ) -> Result<(), AllocError>
-    ensures { OnOk result (string_bytes out.new ≡ string_bytes out.old ++ named_text resources.now (map string_bytes names.now)) }
+    ensures { OnOk result (string_bytes out.new ≡ string_bytes out.old ++ named_text resources.now.cells (map string_bytes names.now)) }
 {
     'names: for name in names {
         write_named(alloc, out, resources, name.as_str())?;
@@ -238,7 +238,7 @@ fn write_each_named(
 /// Adds all resources, by the bytes of their names.
 #[tactic(auto, using(crate::proofs::ResourceLaws::named_whole))]
 fn write_resources(alloc: Global, out: &mut String, resources: &Resources) -> Result<(), AllocError>
-    ensures { OnOk result (string_bytes out.new ≡ string_bytes out.old ++ resources_text resources.now.entries) }
+    ensures { OnOk result (string_bytes out.new ≡ string_bytes out.old ++ resources_text resources.now.cells.entries) }
 {
     let names = resources.names()?;
     write_each_named(alloc, out, resources, names.as_slice())

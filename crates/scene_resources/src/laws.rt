@@ -8,7 +8,7 @@ ghost use Rattle.scene_kinds.specs.Map as map;
 ghost use Rattle.scene_resources.specs.Examples.{number, cell, one, two};
 ghost use Rattle.scene_kinds.specs.declared.cell.Cell.{Cell};
 ghost use Rattle.scene_kinds.specs.declared.value.Value.{Value};
-ghost use Rattle.scene_resources.specs.Resources.{NamedCells, name_cmp, cell_of, names_of, put_of, take_of, restore_of};
+ghost use Rattle.scene_resources.specs.Resources.{NamedCells, IsWider, Holds, name_cmp, cell_of, names_of, put_of, take_of, restore_of};
 
 /// Worked examples. In `one` `left` is 7 since tick 1; in `two` `gold` is 3 since tick 2 as well.
 pub fn worked_resources()
@@ -42,4 +42,11 @@ pub fn names_are_whole()
     ensures ascending { (r : NamedCells) → IsStrictlySortedBy name_cmp (names_of r) }
     ensures whole { (r : NamedCells) (name : List ℕ) → Contains (names_of r) name ↔ IsSome (cell_of r name) }
     ensures cells { (r : NamedCells) → each (λ name. cell_of r name) (names_of r) ≡ each (λ e. Some e.1) r.entries }
+{}
+
+/// The names that are kept: where they hold the cells of some resources, more names do too; and more than more are
+/// more.
+pub fn room_is_never_lost()
+    ensures holds { (old new : List (List ℕ)) (r : NamedCells) → IsWider old new → Holds old r → Holds new r }
+    ensures wider { (a b c : List (List ℕ)) → IsWider a b → IsWider b c → IsWider a c }
 {}

@@ -7,7 +7,7 @@ use Rattle.std.proofs.lemmas.Map.Keys.{IsDistinct-from_apart}
 use Rattle.std.proofs.lemmas.Option.{slice_get_within}
 use Rattle.scene_kinds.specs.declared.entity.Entity.{Entity}
 use Rattle.scene_kinds.specs.declared.cells.Row.{Row}
-use Rattle.scene_alloc.proofs.Moves.{few_distinct}
+use Rattle.scene_alloc.proofs.SlotLaws.{few_distinct}
 use Rattle.scene_world.specs.declared.home.Home.{Home}
 use Rattle.scene_world.specs.World.{World, rows_at, row_at}
 use Rattle.scene_world.specs.Valid.{IsValid}

@@ -7,7 +7,7 @@ use Rattle.scene_kinds.proofs.Maps.{equal_keys}
 use Rattle.scene_kinds.specs.Cells.{put_over}
 use Rattle.scene_kinds.specs.Ranges.{is_in_range}
 use Rattle.scene_resources.specs.Resources.{NamedCells, name_cmp_exact, cell_of, put_of, restore_of, taken, take_of}
-use Rattle.scene_resources.proofs.Cells.{is_name, cell_of-restore_of}
+use Rattle.scene_resources.proofs.ResourceLaws.{is_name, restored_cells}
 use Rattle.scene_world.specs.World.{World}
 use Rattle.scene_world.specs.Commands.{in_world, with_resources, put_resource, remove_resource}
 use Rattle.scene_world.specs.Valid.{IsValid, IsResource, ResourcesAreSound, is_timely}
@@ -33,7 +33,7 @@ restored_valid w name o v new = resources_valid w (restore_of w.resources name o
     elim (is_name q name) as (λ b. is_name q name ≡ b → cond b o (cell_of w.resources q) ≡ Some cell → IsResource w.tick q cell) [
       | true ↦ λ e h. subst (λ (n : List ℕ). IsResource w.tick n cell) (sym (equal_keys name_cmp_exact q name e)) (new cell h)
       | false ↦ λ e h. v.resources q cell h
-    ] refl (sym (cell_of-restore_of w.resources name o q) ∙ at))
+    ] refl (sym (restored_cells w.resources name o q) ∙ at))
 
 -- a value put over a cell of before
 put_timely : (tick : ℕ) (value : Value) (o : Option Cell) → ((c : Cell) → o ≡ Some c → is_timely tick c ≡ true) → is_timely tick (put_over o value tick) ≡ true

@@ -14,9 +14,9 @@ use Rattle.scene_world.specs.declared.home.Home.{Home}
 use Rattle.scene_world.specs.World.{World, rows_at, row_at, home_of, row_place, home_in}
 use Rattle.scene_world.specs.Valid.{StandsOnce}
 use Rattle.scene_kinds.specs.Schema.{Kinds}
-use Rattle.scene_alloc.specs.Slots.{SlotState}
+use Rattle.scene_alloc.specs.Slots.{StoredSlots}
 use Rattle.scene_links.specs.Forest.{Forest}
-use Rattle.scene_resources.specs.Resources.{NamedCells}
+use Rattle.scene_resources.specs.Resources.{StoredResources}
 use Rattle.scene_world.specs.Stored.{tables_of, AreApart, scan, world_of, IsSound, IsHomeOf}
 use Rattle.scene_world.proofs.Homes.{HasAt, home_found, place_found, place_missed, home_is, home_none, nowhere}
 use Rattle.scene_world.proofs.Stored.{none_seen}
@@ -67,7 +67,7 @@ home_facts w e h is =
     }
 
 -- what a scan over the tables of a sound world says of an entity
-pub scan_sound_home : (schema : Kinds) (slots : SlotState) (tick : ℕ) (ts : List TableState) (children : Forest) (resources : NamedCells) → IsSound schema slots tick ts children resources → (e : Entity) → scan e ts ≡ home_of (world_of schema slots tick ts children resources) e
+pub scan_sound_home : (schema : Kinds) (slots : StoredSlots) (tick : ℕ) (ts : List TableState) (children : Forest) (resources : StoredResources) → IsSound schema slots tick ts children resources → (e : Entity) → scan e ts ≡ home_of (world_of schema slots tick ts children resources) e
 scan_sound_home schema slots tick ts children resources s e = scan_home e ts s.apart s.valid.rows.once
 
 pub some_home : (w : World) (e : Entity) (o : Option Home) → o ≡ home_of w e → IfSome o (IsHomeOf w e)

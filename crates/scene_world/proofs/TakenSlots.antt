@@ -8,8 +8,7 @@ use Rattle.std.proofs.Math.Bool.{or-false}
 use Rattle.scene_kinds.specs.declared.entity.Entity.{Entity}
 use Rattle.scene_alloc.specs.Ends.{last, front}
 use Rattle.scene_alloc.specs.Slots.{SlotState, IsSlots, is_free, take_of}
-use Rattle.scene_alloc.proofs.Ends.{push-last}
-use Rattle.scene_alloc.proofs.Moves.{take_cases, IsSlots-take, CanUntake-take}
+use Rattle.scene_alloc.proofs.SlotLaws.{push-last, take_cases, IsSlots-take, CanUntake-take}
 use Rattle.scene_kinds.proofs.Elements.{pushed_stays}
 
 pub record IsTaken (s t : SlotState) (e : Entity) : Type 0 where

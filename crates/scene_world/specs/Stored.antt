@@ -5,9 +5,9 @@ use Rattle.scene_kinds.specs.declared.entity.Entity.{Entity}
 use Rattle.scene_kinds.specs.declared.cells.Row.{Row}
 use Rattle.scene_kinds.specs.Map as map
 use Rattle.scene_kinds.specs.Schema.{Kinds}
-use Rattle.scene_alloc.specs.Slots.{SlotState}
+use Rattle.scene_alloc.specs.Slots.{StoredSlots}
 use Rattle.scene_links.specs.Forest.{Forest}
-use Rattle.scene_resources.specs.Resources.{NamedCells}
+use Rattle.scene_resources.specs.Resources.{StoredResources}
 use Rattle.scene_table.specs.Table.{TableState}
 use Rattle.scene_world.specs.declared.home.Home.{Home}
 use Rattle.scene_world.specs.World.{World, Tables, rows_at, row_at, row_of, with_rows, row_place}
@@ -18,9 +18,9 @@ abbrev pub tables_of : List TableState → Tables
 tables_of [] = map.empty
 tables_of (t ∷ ts) = with_rows (tables_of ts) t.mask t.rows
 
--- the parts of the code as a world
-abbrev pub world_of : Kinds → SlotState → ℕ → List TableState → Forest → NamedCells → World
-world_of schema slots tick ts children resources = record { schema = schema; slots = slots; tick = tick; tables = tables_of ts; children = children; resources = resources }
+-- the parts of the code as a world: room isn't seen
+abbrev pub world_of : Kinds → StoredSlots → ℕ → List TableState → Forest → StoredResources → World
+world_of schema slots tick ts children resources = record { schema = schema; slots = slots.state; tick = tick; tables = tables_of ts; children = children; resources = resources.cells }
 
 -- i is the index of the first table of a kind set
 abbrev pub IsFirstOf : List TableState → ℕ → ℕ → Type 0
@@ -54,7 +54,7 @@ scan e [] = None
 scan e (t ∷ ts) = option_or (option_map (λ p. record { mask = t.mask; place = p }) (row_place e t.rows)) (scan e ts)
 
 -- what always holds of the parts of the code: kind sets are distinct, and the world that is seen is valid
-pub record IsSound (schema : Kinds) (slots : SlotState) (tick : ℕ) (ts : List TableState) (children : Forest) (resources : NamedCells) : Type 0 where
+pub record IsSound (schema : Kinds) (slots : StoredSlots) (tick : ℕ) (ts : List TableState) (children : Forest) (resources : StoredResources) : Type 0 where
   pub apart : AreApart ts
   pub valid : IsValid (world_of schema slots tick ts children resources)
 

@@ -119,7 +119,7 @@ impl World {
 
     /// The generations by index, and the free list.
     pub fn slots(&self) -> &Slots
-        ensures { result.now ≡ self.now.slots }
+        ensures { result.now.state ≡ self.now.slots }
     {
         &self.slots
     }
@@ -133,7 +133,7 @@ impl World {
 
     /// The resources.
     pub fn resources(&self) -> &Resources
-        ensures { result.now ≡ self.now.resources }
+        ensures { result.now.cells ≡ self.now.resources }
     {
         &self.resources
     }

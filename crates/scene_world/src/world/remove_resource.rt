@@ -15,6 +15,7 @@ impl World {
         ensures { Gives result self.old self.new (remove_resource self.old name.now) }
     {
         let _cell = self.resources.take(name)?;
+        self.resources.forget(name);
         Ok(())
     }
 }

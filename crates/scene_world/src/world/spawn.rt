@@ -27,11 +27,11 @@ fn spawn_row(
 ) -> Result<Entity, Refusal>
     requires mask { mask ≡ mask_of cells }
     requires ascending { IsAscending cells }
-    ensures made { IfOk result (λ e. take_of slots.old ≡ Ok (e, slots.new)) }
+    ensures made { IfOk result (λ e. take_of slots.old.state ≡ Ok (e, slots.new.state)) }
     ensures rows { IfOk result (λ e. tables_of tables.new.items ≡ with_row (tables_of tables.old.items) (record { entity = e; cells = cells })) }
-    ensures slots { OnErr result (slots.new ≡ slots.old) }
+    ensures slots { OnErr result (slots.new.state ≡ slots.old.state) }
     ensures seen { OnErr result (tables_of tables.new.items ≡ tables_of tables.old.items) }
-    ensures refused { IfErr result (λ r. r ≢ refusal_of NoMemory → take_of slots.old ≡ Err r) }
+    ensures refused { IfErr result (λ r. r ≢ refusal_of NoMemory → take_of slots.old.state ≡ Err r) }
     ensures apart { AreApart tables.old.items → AreApart tables.new.items }
 {
     let at = room_for(alloc, tables, mask)?;

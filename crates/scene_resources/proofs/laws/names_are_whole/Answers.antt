@@ -1,4 +1,4 @@
-use Rattle.scene_resources.proofs.Names.{names_ascend, names_whole, names_found}
+use Rattle.scene_resources.proofs.ResourceLaws.{names_ascend, names_whole, names_found}
 use Rattle.scene_resources.proofs.laws.names_are_whole.Goals as goal
 
 pub returns : goal.returns

@@ -1,5 +1,5 @@
-use Rattle.scene_resources.proofs.Cells.{cell_of-restore_of, restored, put_restored, take_restored}
+use Rattle.scene_resources.proofs.ResourceLaws.{restored_cells, restore_restores, put_restores, take_restores}
 use Rattle.scene_resources.proofs.laws.restored_comes_back.Goals as goal
 
 pub returns : goal.returns
-returns c = record { cells = cell_of-restore_of; restored = restored; put = put_restored; taken = take_restored }
+returns c = record { cells = restored_cells; restored = restore_restores; put = put_restores; taken = take_restores }

@@ -1,10 +1,13 @@
-use Rattle.std.proofs.Common.{◌∙◌, ap, sym, None}
-use Rattle.scene_resources.specs.Resources.{restore_of}
-use Rattle.scene_resources.proofs.Cells.{cells_updated}
-use Rattle.scene_resources.proofs.resources.Resources.restore.Goals.{in-Some+in-Text-2, in-Some+in-Tag-2, in-None-2}
+use Rattle.std.proofs.Common.{subst, sym}
+use Rattle.scene_resources.specs.Resources.{StoredResources, IsWider}
+use Rattle.scene_resources.proofs.resources.Resources.restore.Goals.{then-is_some+in_ok-reserve, else-is_some}
 use Rattle.scene_resources.proofs.resources.Resources.restore.Goals as goal
 
-pub returns-in-None-clause-done : goal.returns-in-None-clause-done
-returns-in-None-clause-done c =
-    let gone = cells_updated c.self.inside.cells c.remove.new.self c.args.self.now c.args.name.now None c.self.view_is c.remove.ensures.updates ∙ ap (restore_of c.args.self.now c.args.name.now) (sym c.in-None.is) in
-    elim c.match-remove.branch [ in-Some+in-Text-2 w ↦ w.self-is ∙ gone | in-Some+in-Tag-2 w ↦ w.self-is ∙ gone | in-None-2 w ↦ w.self-is ∙ gone ]
+pub returns-clause-wide : goal.returns-clause-wide
+returns-clause-wide c =
+    let old = c.args.self.now.kept in
+    let wide : IsWider old c.if-is_some.self.kept = elim c.if-is_some.branch [
+      | then-is_some+in_ok-reserve w ↦ subst (λ (s : StoredResources). IsWider old s.kept) (sym w.self-is) w.reserve.ensures.wide
+      | else-is_some w ↦ subst (λ (s : StoredResources). IsWider old s.kept) (sym w.self-is) (record { each = λ name h. h })
+    ] in
+    subst (IsWider old) (sym c.restore_reserved-old.ensures.kept) wide

@@ -1,4 +1,8 @@
+use Rattle.std.proofs.Common.{sym, subst}
+use Rattle.scene_resources.specs.Resources.{NamedCells}
 use Rattle.scene_world.specs.World.{World}
+use Rattle.scene_world.specs.Commands.{with_resources}
+use Rattle.scene_world.specs.Valid.{IsValid}
 use Rattle.scene_world.specs.Stored.{world_of}
 use Rattle.scene_world.proofs.ResourceKeeps.{taken_valid}
 use Rattle.scene_world.proofs.world.World.remove_resource.Goals as goal
@@ -7,4 +11,7 @@ pub invariant_of-self-2 : goal.invariant_of-self-2
 invariant_of-self-2 c =
     let w = c.self.inside in
     let old : World = world_of w.schema w.slots w.tick w.tables.items w.links w.resources in
-    record { apart = c.self.invariant.apart; valid = taken_valid old c.args.name.now c.in_ok-_cell._cell c.take.new.self c.self.invariant.valid c.in_ok-_cell.ensures }
+    record {
+      apart = c.self.invariant.apart;
+      valid = subst (λ (r : NamedCells). IsValid (with_resources old r)) (sym c.forget.ensures.cells) (taken_valid old c.args.name.now c.in_ok-_cell._cell c.take.new.self.cells c.self.invariant.valid c.in_ok-_cell.ensures.cells);
+    }
