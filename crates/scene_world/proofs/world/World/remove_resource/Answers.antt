@@ -6,5 +6,5 @@ use Rattle.scene_world.proofs.world.World.remove_resource.Goals as goal
 pub invariant_of-self-2 : goal.invariant_of-self-2
 invariant_of-self-2 c =
     let w = c.self.inside in
-    let old : World = world_of w.schema w.slots w.tick w.tables.items w.links w.resources in
+    let old : World = world_of w.schema w.slots w.tick w.tables.items w.links.forest w.resources in
     record { apart = c.self.invariant.apart; valid = taken_valid old c.args.name.now c.in_ok-_cell._cell c.take.new.self c.self.invariant.valid c.in_ok-_cell.ensures }
