@@ -9,8 +9,7 @@ use Rattle.scene_kinds.specs.Answers.{Answers}
 use Rattle.scene_kinds.specs.Entity.{is_same}
 use Rattle.scene_links.specs.Forest.{Forest, IsForest, AllLinked, holds, ancestors, parent_of, cut, cut_from, joined, link_of, unlinked, unlink_of}
 use Rattle.scene_links.specs.Room.{AreAlone}
-use Rattle.scene_links.proofs.Cuts.{cut_forest, linked-cut, parent_gone}
-use Rattle.scene_links.proofs.Joins.{linked-joined, linked_forest}
+use Rattle.scene_links.proofs.LinkLaws.{cut_forest, linked-cut, parent_gone, linked-joined, linked_forest}
 use Rattle.scene_world.specs.World.{World, is_live}
 use Rattle.scene_world.specs.Commands.{in_world, with_children, set_parent, remove_parent}
 use Rattle.scene_world.specs.Valid.{IsValid, IsCurrent}
