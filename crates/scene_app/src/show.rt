@@ -147,7 +147,7 @@ fn write_entities(out: &mut String, entities: &[Entity]) -> Result<(), AllocErro
 
 /// Adds a parent and its children.
 fn write_link(out: &mut String, links: &Links, parent: Entity) -> Result<(), AllocError>
-    ensures { OnOk result (string_bytes out.new ≡ string_bytes out.old ++ link_text links.now parent) }
+    ensures { OnOk result (string_bytes out.new ≡ string_bytes out.old ++ link_text links.now.forest parent) }
 {
     write!(out, "link {parent}")?;
     write_entities(out, links.children_of(parent))?;
@@ -156,7 +156,7 @@ fn write_link(out: &mut String, links: &Links, parent: Entity) -> Result<(), All
 
 /// Adds the links of parents, a line each.
 fn write_links(out: &mut String, links: &Links, parents: &[Entity]) -> Result<(), AllocError>
-    ensures { OnOk result (string_bytes out.new ≡ string_bytes out.old ++ links_text links.now parents.now) }
+    ensures { OnOk result (string_bytes out.new ≡ string_bytes out.old ++ links_text links.now.forest parents.now) }
 {
     'parents: for parent in parents {
         write_link(out, links, *parent)?;
@@ -185,7 +185,7 @@ fn write_archetypes(alloc: Global, out: &mut String, world: &World) -> Result<()
 
 /// Adds all links, by the indices of the parents.
 fn write_forest(out: &mut String, links: &Links) -> Result<(), AllocError>
-    ensures { OnOk result (string_bytes out.new ≡ string_bytes out.old ++ links_text links.now (parents links.now)) }
+    ensures { OnOk result (string_bytes out.new ≡ string_bytes out.old ++ links_text links.now.forest (parents links.now.forest)) }
 {
     let parents = links.parents()?;
     write_links(out, links, parents.as_slice())

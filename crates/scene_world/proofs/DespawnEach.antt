@@ -12,9 +12,7 @@ use Rattle.scene_kinds.specs.Entity.{is_same}
 use Rattle.scene_kinds.specs.Map as map
 use Rattle.scene_links.specs.Forest.{holds, children_of, post}
 use Rattle.scene_links.specs.Unravels.{Unravels}
-use Rattle.scene_links.proofs.Held.{holds_head, holds_tail}
-use Rattle.scene_links.proofs.Below.{head_once, post_cases, post_distinct}
-use Rattle.scene_links.proofs.Unravels.{post_unravels}
+use Rattle.scene_links.proofs.LinkLaws.{holds_head, holds_tail, head_once, post_cases, post_distinct, post_unravels}
 use Rattle.scene_world.specs.declared.home.Home.{Home}
 use Rattle.scene_world.specs.World.{World, home_of, is_live}
 use Rattle.scene_world.specs.Commands.{with_live, and_then, after_despawn, despawn, despawn_each, despawn_recursive}

@@ -15,7 +15,7 @@ use Rattle.scene_kinds.specs.Map as map
 use Rattle.scene_alloc.specs.Slots.{SlotState, IsSlots, CanRelease, is_free, retires, release_of}
 use Rattle.scene_alloc.proofs.SlotLaws.{freed, IsSlots-release}
 use Rattle.scene_links.specs.Forest.{Forest, cut, cut_from, children_of, parent_of, unlinked, unlink_of}
-use Rattle.scene_links.proofs.Cuts.{cut_forest, cut_part, left_out}
+use Rattle.scene_links.proofs.LinkLaws.{cut_forest, cut_part, left_out}
 use Rattle.scene_world.specs.declared.home.Home.{Home}
 use Rattle.scene_world.specs.World.{World, lives, row_at, without_row}
 use Rattle.scene_world.specs.Commands.{after_despawn, despawn}

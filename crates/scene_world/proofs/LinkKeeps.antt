@@ -1,19 +1,39 @@
 -- An accepted change of a parent keeps a valid world valid.
-use Rattle.std.proofs.Common.{◌≡◌, ℕ, true, false, ◌&&◌, subst, sym, Some, None, Ok}
-use Rattle.std.specs.Prelude.{Result, Err}
+use Rattle.std.proofs.Common.{◌≡◌, ℕ, true, false, ◌&&◌, ap, ◌∙◌, subst, sym, Some, None, Ok}
+use Rattle.std.specs.Prelude.{Result, Err, slice_get}
 use Rattle.std.proofs.lemmas.Bool.{and_parts}
+use Rattle.std.proofs.lemmas.Option.{same_Some}
 use Rattle.scene_kinds.specs.declared.entity.Entity.{Entity}
 use Rattle.scene_kinds.specs.declared.refusal.Refusal.{Refusal}
 use Rattle.scene_kinds.specs.Answers.{Answers}
 use Rattle.scene_kinds.specs.Entity.{is_same}
 use Rattle.scene_links.specs.Forest.{Forest, IsForest, AllLinked, holds, ancestors, parent_of, cut, cut_from, joined, link_of, unlinked, unlink_of}
-use Rattle.scene_links.proofs.Cuts.{cut_forest, linked-cut, parent_gone}
-use Rattle.scene_links.proofs.Joins.{linked-joined, linked_forest}
+use Rattle.scene_links.specs.Room.{AreAlone}
+use Rattle.scene_links.proofs.LinkLaws.{cut_forest, linked-cut, parent_gone, linked-joined, linked_forest}
 use Rattle.scene_world.specs.World.{World, is_live}
 use Rattle.scene_world.specs.Commands.{in_world, with_children, set_parent, remove_parent}
-use Rattle.scene_world.specs.Valid.{IsValid}
+use Rattle.scene_world.specs.Valid.{IsValid, IsCurrent}
+use Rattle.scene_world.proofs.Homes.{here_live}
 use Rattle.scene_world.proofs.Outcomes.{not_ok, same_world}
 use Rattle.scene_world.proofs.Parts.{asked, allowed, lifted_part, done_part}
+
+-- of the entities with one index at most one is alive
+one_live : (w : World) (a b : Entity) → IsValid w → is_live w a ≡ true → is_live w b ≡ true → a.index ≡ b.index → a ≡ b
+one_live w a b v l m s =
+    let x = here_live w.tables a l in
+    let y = here_live w.tables b m in
+    let mine = subst (IsCurrent w.slots) x.1.same (v.rows.each x.0 x.1.row x.1.there).current in
+    let theirs = subst (IsCurrent w.slots) y.1.same (v.rows.each y.0 y.1.row y.1.there).current in
+    let g : a.generation ≡ b.generation = same_Some a.generation b.generation (sym mine ∙ ap (slice_get w.slots.generations) s ∙ theirs) in
+    (λ i. record { index = s i; generation = g i })
+
+-- so live entities may be linked
+pub live_alone : (w : World) (c p : Entity) → IsValid w → is_live w c ≡ true → is_live w p ≡ true → AreAlone w.children c p
+live_alone w c p v child parent = record {
+  child = λ q e l. let both = v.links.live q e l in (one_live w q c v both.0 child, one_live w e c v both.1 child);
+  parent = λ q e l. let both = v.links.live q e l in (one_live w q p v both.0 parent, one_live w e p v both.1 parent);
+  each = one_live w c p v child parent;
+}
 
 -- other links keep a valid world valid, where they are a forest of live entities
 pub links_valid : (w : World) (f : Forest) → IsValid w → AllLinked (λ e. is_live w e ≡ true) f → IsForest f → IsValid (with_children w f)

@@ -65,9 +65,9 @@ impl Model for World {
 
     ghost use Rattle.scene_world.specs.Stored.{world_of, IsSound};
 
-    ghost view = { λ w. world_of w.schema w.slots w.tick w.tables.items w.links w.resources };
+    ghost view = { λ w. world_of w.schema w.slots w.tick w.tables.items w.links.forest w.resources };
 
-    ghost invariant = { λ w. IsSound w.schema w.slots w.tick w.tables.items w.links w.resources };
+    ghost invariant = { λ w. IsSound w.schema w.slots w.tick w.tables.items w.links.forest w.resources };
 }
 
 impl World {
@@ -126,7 +126,7 @@ impl World {
 
     /// The parents and children.
     pub fn links(&self) -> &Links
-        ensures { result.now ≡ self.now.children }
+        ensures { result.now.forest ≡ self.now.children }
     {
         &self.links
     }

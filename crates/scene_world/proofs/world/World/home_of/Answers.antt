@@ -10,5 +10,5 @@ returns c =
     let w = c.self.inside in
     let home : c.find_home.result ≡ home_of c.args.self.now c.args.entity =
     c.find_home.ensures ∙ ap (scan c.args.entity) c.as_slice.ensures.value
-    ∙ scan_sound_home w.schema w.slots w.tick w.tables.items w.links w.resources c.self.invariant c.args.entity ∙ ap (λ (v : World). home_of v c.args.entity) c.self.view_is in
+    ∙ scan_sound_home w.schema w.slots w.tick w.tables.items w.links.forest w.resources c.self.invariant c.args.entity ∙ ap (λ (v : World). home_of v c.args.entity) c.self.view_is in
     record { home = home; row = some_home c.args.self.now c.args.entity c.find_home.result home; valid = subst IsValid c.self.view_is c.self.invariant.valid }

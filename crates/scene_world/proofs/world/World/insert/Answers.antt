@@ -13,7 +13,7 @@ insert_at-requires-clause-kinds c = λ row at. (c.self.invariant.valid.rows.each
 pub invariant_of-self-2 : goal.invariant_of-self-2
 invariant_of-self-2 c =
     let w = c.self.inside in
-    let old : World = world_of w.schema w.slots w.tick w.tables.items w.links w.resources in
+    let old : World = world_of w.schema w.slots w.tick w.tables.items w.links.forest w.resources in
     let home : IsHomeOf old c.args.entity c.in-Some.home = subst (λ (v : World). IsHomeOf v c.args.entity c.in-Some.home) (sym c.self.view_is) c.in-Some.ensures.row in
     let made = c.in_ok-insert_at.ensures in
     let tests = insert_tests w.schema c.args.kind c.args.value (sym c.in_default-insert_fault.ensures) in
