@@ -1,6 +1,6 @@
 //! Runs whose reader or writer fails at each call in turn.
 use crate::{Pieces, Taker};
-use scene_app::{AppFault, RunEnd, run_script};
+use scene_app::{AppFault, run_script};
 use scene_streams::{Sink, Source};
 use std::io::ErrorKind;
 use std::test::Fail;
@@ -21,12 +21,12 @@ fn a_failed_read_writes_nothing(rt: HostRuntime) -> Result<(), Fail> {
     for fails_at in 1..=8 {
         let mut source = script_that_fails(fails_at, ErrorKind::Other);
         let mut sink = Sink::new(Taker::new(rt.alloc(), 0, true));
-        let end = run_script(rt.alloc(), &mut source, &mut sink);
+        let end = run_script(rt.alloc(), &mut source, &mut sink).map(|end| end.bad_lines);
         let failed = fails_at < 8;
         let wanted = if failed {
             Err(AppFault::ReadFault)
         } else {
-            Ok(RunEnd { bad_lines: 0 })
+            Ok(0)
         };
         assert_eq!(rt; end, wanted, "call {fails_at}");
         assert_eq!(rt; source.has_failed(), failed, "call {fails_at}");
@@ -46,8 +46,8 @@ fn an_interrupted_read_is_made_again(rt: HostRuntime) -> Result<(), Fail> {
     for fails_at in 1..=7 {
         let mut source = script_that_fails(fails_at, ErrorKind::Interrupted);
         let mut sink = Sink::new(Taker::new(rt.alloc(), 0, true));
-        let end = run_script(rt.alloc(), &mut source, &mut sink);
-        assert_eq!(rt; end, Ok(RunEnd { bad_lines: 0 }), "call {fails_at}");
+        let end = run_script(rt.alloc(), &mut source, &mut sink).map(|end| end.bad_lines);
+        assert_eq!(rt; end, Ok(0), "call {fails_at}");
         assert_eq!(rt; source.get_ref().calls(), 8, "call {fails_at}");
         assert_eq!(rt;
             sink.get_ref().taken(),
@@ -65,12 +65,12 @@ fn a_stopped_write_leaves_a_prefix_of_the_output(rt: HostRuntime) -> Result<(), 
         for fails in [false, true] {
             let mut source = script_that_fails(0, ErrorKind::Other);
             let mut sink = Sink::new(Taker::new(rt.alloc(), before as u32 + 1, fails));
-            let end = run_script(rt.alloc(), &mut source, &mut sink);
+            let end = run_script(rt.alloc(), &mut source, &mut sink).map(|end| end.bad_lines);
             let failed = before < calls;
             let wanted = if failed {
                 Err(AppFault::WriteFault)
             } else {
-                Ok(RunEnd { bad_lines: 0 })
+                Ok(0)
             };
             assert_eq!(rt; end, wanted, "after {before} calls");
             assert_eq!(rt; sink.has_failed(), failed, "after {before} calls");

@@ -12,7 +12,7 @@ use Rattle.scene_links.specs.Forest.{Forest, holds, ancestors, children_of, pare
 use Rattle.scene_links.proofs.Held.{none_or}
 use Rattle.scene_links.proofs.Joins.{put_at_last}
 use Rattle.scene_resources.specs.Resources.{NamedCells, name_cmp_total, cell_of, restore_of, taken, take_of}
-use Rattle.scene_resources.proofs.Cells.{cell_of-restore_of}
+use Rattle.scene_resources.proofs.ResourceLaws.{restored_cells}
 use Rattle.scene_world.specs.World.{World, is_live}
 use Rattle.scene_world.specs.Commands.{highest_tick, in_world, with_children, with_resources}
 use Rattle.scene_world.specs.CommandRaw.{SetParentSetsLink, RemoveParentSetsLink, PutSetsResource, RemoveSetsResource, RaiseSetsTick}
@@ -66,7 +66,7 @@ put_sets_resource w v name value valid held is =
     let cell = put_over (cell_of w.resources name) value w.tick in
     let good = allowed (is_good_name name) _ _ (tt, v) is in
     let there : cell_of (restore_of w.resources name (Some cell)) name ≡ Some cell =
-    cell_of-restore_of w.resources name (Some cell) name ∙ ap (λ b. cond b (Some cell) (cell_of w.resources name)) (ties_itself name_cmp_total name) in
+    restored_cells w.resources name (Some cell) name ∙ ap (λ b. cond b (Some cell) (cell_of w.resources name)) (ties_itself name_cmp_total name) in
     let sound = (put_valid w name value valid good.0 held).resources name cell there in (
       record { named = good.0; now = refl; good = record { in_range = sound.in_range; timely = sound.timely } },
       sym (same_world tt tt (set_resource w name (Some cell)) v good.1).1,

@@ -14,7 +14,7 @@ use Rattle.scene_alloc.specs.Ends.{last}
 use Rattle.scene_alloc.specs.Slots.{SlotState, CanUntake, is_free, take_of, untake_of}
 use Rattle.scene_alloc.proofs.Elsewhere.{SameElsewhere-untake}
 use Rattle.scene_alloc.proofs.Ends.{last-push}
-use Rattle.scene_alloc.proofs.Moves.{CanUntake-take, IsSlots-untake, fresh_length, has_free-untake, take-untake, untake-take}
+use Rattle.scene_alloc.proofs.Moves.{CanUntake-take, IsSlots-untake, fresh_length, takes_new_slot-untake, take-untake, untake-take}
 use Rattle.scene_links.specs.Forest.{holds, children_of, parent_of}
 use Rattle.scene_links.proofs.Held.{nobody, none_holds, none_or, parent_holds}
 use Rattle.scene_world.specs.declared.home.Home.{Home}
@@ -146,7 +146,7 @@ module _ (w : World) (e : Entity) (cells : List (ℕ × Cell)) (fresh : Bool) (v
       let good = good_cells w w.slots home.mask (row_for e cells) (v.rows.each home (row_for e cells) drop_there) in
       record {
         next = ap taken_entity (take-untake w.slots e fresh v.slots drop_untakes);
-        slot = sym (not-not fresh) ∙ ap not (sym (has_free-untake w.slots e fresh drop_untakes));
+        slot = sym (takes_new_slot-untake w.slots e fresh drop_untakes);
         good = record { ascending = good.ascending; fit = good.fit; timely = good.timely };
       }
 

@@ -3,7 +3,7 @@ use Rattle.std.proofs.Common.{◌≡◌, ℕ, cond, List, refl, ap, subst, sym, 
 use Rattle.scene_kinds.specs.declared.cell.Cell.{Cell}
 use Rattle.scene_kinds.proofs.Maps.{ties_itself}
 use Rattle.scene_resources.specs.Resources.{name_cmp_total, cell_of, restore_of}
-use Rattle.scene_resources.proofs.Cells.{cell_of-restore_of, restored}
+use Rattle.scene_resources.proofs.ResourceLaws.{restored_cells, restore_restores}
 use Rattle.scene_world.specs.World.{World}
 use Rattle.scene_world.specs.Commands.{with_resources}
 use Rattle.scene_world.specs.Valid.{IsValid}
@@ -23,7 +23,7 @@ set_resource_keeps w name before after v can = restored_valid w name after v (λ
 set_resource_can_come_back : (w : World) (name : List ℕ) (before after : Option Cell) → IsValid w → CanSetResource w name before after → CanSetResource (set_resource w name after) name after before
 set_resource_can_come_back w name before after v can = record {
   named = can.named;
-  now = cell_of-restore_of w.resources name after name ∙ ap (λ b. cond b after (cell_of w.resources name)) (ties_itself name_cmp_total name);
+  now = restored_cells w.resources name after name ∙ ap (λ b. cond b after (cell_of w.resources name)) (ties_itself name_cmp_total name);
   good = if_some (IsGoodResource (set_resource w name after)) before (λ cell e.
       let was = v.resources name cell (can.now ∙ e) in
       record { in_range = was.in_range; timely = was.timely });
@@ -31,7 +31,7 @@ set_resource_can_come_back w name before after v can = record {
 
 set_resource_comes_back : (w : World) (name : List ℕ) (before after : Option Cell) → CanSetResource w name before after → set_resource (set_resource w name after) name before ≡ w
 set_resource_comes_back w name before after can =
-    ap (with_resources w) (ap (restore_of (restore_of w.resources name after) name) (sym can.now) ∙ restored w.resources name after)
+    ap (with_resources w) (ap (restore_of (restore_of w.resources name after) name) (sym can.now) ∙ restore_restores w.resources name after)
 
 pub resources_come_back : ResourcesComeBack
 resources_come_back name before after = record {

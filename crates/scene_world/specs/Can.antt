@@ -9,7 +9,7 @@ use Rattle.scene_kinds.specs.Map as map
 use Rattle.scene_kinds.specs.Ranges.{is_in_range}
 use Rattle.scene_kinds.specs.Schema.{fits_kind, is_good_name}
 use Rattle.scene_alloc.specs.Ends.{last}
-use Rattle.scene_alloc.specs.Slots.{IsFresh, CanUnrelease, has_free, retires, take_of}
+use Rattle.scene_alloc.specs.Slots.{IsFresh, CanUnrelease, takes_new_slot, retires, take_of}
 use Rattle.scene_links.specs.Forest.{Forest, children_of, parent_of, holds, ancestors, cut, link_in}
 use Rattle.scene_resources.specs.Resources.{cell_of as resource_of}
 use Rattle.scene_world.specs.World.{World, rows_at, row_of, is_live}
@@ -70,7 +70,7 @@ CanMove w cells kind cell false = cell_of cells kind ≡ Some cell
 -- the entity is the next that a take of a slot gives, from a fresh slot or not
 pub record CanPut (w : World) (e : Entity) (cells : List (ℕ × Cell)) (fresh : Bool) : Type 0 where
   pub next : taken_entity (take_of w.slots) ≡ Some e
-  pub slot : fresh ≡ not (has_free w.slots)
+  pub slot : fresh ≡ takes_new_slot w.slots
   pub good : AreGoodCells w cells
 
 pub record CanDrop (w : World) (e : Entity) (cells : List (ℕ × Cell)) (fresh : Bool) : Type 0 where

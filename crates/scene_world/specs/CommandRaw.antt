@@ -5,7 +5,7 @@ use Rattle.scene_kinds.specs.declared.cell.Cell.{Cell}
 use Rattle.scene_kinds.specs.declared.value.Value.{Value}
 use Rattle.scene_kinds.specs.Cells.{new_cell, put_over, cell_of}
 use Rattle.scene_kinds.specs.Ranges.{is_in_range}
-use Rattle.scene_alloc.specs.Slots.{has_free, retires}
+use Rattle.scene_alloc.specs.Slots.{takes_new_slot, retires}
 use Rattle.scene_links.specs.Forest.{Forest, children_of, cut, link_in}
 use Rattle.scene_resources.specs.Resources.{cell_of as resource_of}
 use Rattle.scene_world.specs.World.{World}
@@ -17,7 +17,7 @@ use Rattle.scene_world.specs.Can.{CanPut, CanCut, CanShift, CanSetCell, CanSetLi
 -- a spawn puts the row of the next entity, with new cells
 abbrev pub SpawnPuts : Type 0
 SpawnPuts = (w v : World) (given : List (ℕ × Value)) (e : Entity) → IsValid w → spawn w given ≡ Ok (e, v)
-    → CanPut w e (new_cells w.tick given) (not (has_free w.slots)) × (v ≡ put_row w e (new_cells w.tick given))
+    → CanPut w e (new_cells w.tick given) (takes_new_slot w.slots) × (v ≡ put_row w e (new_cells w.tick given))
 
 -- a despawn cuts the row, from the place where it stands
 abbrev pub DespawnCuts : Type 0
