@@ -1,3 +1,4 @@
+//! A job of a session: what changes the state, or is stopped.
 ghost use Rattle.std.specs.Prelude.{◌≡◌, ◌++◌, ◌∷◌, [], ℕ, IfOk, IfErr};
 
 use crate::kept::Kept;

@@ -1,3 +1,4 @@
+//! The state while a writer has it to itself.
 ghost use Rattle.std.specs.Prelude.{◌≡◌};
 
 use crate::kept::Kept;

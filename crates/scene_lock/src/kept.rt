@@ -1,3 +1,4 @@
+//! A state that a lock keeps, with its history.
 ghost use Rattle.std.specs.Prelude.{◌≡◌, ℕ, List};
 
 /// A state that a `WordLock` keeps: it has a history, the entries by which it came to be what it is.

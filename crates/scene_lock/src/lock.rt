@@ -1,3 +1,4 @@
+//! The lock: made with its passes, and taken apart.
 ghost use Rattle.std.specs.Prelude.{◌≡◌, ◌<◌, ◌≤◌, [], IfOk, IfSome, All, vec_len};
 ghost use Rattle.scene_lock.specs.History.{Continues, IsLegal};
 ghost use Rattle.scene_lock.specs.Pass.{IsPassOf, first_passes};

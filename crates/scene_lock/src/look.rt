@@ -1,3 +1,4 @@
+//! A question to the state.
 use crate::kept::Kept;
 use std::alloc::Global;
 

@@ -1,3 +1,4 @@
+//! Two passes that come to have seen one history.
 ghost use Rattle.std.specs.Prelude.{◌≡◌};
 ghost use Rattle.scene_lock.specs.Pass.{IsPassOf, Follows};
 

@@ -1,3 +1,4 @@
+//! A pass: the right of one session to use a lock.
 ghost use Rattle.std.specs.Prelude.{◌≡◌};
 
 use crate::kept::Kept;

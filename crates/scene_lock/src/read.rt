@@ -1,3 +1,4 @@
+//! Looks at the state, readers inside together.
 ghost use Rattle.std.specs.Prelude.{◌≡◌, IfSome};
 ghost use Rattle.scene_lock.specs.Pass.{IsPassOf, Follows};
 ghost use Rattle.scene_lock.specs.Shared.{AtState};

@@ -1,3 +1,4 @@
+//! Changes of the state, one writer at a time.
 ghost use Rattle.std.specs.Prelude.{◌≡◌, ◌++◌, ◌∷◌, [], IfOk, IfErr};
 ghost use Rattle.std.specs.Arc.{arc_value};
 ghost use Rattle.scene_lock.specs.Pass.{IsPassOf, IsStill, Follows, Enters};
