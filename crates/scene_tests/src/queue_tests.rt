@@ -1,0 +1,59 @@
+//! Queues, which no line of a script makes yet.
+use scene_kinds::{Entity, Fault, Schema, Value};
+use scene_queue::{Command, Components, Queue, Target};
+use scene_world::World;
+use std::alloc::Global;
+use std::test::Fail;
+
+fn empty_world(alloc: Global) -> World {
+    World::new(alloc, Schema::new(alloc), 4)
+}
+
+/// No components.
+fn none(alloc: Global) -> Components {
+    let cells: Vec<(u8, Value)> = Vec::new(alloc);
+    Components::from(cells)
+}
+
+/// Whether a queue takes the despawn of the first entity that it spawns.
+fn takes_despawn(queue: &mut Queue) -> bool {
+    queue.push(Command::Despawn(Target::New(0))).is_ok()
+}
+
+#[test]
+fn commands_are_applied_in_order(rt: HostRuntime) -> Result<(), Fail> {
+    let mut queue = Queue::new(rt.alloc());
+    assert!(rt; queue.spawn(none(rt.alloc())).is_ok());
+    assert!(rt; takes_despawn(&mut queue));
+    assert!(rt; queue.spawn(none(rt.alloc())).is_ok());
+    let mut world = empty_world(rt.alloc());
+    let spawned = queue.apply(&mut world)?;
+    let reused = Entity {
+        index: 0,
+        generation: 2,
+    };
+    assert_eq!(rt; spawned.get(1), Some(&reused));
+    assert!(rt; world.is_alive(reused));
+    Ok(())
+}
+
+#[test]
+fn a_full_queue_hands_the_command_back(rt: HostRuntime) -> Result<(), Fail> {
+    let mut queue = Queue::with_limit(rt.alloc(), 1);
+    assert!(rt; takes_despawn(&mut queue));
+    match queue.push(Command::RemoveParent(Target::New(7))) {
+        Ok(()) => panic!(rt; "a second command was taken"),
+        Err(back) => assert_eq!(rt; back.refusal.fault, Fault::QueueFull),
+    }
+    assert_eq!(rt; queue.commands().len(), 1);
+    Ok(())
+}
+
+#[test]
+fn a_copy_of_a_queue_has_its_commands(rt: HostRuntime) -> Result<(), Fail> {
+    let mut queue = Queue::new(rt.alloc());
+    assert!(rt; takes_despawn(&mut queue));
+    let copy = queue.try_clone()?;
+    assert_eq!(rt; copy.commands().len(), 1);
+    Ok(())
+}
