@@ -30,12 +30,13 @@ pub(crate) fn move_with(
     ensures apart { AreApart tables.old.items → AreApart tables.new.items }
 {
     let count = cells_there(tables.as_slice(), home);
-    let room = Vec::with_capacity(alloc, count + 1)?;
+    let room = Vec::with_capacity(alloc, count)?;
+    let more_room = Vec::with_capacity(alloc, count + 1)?;
     let target = room_for(alloc, tables, to)?;
     let source = table_there(tables.as_slice(), home.mask);
-    let row = take_row(tables, source, home);
+    let row = take_row(tables, source, home, room);
     let entity = row.entity;
-    let cells = row.cells.put_into(room, kind, cell);
+    let cells = row.cells.put_into(more_room, kind, cell);
     put_row(tables, target, Row { entity, cells });
     Ok(())
 }
@@ -54,9 +55,11 @@ pub(crate) fn move_without(
     ensures err { OnErr result (tables_of tables.new.items ≡ tables_of tables.old.items) }
     ensures apart { AreApart tables.old.items → AreApart tables.new.items }
 {
+    let count = cells_there(tables.as_slice(), home);
+    let room = Vec::with_capacity(alloc, count)?;
     let target = room_for(alloc, tables, to)?;
     let source = table_there(tables.as_slice(), home.mask);
-    let row = take_row(tables, source, home);
+    let row = take_row(tables, source, home, room);
     let entity = row.entity;
     let mut cells = row.cells;
     let _cell = cells.remove(kind);
