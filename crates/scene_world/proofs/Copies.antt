@@ -5,7 +5,7 @@ use Rattle.std.proofs.lemmas.List.{take_more, take_all}
 use Rattle.std.proofs.lemmas.List.Elements.{AllZip-push}
 use Rattle.scene_table.specs.Table.{TableState}
 use Rattle.scene_world.specs.World.{with_rows}
-use Rattle.scene_world.specs.Stored.{tables_of, NoneHas, AreApart}
+use Rattle.scene_world.specs.KindTables.{tables_of, NoneHas, AreApart}
 
 -- a table has another one's kind set and rows
 pub record IsCopy (t u : TableState) : Type 0 where

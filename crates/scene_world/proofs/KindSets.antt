@@ -21,7 +21,7 @@ use Rattle.scene_kinds.proofs.Lists.{kept, kept-listed, get-with_list, list_at_s
 use Rattle.scene_kinds.proofs.Maps.{equal_keys}
 use Rattle.scene_table.specs.Table.{TableState}
 use Rattle.scene_world.specs.World.{Tables, rows_at, with_rows, masks_of}
-use Rattle.scene_world.specs.Stored.{tables_of, NoneHas, AreApart}
+use Rattle.scene_world.specs.KindTables.{tables_of, NoneHas, AreApart}
 use Rattle.scene_world.proofs.Stored.{none_seen}
 
 -- ---- numbers that rise are known by what is among them

@@ -36,4 +36,5 @@ pub mod ShiftBack
 pub mod ShiftedCells
 pub mod SpawnKeeps
 pub mod Stored
+pub mod Rooms
 pub mod TakenSlots

@@ -19,7 +19,8 @@ use Rattle.scene_kinds.specs.Schema.{Kinds}
 use Rattle.scene_alloc.specs.Slots.{StoredSlots}
 use Rattle.scene_links.specs.Forest.{Forest}
 use Rattle.scene_resources.specs.Resources.{StoredResources}
-use Rattle.scene_world.specs.Stored.{tables_of, AreApart, scan, world_of, IsSound, IsHomeOf}
+use Rattle.scene_world.specs.KindTables.{tables_of, AreApart}
+use Rattle.scene_world.specs.Stored.{scan, world_of, IsSound, IsHomeOf}
 use Rattle.scene_world.proofs.Homes.{HasAt, home_found, place_found, place_missed, home_is, home_none, nowhere}
 use Rattle.scene_world.proofs.Stored.{none_seen}
 

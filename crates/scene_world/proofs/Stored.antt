@@ -15,7 +15,8 @@ use Rattle.scene_table.specs.Rows.{swap_out}
 use Rattle.scene_table.specs.Table.{TableState, HasRoom}
 use Rattle.scene_table.proofs.Swaps.{length-swap_out}
 use Rattle.scene_world.specs.World.{Tables, rows_at, with_rows}
-use Rattle.scene_world.specs.Stored.{tables_of, IsFirstOf, StandsAt, HasRoomAt, NoneHas, AreApart}
+use Rattle.scene_world.specs.KindTables.{tables_of, IsFirstOf, StandsAt, NoneHas, AreApart}
+use Rattle.scene_world.specs.Stored.{HasRoomAt}
 use Rattle.scene_kinds.proofs.Positions.{found, missed}
 
 -- ---- which rows are seen

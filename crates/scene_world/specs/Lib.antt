@@ -9,6 +9,7 @@ pub mod ExampleWords
 pub mod Examples
 pub mod Valid
 pub mod Laws
+pub mod KindTables
 pub mod Stored
 pub mod Onto
 pub mod Raw

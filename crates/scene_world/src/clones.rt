@@ -1,6 +1,6 @@
 //! Copies of the tables of a world.
 ghost use Rattle.std.specs.Prelude.{◌≡◌, IfOk};
-ghost use Rattle.scene_world.specs.Stored.{tables_of, AreApart};
+ghost use Rattle.scene_world.specs.KindTables.{tables_of, AreApart};
 
 use scene_table::Table;
 use std::alloc::{AllocError, Global};

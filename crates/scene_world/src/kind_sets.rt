@@ -1,7 +1,7 @@
 //! The tables that have rows, in the order of their kind sets.
 ghost use Rattle.std.specs.Prelude.{◌≡◌, IfOk, map as each};
 ghost use Rattle.scene_world.specs.World.{rows_at, masks_of};
-ghost use Rattle.scene_world.specs.Stored.{tables_of, AreApart};
+ghost use Rattle.scene_world.specs.KindTables.{tables_of, AreApart};
 
 use scene_table::Table;
 use std::alloc::{AllocError, Global};

@@ -15,6 +15,7 @@ mod clones;
 mod examples;
 mod given;
 mod home;
+mod kind_tables;
 mod kind_sets;
 mod laws;
 mod moves;

@@ -4,7 +4,7 @@ ghost use Rattle.scene_kinds.specs.Cells.{HasKinds, AreKindsBelow, cell_of, with
 ghost use Rattle.scene_kinds.specs.declared.cells.Row.{Row};
 ghost use Rattle.scene_world.specs.World.{rows_at, row_at};
 ghost use Rattle.scene_world.specs.Commands.{after_move, after_insert};
-ghost use Rattle.scene_world.specs.Stored.{tables_of, AreApart};
+ghost use Rattle.scene_world.specs.KindTables.{tables_of, AreApart};
 
 use crate::home::Home;
 use crate::tables::{

@@ -10,7 +10,8 @@ ghost use Rattle.scene_kinds.specs.declared.cells.Row.{Row};
 ghost use Rattle.scene_kinds.specs.Map as map;
 ghost use Rattle.scene_table.specs.Table.{cell_at, rows_with_cell};
 ghost use Rattle.scene_world.specs.World.{rows_at, row_at, with_rows, with_row, without_row, row_place};
-ghost use Rattle.scene_world.specs.Stored.{tables_of, StandsAt, HasRoomAt, AreApart, scan};
+ghost use Rattle.scene_world.specs.KindTables.{tables_of, StandsAt, AreApart};
+ghost use Rattle.scene_world.specs.Stored.{HasRoomAt, scan};
 
 use crate::home::Home;
 use scene_kinds::{Cell, CellRef, Entity, Row};

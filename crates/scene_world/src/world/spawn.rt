@@ -6,7 +6,7 @@ ghost use Rattle.scene_kinds.specs.declared.fault.Fault.TheVariants.{NoMemory};
 ghost use Rattle.scene_alloc.specs.Slots.{take_of};
 ghost use Rattle.scene_world.specs.Commands.{spawn};
 ghost use Rattle.scene_world.specs.World.{with_row};
-ghost use Rattle.scene_world.specs.Stored.{tables_of, AreApart};
+ghost use Rattle.scene_world.specs.KindTables.{tables_of, AreApart};
 
 use crate::given::{new_cells, spawn_fault};
 use crate::tables::{put_row, room_for};

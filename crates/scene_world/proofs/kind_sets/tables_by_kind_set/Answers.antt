@@ -5,7 +5,7 @@ use Rattle.std.proofs.lemmas.List.Sorted.{IsPermutation-map, IsNonDecreasingBy-f
 use Rattle.std.proofs.lemmas.Simd.{map-map}
 use Rattle.scene_table.specs.Table.{TableState}
 use Rattle.scene_world.specs.World.{rows_at}
-use Rattle.scene_world.specs.Stored.{tables_of}
+use Rattle.scene_world.specs.KindTables.{tables_of}
 use Rattle.scene_world.proofs.KindSets.{with_some, numbers_in_order, sorted_masks, rows_seen}
 use Rattle.scene_world.proofs.kind_sets.tables_by_kind_set.Goals as goal
 

@@ -3,7 +3,7 @@ use Rattle.std.specs.List.{position_from}
 use Rattle.std.proofs.lemmas.Grind.{common_steps}
 use Rattle.std.proofs.Common.{arith}
 use Rattle.scene_table.specs.Table.{TableState}
-use Rattle.scene_world.specs.Stored.{tables_of, StandsAt, NoneHas, AreApart}
+use Rattle.scene_world.specs.KindTables.{tables_of, StandsAt, NoneHas, AreApart}
 use Rattle.scene_world.proofs.Stored.{found_table, none_found, new_table, tables_of_pushed, stands_appended, apart_appended}
 use Rattle.scene_world.proofs.tables.table_for.Goals as goal
 
