@@ -1,6 +1,7 @@
 pub mod ColumnCells
 pub mod ColumnLists
 pub mod KindLists
+pub mod Moves
 pub mod Parts
 pub mod Swaps
 pub mod TableFacts

@@ -1,9 +1,10 @@
 //! The columns of a table, one for each of its kinds, ascending: what is done to a row is done to each column.
-ghost use Rattle.std.specs.Prelude.{◌≡◌, ◌+◌, ◌<◌, ◌≤◌, ℕ, List, [], length, map, insert, remove, slice_get, vec_capacity, All, Some, OnOk, OnErr, IfOk, IsOk, not, nat_eq, nat_lt};
+ghost use Rattle.std.specs.Prelude.{◌≡◌, ◌+◌, ◌<◌, ◌≤◌, ℕ, List, [], length, map, insert, remove, slice_get, vec_capacity, All, Some, None, OnOk, OnErr, IfOk, IsOk, not, nat_eq, nat_lt};
 ghost use Rattle.std.specs.List.{AllZip, position_from};
 ghost use Rattle.std.specs.Option.{option_map};
+ghost use Rattle.scene_kinds.specs.Cells.{cell_of, with_cell};
 ghost use Rattle.scene_kinds.specs.declared.cell.Cell.{Cell};
-ghost use Rattle.scene_table.specs.Columns.{AreColumnsOf, AreLong, AreCellsAt, HasRoomAt, IsGrown, IsSameColumn, kinds_of, put_each, out_of_column};
+ghost use Rattle.scene_table.specs.Columns.{AreColumnsOf, AreLong, AreCellsAt, HasRoomAt, IsGrown, IsSameColumn, kinds_of, kinds_in, put_each, out_of_column};
 
 use crate::column::Column;
 use scene_kinds::{Cell, KindSet, has_kind};
@@ -175,9 +176,21 @@ pub(crate) fn number_from(columns: &[Column], kind: u8) -> Option<usize>
     columns.iter().position(|column| column.kind() >= kind)
 }
 
+/// The number at which a cell of a kind goes among cells of the other columns' kinds: how many of these kinds are lower.
+pub(crate) fn number_for(columns: &[Column], kind: u8) -> usize
+    ensures within { result ≤ length columns.now }
+    ensures goes { (cells : List (ℕ × Cell)) (cell : Cell) → kinds_in cells ≡ kinds_of columns.now → cell_of cells kind ≡ None → insert cells result (kind, cell) ≡ with_cell cells kind cell }
+{
+    match number_from(columns, kind) {
+        Some(number) => number,
+        None => columns.len(),
+    }
+}
+
 /// Columns with equal kinds and cells, or an error where no memory was found.
 pub(crate) fn clone_columns(alloc: Global, columns: &[Column]) -> Result<Vec<Column>, AllocError>
-    ensures { IfOk result (λ copies. AllZip IsSameColumn columns.now copies.items) }
+    ensures same { IfOk result (λ copies. AllZip IsSameColumn columns.now copies.items) }
+    ensures fits { IfOk result (λ copies. All (λ copy. length copy.cells ≤ copy.capacity) copies.items) }
 {
     let mut copies = Vec::new(alloc);
     for column in columns {

@@ -12,6 +12,7 @@
 
 mod column;
 mod columns;
+mod entities;
 mod rows;
 mod table;
 #[cfg(test)]

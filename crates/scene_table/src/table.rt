@@ -2,16 +2,18 @@
 ghost use Rattle.std.specs.Prelude.{◌≡◌, ◌+◌, ◌^◌, ◌<◌, ◌≤◌, [], ◌∷◌, ◌++◌, length, map, slice_get, vec_capacity, Some, IsTrue, ◌↔◌, IsSome, IsOk, OnOk, OnErr, IfOk, IfErr, IfSome, IfNone, true, false};
 ghost use Rattle.std.specs.Option.{option_map};
 ghost use Rattle.scene_kinds.specs.Cells.{HasKinds, shown};
-ghost use Rattle.scene_kinds.specs.KindSet.{has_kind};
+ghost use Rattle.scene_kinds.specs.KindSet.{has_kind, set_with, set_without};
 ghost use Rattle.scene_kinds.specs.declared.cells.Row.{Row};
 ghost use Rattle.scene_table.specs.Rows.{swap_out, put_back};
 ghost use Rattle.scene_table.specs.Columns.{cells_of};
-ghost use Rattle.scene_table.specs.Table.{AllHave, HasRoom, cell_at, cells_of_kind, rows_with_cell};
+ghost use Rattle.scene_table.specs.Table.{AllHave, HasRoom, cell_at, cells_of_kind, row_with_cell, row_without_cell, rows_with_cell};
 
 use crate::column::{Column, ColumnRef};
 use crate::columns::{
-    clone_columns, drop_cells, make_columns, number_of, put_cells, reserve_each, take_cells,
+    clone_columns, drop_cells, make_columns, move_gaining, move_losing, number_for, number_of,
+    put_cells, reserve_each, take_cells,
 };
+use crate::entities::move_entity;
 use scene_kinds::{Cell, CellRef, Cells, Entity, KindSet, Row, has_kind};
 use std::alloc::{AllocError, AllocFailed, Global};
 use std::marker::Model;
@@ -65,6 +67,7 @@ impl Table {
     pub fn len(&self) -> usize
         ensures count { result ≡ length self.now.rows }
         ensures kinds { AllHave self.now.mask self.now.rows }
+        ensures fits { length self.now.rows ≤ self.now.capacity }
     {
         self.entities.len()
     }
@@ -213,6 +216,7 @@ impl Table {
         ensures ok { OnOk result (self.new.rows ≡ swap_out self.old.rows at) }
         ensures err { OnErr result (self.new.rows ≡ self.old.rows) }
         ensures capacity { self.new.capacity ≡ self.old.capacity }
+        ensures behind { OnOk result (HasRoom self.new) }
     {
         let room = Vec::with_capacity(*self.entities.allocator(), self.columns.len())?;
         Ok(self.swap_remove_into(at, room))
@@ -229,6 +233,7 @@ impl Table {
         ensures fits { HasKinds self.old.mask result }
         ensures rows { self.new.rows ≡ swap_out self.old.rows at }
         ensures capacity { self.new.capacity ≡ self.old.capacity }
+        ensures behind { HasRoom self.new }
     {
         let cells = take_cells(&mut self.columns, at, room);
         Row {
@@ -244,6 +249,7 @@ impl Table {
         ensures mask { self.new.mask ≡ self.old.mask }
         ensures rows { self.new.rows ≡ swap_out self.old.rows at }
         ensures capacity { self.new.capacity ≡ self.old.capacity }
+        ensures behind { HasRoom self.new }
     {
         drop_cells(&mut self.columns, at);
         self.entities.swap_remove(at);
@@ -301,6 +307,62 @@ impl Table {
             Some(number) => self.columns[number].set(at, cell),
             None => unreachable!(),
         }
+    }
+
+    /// Moves the row at a place to a place of the table that has one kind more, with a cell of that kind (docs/MODEL.md,
+    /// "The rule of moves"). Its other cells go with it, ticks included.
+    ///
+    /// Here the last row takes its place. There the row that stood at its place goes last; at the place behind the last
+    /// it just goes there. It takes no memory, since there must be room in the other table, and leaves the room of the
+    /// row behind. It costs a walk over the row's cells.
+    pub fn move_with(&mut self, at: usize, target: &mut Table, to: usize, kind: u8, cell: Cell)
+        requires within { at < length self.old.rows }
+        requires place { to ≤ length target.old.rows }
+        requires low { kind < 64 }
+        requires lacks { has_kind self.old.mask kind ≡ false }
+        requires kinds { target.old.mask ≡ set_with self.old.mask kind }
+        requires room { HasRoom target.old }
+        ensures mask { self.new.mask ≡ self.old.mask }
+        ensures rows { self.new.rows ≡ swap_out self.old.rows at }
+        ensures capacity { self.new.capacity ≡ self.old.capacity }
+        ensures behind { HasRoom self.new }
+        ensures target_mask { target.new.mask ≡ target.old.mask }
+        ensures target_rows { (row : Row) → slice_get self.old.rows at ≡ Some row → target.new.rows ≡ put_back target.old.rows to (row_with_cell row kind cell) }
+        ensures target_capacity { target.new.capacity ≡ target.old.capacity }
+    {
+        let number = number_for(self.columns.as_slice(), kind);
+        move_gaining(&mut self.columns, at, &mut target.columns, to, number, cell);
+        move_entity(&mut self.entities, at, &mut target.entities, to);
+    }
+
+    /// Moves the row at a place to a place of the table that has one kind less, and gives the cell of that kind
+    /// (docs/MODEL.md, "The rule of moves"). It takes back what `move_with` did at those places, and the reverse.
+    ///
+    /// The rows of both tables change places as in `move_with`. It takes no memory, since there must be room in the other
+    /// table, and leaves the room of the row behind. It costs a walk over the row's cells.
+    pub fn move_without(&mut self, at: usize, target: &mut Table, to: usize, kind: u8) -> Cell
+        requires within { at < length self.old.rows }
+        requires place { to ≤ length target.old.rows }
+        requires low { kind < 64 }
+        requires has { has_kind self.old.mask kind ≡ true }
+        requires kinds { target.old.mask ≡ set_without self.old.mask kind }
+        requires room { HasRoom target.old }
+        ensures mask { self.new.mask ≡ self.old.mask }
+        ensures rows { self.new.rows ≡ swap_out self.old.rows at }
+        ensures capacity { self.new.capacity ≡ self.old.capacity }
+        ensures behind { HasRoom self.new }
+        ensures cell { cell_at self.old.rows at kind ≡ Some result }
+        ensures target_mask { target.new.mask ≡ target.old.mask }
+        ensures target_rows { (row : Row) → slice_get self.old.rows at ≡ Some row → target.new.rows ≡ put_back target.old.rows to (row_without_cell row kind) }
+        ensures target_capacity { target.new.capacity ≡ target.old.capacity }
+    {
+        let number = match number_of(self.columns.as_slice(), kind) {
+            Some(number) => number,
+            None => unreachable!(),
+        };
+        let cell = move_losing(&mut self.columns, at, &mut target.columns, to, number);
+        move_entity(&mut self.entities, at, &mut target.entities, to);
+        cell
     }
 
     /// A table with equal rows and kinds, or an error where no memory was found. It costs a copy of all rows.
