@@ -24,7 +24,7 @@ pub use command::{Command, Given};
 pub use form::Form;
 pub use line::first_line;
 pub use number::{read_count, read_entity, read_number};
-pub use print::{write_cell, write_json_text, write_row, write_value};
+pub use print::{write_cell, write_json_text, write_row_cell, write_row_head, write_value};
 pub use script_line::{Line, read_line};
 pub use slot_limit::SlotLimit;
 pub use target::{TargetWord, read_target};

@@ -67,6 +67,7 @@ impl Table {
     pub fn len(&self) -> usize
         ensures count { result ≡ length self.now.rows }
         ensures kinds { AllHave self.now.mask self.now.rows }
+        ensures fits { length self.now.rows ≤ self.now.capacity }
     {
         self.entities.len()
     }
@@ -215,6 +216,7 @@ impl Table {
         ensures ok { OnOk result (self.new.rows ≡ swap_out self.old.rows at) }
         ensures err { OnErr result (self.new.rows ≡ self.old.rows) }
         ensures capacity { self.new.capacity ≡ self.old.capacity }
+        ensures behind { OnOk result (HasRoom self.new) }
     {
         let room = Vec::with_capacity(*self.entities.allocator(), self.columns.len())?;
         Ok(self.swap_remove_into(at, room))
@@ -231,6 +233,7 @@ impl Table {
         ensures fits { HasKinds self.old.mask result }
         ensures rows { self.new.rows ≡ swap_out self.old.rows at }
         ensures capacity { self.new.capacity ≡ self.old.capacity }
+        ensures behind { HasRoom self.new }
     {
         let cells = take_cells(&mut self.columns, at, room);
         Row {
@@ -246,6 +249,7 @@ impl Table {
         ensures mask { self.new.mask ≡ self.old.mask }
         ensures rows { self.new.rows ≡ swap_out self.old.rows at }
         ensures capacity { self.new.capacity ≡ self.old.capacity }
+        ensures behind { HasRoom self.new }
     {
         drop_cells(&mut self.columns, at);
         self.entities.swap_remove(at);
@@ -305,9 +309,12 @@ impl Table {
         }
     }
 
-    /// Moves the row at a place to a place of the table that has one kind more, with a cell of that kind. Here the last
-    /// row takes its place; there the row that stood at its place goes last. It takes no memory, since there must be room
-    /// in the other table, and leaves the room of the row behind. It costs the row's cells.
+    /// Moves the row at a place to a place of the table that has one kind more, with a cell of that kind (docs/MODEL.md,
+    /// "The rule of moves"). Its other cells go with it, ticks included.
+    ///
+    /// Here the last row takes its place. There the row that stood at its place goes last; at the place behind the last
+    /// it just goes there. It takes no memory, since there must be room in the other table, and leaves the room of the
+    /// row behind. It costs a walk over the row's cells.
     pub fn move_with(&mut self, at: usize, target: &mut Table, to: usize, kind: u8, cell: Cell)
         requires within { at < length self.old.rows }
         requires place { to ≤ length target.old.rows }
@@ -318,6 +325,7 @@ impl Table {
         ensures mask { self.new.mask ≡ self.old.mask }
         ensures rows { self.new.rows ≡ swap_out self.old.rows at }
         ensures capacity { self.new.capacity ≡ self.old.capacity }
+        ensures behind { HasRoom self.new }
         ensures target_mask { target.new.mask ≡ target.old.mask }
         ensures target_rows { (row : Row) → slice_get self.old.rows at ≡ Some row → target.new.rows ≡ put_back target.old.rows to (row_with_cell row kind cell) }
         ensures target_capacity { target.new.capacity ≡ target.old.capacity }
@@ -327,9 +335,11 @@ impl Table {
         move_entity(&mut self.entities, at, &mut target.entities, to);
     }
 
-    /// Moves the row at a place to a place of the table that has one kind less, and gives the cell of that kind. Here the
-    /// last row takes its place; there the row that stood at its place goes last. It takes no memory, since there must be
-    /// room in the other table, and leaves the room of the row behind. It costs the row's cells.
+    /// Moves the row at a place to a place of the table that has one kind less, and gives the cell of that kind
+    /// (docs/MODEL.md, "The rule of moves"). It takes back what `move_with` did at those places, and the reverse.
+    ///
+    /// The rows of both tables change places as in `move_with`. It takes no memory, since there must be room in the other
+    /// table, and leaves the room of the row behind. It costs a walk over the row's cells.
     pub fn move_without(&mut self, at: usize, target: &mut Table, to: usize, kind: u8) -> Cell
         requires within { at < length self.old.rows }
         requires place { to ≤ length target.old.rows }
@@ -340,6 +350,7 @@ impl Table {
         ensures mask { self.new.mask ≡ self.old.mask }
         ensures rows { self.new.rows ≡ swap_out self.old.rows at }
         ensures capacity { self.new.capacity ≡ self.old.capacity }
+        ensures behind { HasRoom self.new }
         ensures cell { cell_at self.old.rows at kind ≡ Some result }
         ensures target_mask { target.new.mask ≡ target.old.mask }
         ensures target_rows { (row : Row) → slice_get self.old.rows at ≡ Some row → target.new.rows ≡ put_back target.old.rows to (row_without_cell row kind) }

@@ -38,3 +38,4 @@ pub mod SpawnKeeps
 pub mod Stored
 pub mod Rooms
 pub mod TakenSlots
+pub mod TwoTables

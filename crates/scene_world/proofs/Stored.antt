@@ -11,9 +11,7 @@ use Rattle.scene_kinds.specs.Lists.{whole, listed}
 use Rattle.scene_kinds.specs.Map as map
 use Rattle.scene_kinds.proofs.Lists.{list_at_same, list_at_apart, with_list-with_list, with_list_apart, get-with_list}
 use Rattle.scene_kinds.proofs.Maps.{same_map}
-use Rattle.scene_table.specs.Rows.{swap_out}
-use Rattle.scene_table.specs.Table.{TableState, HasRoom}
-use Rattle.scene_table.proofs.Swaps.{length-swap_out}
+use Rattle.scene_table.specs.Table.{TableState}
 use Rattle.scene_world.specs.World.{Tables, rows_at, with_rows}
 use Rattle.scene_world.specs.KindTables.{tables_of, IsFirstOf, StandsAt, NoneHas, AreApart}
 use Rattle.scene_world.specs.Stored.{HasRoomAt}
@@ -131,22 +129,6 @@ apart_appended (t ∷ ts) new h a = (none_appended t.mask ts new (λ e. h.0 (sym
 pub room_made : {E : Type 0} (ts : List TableState) (mask i : ℕ) (d new : TableState) (r : Result (Unit {0}) E) → StandsAt ts mask i → new.mask ≡ (slice_index_or ts i d).mask → OnOk r (length new.rows + 1 ≤ new.capacity) → IfOk r (λ _. HasRoomAt (slice_set ts i new) mask i)
 room_made ts mask i d new (Ok x) h e o = record { stands = stands_kept ts i d new e mask i h; room = λ z. let within : i < length ts = h.within in rw get_or-set_same (omega arith) }
 room_made ts mask i d new (Err x) h e o = tt
-
-room_at : (ts : List TableState) (i : ℕ) (d new : TableState) → (HasRoom (slice_index_or ts i d) → HasRoom new) → (p : ℕ) (z : TableState) → HasRoom (slice_index_or ts p z) → HasRoom (slice_index_or (slice_set ts i new) p z)
-room_at [] i d new f p z h = h
-room_at (t ∷ ts) zero d new f zero z h = f h
-room_at (t ∷ ts) zero d new f (suc p) z h = h
-room_at (t ∷ ts) (suc i) d new f zero z h = h
-room_at (t ∷ ts) (suc i) d new f (suc p) z h = room_at ts i d new f p z h
-
--- a table that lost a row leaves each room that was there
-pub rooms_kept : (ts : List TableState) (i at : ℕ) (d new : TableState) → d ≡ slice_index_or ts i d → at < length d.rows → new.mask ≡ d.mask → new.rows ≡ swap_out d.rows at → new.capacity ≡ d.capacity → (m p : ℕ) → HasRoomAt ts m p → HasRoomAt (slice_set ts i new) m p
-rooms_kept ts i at d new e within mask rows capacity m p h =
-    let left : HasRoom d → HasRoom new = λ r. omega (arith, length-swap_out d.rows at within, ap length rows, capacity, r) in
-    record {
-      stands = stands_kept ts i d new (mask ∙ ap (λ t. t.mask) e) m p h.stands;
-      room = λ z. room_at ts i d new (λ r. left (subst HasRoom (sym e) r)) p z (h.room z);
-    }
 
 -- the rows that are seen of a table that stands at an index
 pub rows_there : (ts : List TableState) (mask i : ℕ) (d : TableState) → StandsAt ts mask i → d ≡ slice_index_or ts i d → rows_at (tables_of ts) mask ≡ d.rows

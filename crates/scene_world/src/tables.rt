@@ -109,22 +109,6 @@ pub(crate) fn put_row(tables: &mut Vec<Table>, at: usize, row: Row)
     tables[at].push_row_reserved(row);
 }
 
-/// Takes out the row at a home, by the index of its table, its cells in an empty list that has room for them. It takes
-/// no memory.
-pub(crate) fn take_row(tables: &mut Vec<Table>, at: usize, home: Home, room: Vec<(u8, Cell)>) -> Row
-    requires stands { StandsAt tables.old.items home.mask at }
-    requires within { home.place < length (rows_at (tables_of tables.old.items) home.mask) }
-    requires empty { room.items ≡ [] }
-    requires room { (row : Row) → row_at (tables_of tables.old.items) home ≡ Some row → length row.cells ≤ vec_capacity room }
-    ensures row { row_at (tables_of tables.old.items) home ≡ Some result }
-    ensures fits { HasKinds home.mask result }
-    ensures rows { tables_of tables.new.items ≡ without_row (tables_of tables.old.items) home }
-    ensures apart { AreApart tables.old.items → AreApart tables.new.items }
-    ensures rooms { (m i : ℕ) → HasRoomAt tables.old.items m i → HasRoomAt tables.new.items m i }
-{
-    tables[at].swap_remove_into(home.place, room)
-}
-
 /// Drops the row at a home, by the index of its table. It takes no memory.
 pub(crate) fn drop_row(tables: &mut Vec<Table>, at: usize, home: Home)
     requires stands { StandsAt tables.old.items home.mask at }
@@ -171,16 +155,6 @@ pub(crate) fn cell_there(tables: &[Table], home: Home, kind: u8) -> Option<CellR
 {
     let at = table_there(tables, home.mask);
     tables[at].cell(home.place, kind)
-}
-
-/// How many cells the row at a home has.
-pub(crate) fn cells_there(tables: &[Table], home: Home) -> usize
-    requires { home.place < length (rows_at (tables_of tables.now) home.mask) }
-    ensures count { option_map (λ row. length row.cells) (row_at (tables_of tables.now) home) ≡ Some result }
-    ensures small { result < 2 ^ 63 }
-{
-    let at = table_there(tables, home.mask);
-    tables[at].cell_count(home.place)
 }
 
 /// The added tick of the cell of a kind in the row at a home, or `None` where the row doesn't have that kind.
