@@ -5,7 +5,7 @@ use Rattle.std.proofs.lemmas.List.{take_more, take_all}
 use Rattle.std.proofs.lemmas.List.Elements.{AllZip-push}
 use Rattle.scene_table.specs.Table.{TableState}
 use Rattle.scene_world.specs.World.{with_rows}
-use Rattle.scene_world.specs.KindTables.{tables_of, NoneHas, AreApart}
+use Rattle.scene_world.specs.KindTables.{tables_of, masks_in, NoneHas, AreApart}
 
 -- a table has another one's kind set and rows
 pub record IsCopy (t u : TableState) : Type 0 where
@@ -41,3 +41,17 @@ copied_more ts us i t u l e h same =
 -- all are copied
 pub copied_all : (ts us : List TableState) (i : ℕ) → length ts ≤ i → AllZip IsCopy (take i ts) us → AllZip IsCopy ts us
 copied_all ts us i l h = subst (λ xs. AllZip IsCopy xs us) (take_all i ts l) h
+
+-- kind sets are copied too
+pub masks_copied : (ts us : List TableState) → AllZip IsCopy ts us → masks_in us ≡ masks_in ts
+masks_copied [] [] h = refl
+masks_copied [] (u ∷ us) h = absurd h
+masks_copied (t ∷ ts) [] h = absurd h
+masks_copied (t ∷ ts) (u ∷ us) h = λ i. h.0.mask i ∷ masks_copied ts us h.1 i
+
+-- a copy whose elements are equal is equal
+pub all_same : {X : Type 0} (xs ys : List X) → AllZip (λ x y. y ≡ x) xs ys → ys ≡ xs
+all_same [] [] h = refl
+all_same [] (y ∷ ys) h = absurd h
+all_same (x ∷ xs) [] h = absurd h
+all_same (x ∷ xs) (y ∷ ys) h = λ i. h.0 i ∷ all_same xs ys h.1 i

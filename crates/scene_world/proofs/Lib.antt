@@ -39,3 +39,4 @@ pub mod Stored
 pub mod Rooms
 pub mod TakenSlots
 pub mod TwoTables
+pub mod WrittenHomes

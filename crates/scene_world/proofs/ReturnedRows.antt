@@ -46,6 +46,15 @@ replaced_stays (y ∷ ys) zero x (suc p) r h = (suc p, pushed_stays ys y p r h)
 replaced_stays (y ∷ ys) (suc i) x zero r h = (0, h)
 replaced_stays (y ∷ ys) (suc i) x (suc p) r h = let k = replaced_stays ys i x p r h in (suc k.0, k.1)
 
+-- at its place, or, where one was put there, at the end
+replaced_where : {X : Type 0} (P : Type 0) (xs : List X) (i : ℕ) (x : X) (p : ℕ) (r : X) → slice_get xs p ≡ Some r
+    → ((p ≡ i → ⊥) → slice_get (put_back xs i x) p ≡ Some r → P) → (p ≡ i → slice_get (put_back xs i x) (length xs) ≡ Some r → P) → P
+replaced_where P [] i x p r h stays moved = absurd (let k : None ≡ Some r = h in cc)
+replaced_where P (y ∷ ys) zero x zero r h stays moved = moved refl (pushed_last ys y ∙ h)
+replaced_where P (y ∷ ys) zero x (suc p) r h stays moved = stays (λ e. omega arith) (pushed_stays ys y p r h)
+replaced_where P (y ∷ ys) (suc i) x zero r h stays moved = stays (λ e. omega arith) h
+replaced_where P (y ∷ ys) (suc i) x (suc p) r h stays moved = replaced_where P ys i x p r h (λ ne k. stays (λ e. ne (omega arith)) k) (λ e k. moved (ap suc e) k)
+
 -- one that was put last leaves
 swap_out_pushed : {X : Type 0} (xs : List X) (x : X) → swap_out (xs ++ x ∷ []) (length xs) ≡ xs
 swap_out_pushed [] x = refl
@@ -149,6 +158,22 @@ returned_stays t place row g r is =
           let k = replaced_stays (rows_at t (mask_of row.cells)) place row g.place r (in_list t (mask_of row.cells) g r s is) in
           (home_for row.cells k.0, there_written t (mask_of row.cells) (put_back (rows_at t (mask_of row.cells)) place row) (home_for row.cells k.0) r refl k.1)
       | false ↦ λ e. (g, there_apart t (mask_of row.cells) (put_back (rows_at t (mask_of row.cells)) place row) g r (apart _ (mask_of row.cells) e) is)
+    ] refl
+
+-- at its home, or, where the one that came back stands there, at the end of the list
+pub returned_where : (P : Type 0) (t : Tables) (place : ℕ) (row : Row) (g : Home) (r : Row) → row_at t g ≡ Some r
+    → ((g ≡ home_for row.cells place → ⊥) → row_at (with_row_back t place row) g ≡ Some r → P)
+    → (g ≡ home_for row.cells place → row_at (with_row_back t place row) (home_for row.cells (length (rows_at t (mask_of row.cells)))) ≡ Some r → P) → P
+returned_where P t place row g r is stays moved =
+    let m = mask_of row.cells in
+    let after = put_back (rows_at t (mask_of row.cells)) place row in
+    elim (eq_by_cmp nat_cmp g.mask (mask_of row.cells)) as (λ b. eq_by_cmp nat_cmp g.mask (mask_of row.cells) ≡ b → P) [
+      | true ↦ λ e.
+          let s = equal_keys nat_cmp-IsAntisymmetric g.mask (mask_of row.cells) e in
+          replaced_where P (rows_at t (mask_of row.cells)) place row g.place r (in_list t (mask_of row.cells) g r s is)
+          (λ ne k. stays (λ f. ne (ap (λ x. x.place) f)) (there_written t (mask_of row.cells) after g r s k))
+          (λ f k. moved (same_home g (home_for row.cells place) s f) (there_written t (mask_of row.cells) after (home_for row.cells (length (rows_at t (mask_of row.cells)))) r refl k))
+      | false ↦ λ e. stays (λ f. apart g.mask (mask_of row.cells) e (ap (λ x. x.mask) f)) (there_apart t (mask_of row.cells) after g r (apart g.mask (mask_of row.cells) e) is)
     ] refl
 
 -- everybody lives on

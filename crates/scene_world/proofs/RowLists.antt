@@ -1,5 +1,7 @@
 -- A list of rows after a swap out: which row stands where, told by cases.
-use Rattle.std.proofs.Common.{◌≡◌, ℕ, zero, suc, ◌<◌, List, [], ◌∷◌, length, refl, ap, ◌∙◌, arith, Some, None}
+use Rattle.std.proofs.Common.{◌≡◌, ℕ, zero, suc, ◌<◌, true, false, List, [], ◌∷◌, length, refl, ap, sym, ◌∙◌, arith, Some, None, nat_lt}
+use Rattle.std.proofs.lemmas.Bool.{ltb-true, ltb-false}
+use Rattle.std.proofs.lemmas.Option.{slice_get_within}
 use Rattle.std.specs.Prelude.{slice_get}
 use Rattle.scene_table.specs.Rows.{swap_out, last_of, front_of}
 
@@ -56,3 +58,21 @@ swapped_stays (x ∷ y ∷ ys) zero (suc p) r l ne h = last_or_front y ys p r h
 swapped_stays (x ∷ xs) (suc i) zero r l ne h = (0, h)
 swapped_stays (x ∷ xs) (suc i) (suc p) r l ne h =
     let k = swapped_stays xs i p r (omega arith) (λ e. ne (ap (λ n. suc n) e)) h in (suc k.0, k.1)
+
+-- it stands on at its place, or it was the last and stands where the one left
+pub swapped_where : {X : Type 0} (P : Type 0) (xs : List X) (i p : ℕ) (r : X) → i < length xs → (p ≡ i → ⊥) → slice_get xs p ≡ Some r
+    → (slice_get (swap_out xs i) p ≡ Some r → P) → (slice_get (swap_out xs i) i ≡ Some r → P) → P
+swapped_where P [] i p r l ne h stays came = absurd (omega arith)
+swapped_where P (x ∷ xs) zero zero r l ne h stays came = absurd (ne refl)
+swapped_where P (x ∷ []) zero (suc p) r l ne h stays came = absurd (let k : None ≡ Some r = h in cc)
+swapped_where P (x ∷ y ∷ ys) zero (suc p) r l ne h stays came =
+    elim (nat_lt p (length ys)) as (λ b. nat_lt p (length ys) ≡ b → P) [
+      | true ↦ λ e. stays (front_stays y ys p r (ltb-true p (length ys) e) h)
+      | false ↦ λ e.
+          let within = slice_get_within (y ∷ ys) p r h in
+          let low = ltb-false p (length ys) e in
+          let q : p ≡ length ys = omega (arith, within, low) in
+          came (sym (get_last y ys) ∙ ap (slice_get (y ∷ ys)) (sym q) ∙ h)
+    ] refl
+swapped_where P (x ∷ xs) (suc i) zero r l ne h stays came = stays h
+swapped_where P (x ∷ xs) (suc i) (suc p) r l ne h stays came = swapped_where P xs i p r (omega arith) (λ e. ne (ap suc e)) h stays came

@@ -15,7 +15,7 @@ use Rattle.scene_world.specs.declared.home.Home.{Home}
 use Rattle.scene_world.specs.World.{Tables, rows_at, with_rows, row_at, with_row, without_row, with_row_at}
 use Rattle.scene_world.specs.Valid.{EachRow, StandsOnce}
 use Rattle.scene_kinds.proofs.Elements.{pushed, pushed_stays, pushed_last, written, written_stays, written_there}
-use Rattle.scene_world.proofs.RowLists.{swapped, swapped_stays}
+use Rattle.scene_world.proofs.RowLists.{swapped, swapped_stays, swapped_where}
 
 -- what stands at a home after the rows of a kind set were written
 pub row_at-with_rows : (t : Tables) (m : ℕ) (rows : List Row) (h : Home) → row_at (with_rows t m rows) h ≡ cond (eq_by_cmp nat_cmp h.mask m) (slice_get rows h.place) (row_at t h)
@@ -151,6 +151,19 @@ removed_stays t h gone g r at ne is =
           let k = swapped_stays (rows_at t h.mask) h.place g.place r (slice_get_within (rows_at t h.mask) h.place gone at) (λ f. ne (same_home g h s f)) (in_list t h.mask g r s is) in
           (record { mask = h.mask; place = k.0 }, there_written t h.mask (swap_out (rows_at t h.mask) h.place) (record { mask = h.mask; place = k.0 }) r refl k.1)
       | false ↦ λ e. (g, there_apart t h.mask (swap_out (rows_at t h.mask) h.place) g r (apart _ h.mask e) is)
+    ] refl
+
+-- at its home, or, where it was the last, at the home that was left
+pub removed_where : (P : Type 0) (t : Tables) (h : Home) (gone : Row) (g : Home) (r : Row) → row_at t h ≡ Some gone → (g ≡ h → ⊥) → row_at t g ≡ Some r
+    → (row_at (without_row t h) g ≡ Some r → P) → (row_at (without_row t h) h ≡ Some r → P) → P
+removed_where P t h gone g r at ne is stays came =
+    elim (eq_by_cmp nat_cmp g.mask h.mask) as (λ b. eq_by_cmp nat_cmp g.mask h.mask ≡ b → P) [
+      | true ↦ λ e.
+          let s = equal_keys nat_cmp-IsAntisymmetric g.mask h.mask e in
+          swapped_where P (rows_at t h.mask) h.place g.place r (slice_get_within (rows_at t h.mask) h.place gone at) (λ f. ne (same_home g h s f)) (in_list t h.mask g r s is)
+          (λ k. stays (there_written t h.mask (swap_out (rows_at t h.mask) h.place) g r s k))
+          (λ k. came (there_written t h.mask (swap_out (rows_at t h.mask) h.place) h r refl k))
+      | false ↦ λ e. stays (there_apart t h.mask (swap_out (rows_at t h.mask) h.place) g r (apart _ h.mask e) is)
     ] refl
 
 -- ---- a row written

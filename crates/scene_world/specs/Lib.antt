@@ -10,6 +10,7 @@ pub mod Examples
 pub mod Valid
 pub mod Laws
 pub mod KindTables
+pub mod Archetypes
 pub mod Stored
 pub mod Onto
 pub mod Raw

@@ -1,5 +1,5 @@
 //! The tables of a world by kind set.
-ghost use Rattle.std.specs.Prelude.{◌≡◌, ◌<◌, ◌≤◌, ◌^◌, ◌++◌, ◌∷◌, [], ℕ, length, Some, OnOk, OnErr, IfOk, IfSome, IfNone, IsOk, IsSome, nat_eq, true, false, vec_capacity, map as each};
+ghost use Rattle.std.specs.Prelude.{◌≡◌, ◌<◌, ◌≤◌, ◌^◌, ◌++◌, ◌∷◌, [], ℕ, length, Some, OnOk, OnErr, IfOk, IfSome, IfNone, IsOk, IsSome, slice_get, true, false, vec_capacity, map as each};
 ghost use Rattle.std.specs.List.{position_from};
 ghost use Rattle.std.specs.Option.{option_map};
 ghost use Rattle.scene_kinds.specs.Cells.{HasKinds, mask_of, shown};
@@ -12,7 +12,9 @@ ghost use Rattle.scene_table.specs.Table.{TableState, cell_at, row_with_cell, ro
 ghost use Rattle.scene_world.specs.World.{Tables, rows_at, row_at, with_rows, with_row, without_row, masks_of};
 ghost use Rattle.scene_world.specs.KindTables.{TablesState, AreListed, NoneHas, StandsAt, IsKnown, HasRoomFor, IsWider, IsWithin, tables_of, rooms_of};
 
+use crate::clones::clone_tables;
 use crate::home::Home;
+use crate::kind_sets::{kind_sets_of, tables_by_kind_set};
 use indexmap::IndexSet;
 use scene_kinds::{Cell, CellRef, Entity, KindSet, Row, set_with, set_without};
 use scene_table::Table;
@@ -87,6 +89,13 @@ fn add_table(
     kind_sets.insert(mask)?;
     tables.push_reserved(Table::new(alloc, mask));
     Ok(())
+}
+
+/// The entity at a place of a list.
+fn entity_in(entities: &[Entity], place: usize) -> Option<Entity>
+    ensures { result ≡ slice_get entities.now place }
+{
+    entities.get(place).copied()
 }
 
 impl KindTables {
@@ -224,6 +233,24 @@ impl KindTables {
         cell
     }
 
+    /// How many rows of a kind set there are.
+    pub(crate) fn len(&self, mask: KindSet) -> usize
+        ensures { result ≡ length (rows_at self.now.tables mask) }
+    {
+        match find_table(&self.kind_sets, self.tables.as_slice(), mask) {
+            Some(at) => self.tables[at].len(),
+            None => 0,
+        }
+    }
+
+    /// The entity whose row stands at a home, or `None` where no row does.
+    pub(crate) fn entity_at(&self, home: Home) -> Option<Entity>
+        ensures { result ≡ option_map (λ row. row.entity) (row_at self.now.tables home) }
+    {
+        let at = find_table(&self.kind_sets, self.tables.as_slice(), home.mask)?;
+        entity_in(self.tables[at].entities(), home.place)
+    }
+
     /// The table of a kind set that has rows, or `None` where it has none.
     pub(crate) fn table(&self, mask: KindSet) -> Option<&Table>
         ensures rows { option_map (λ table. table.now.rows) result ≡ option_map whole (map.get self.now.tables mask) }
@@ -242,5 +269,32 @@ impl KindTables {
     {
         let at = known_table(&self.kind_sets, self.tables.as_slice(), home.mask);
         &self.tables[at]
+    }
+
+    /// The tables that have rows, ascending by kind set, or an error where no memory was found. It costs the number of
+    /// tables times its logarithm.
+    pub(crate) fn in_order(&self) -> Result<Vec<&Table>, AllocError>
+        ensures masks { IfOk result (λ tables. each (λ t. t.now.mask) tables.items ≡ masks_of self.now.tables) }
+        ensures rows { IfOk result (λ tables. each (λ t. t.now.rows) tables.items ≡ each (rows_at self.now.tables) (masks_of self.now.tables)) }
+    {
+        tables_by_kind_set(self.alloc, self.tables.as_slice())
+    }
+
+    /// The kind sets that have rows, ascending, at the same cost.
+    pub(crate) fn kind_sets(&self) -> Result<Vec<KindSet>, AllocError>
+        ensures { IfOk result (λ sets. sets.items ≡ masks_of self.now.tables) }
+    {
+        kind_sets_of(self.alloc, self.tables.as_slice())
+    }
+
+    /// Tables with equal rows, or an error where no memory was found. It costs a copy of all rows.
+    pub(crate) fn try_clone(&self) -> Result<KindTables, AllocError>
+        ensures { IfOk result (λ copy. copy.tables ≡ self.now.tables) }
+    {
+        Ok(KindTables {
+            alloc: self.alloc,
+            kind_sets: self.kind_sets.clone()?,
+            tables: clone_tables(self.alloc, self.tables.as_slice())?,
+        })
     }
 }

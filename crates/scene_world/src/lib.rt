@@ -11,6 +11,7 @@
 //! `raw_laws` says that each keeps a valid world valid and is taken back exactly.
 #![tactic(auto)]
 
+mod archetypes;
 mod clones;
 mod examples;
 mod given;

@@ -1,6 +1,6 @@
 use Rattle.std.proofs.Common.{◌+◌, take, subst, sym}
 use Rattle.std.specs.List.{AllZip}
-use Rattle.scene_world.proofs.Copies.{IsCopy, copied_more, copied_all, tables_of_copies, apart_copies}
+use Rattle.scene_world.proofs.Copies.{IsCopy, copied_more, copied_all, tables_of_copies, apart_copies, masks_copied}
 use Rattle.scene_world.proofs.clones.clone_tables.Goals as goal
 
 pub loop-table-preserved : goal.loop-table-preserved
@@ -16,3 +16,7 @@ returns-clause-seen c =
 pub returns-clause-apart : goal.returns-clause-apart
 returns-clause-apart c =
     apart_copies c.args.tables.now c.loop-table.copies.items (copied_all c.args.tables.now c.loop-table.copies.items c.loop-table.table-index c.loop-table-test.false c.loop-table.invariant)
+
+pub returns-clause-masks : goal.returns-clause-masks
+returns-clause-masks c =
+    masks_copied c.args.tables.now c.loop-table.copies.items (copied_all c.args.tables.now c.loop-table.copies.items c.loop-table.table-index c.loop-table-test.false c.loop-table.invariant)
