@@ -91,7 +91,9 @@ impl Firsts {
 
     /// `Links::relink`, or false where the child has a parent or children, or may not go there.
     pub fn relink(&mut self, child: u32, parent: u32, place: usize) -> Result<bool, AllocError>
-        ensures { IfOk result (λ put. MatchBool put (self.new.forest ≡ joined_at self.old.forest (examples.first child) (examples.first parent) place) (self.new ≡ self.old)) }
+        ensures { IfOk result (λ put. MatchBool put
+            (self.new.forest ≡ joined_at self.old.forest (examples.first child) (examples.first parent) place)
+            (self.new ≡ self.old)) }
     {
         let (child, parent) = (first(child), first(parent));
         if !self.may_come(child, parent, place) {
@@ -103,7 +105,9 @@ impl Firsts {
 
     /// `Links::reserve` and `link_reserved`, or false where the child has a parent or children, or may not go there.
     pub fn link_in_steps(&mut self, child: u32, parent: u32) -> Result<bool, AllocError>
-        ensures { IfOk result (λ put. MatchBool put (self.new.forest ≡ joined (cut self.old.forest (examples.first child)) (examples.first child) (examples.first parent)) (self.new ≡ self.old)) }
+        ensures { IfOk result (λ put. MatchBool put
+            (self.new.forest ≡ joined (cut self.old.forest (examples.first child)) (examples.first child) (examples.first parent))
+            (self.new ≡ self.old)) }
     {
         let (child, parent) = (first(child), first(parent));
         if !self.may_come(child, parent, 0) {
