@@ -10,10 +10,10 @@ ghost use Rattle.scene_app.specs.Steps.{Replies};
 
 use crate::listed::write_listed;
 use crate::play_state::PlayState;
-use crate::show::{row_of, write_show};
+use crate::show::{row_of, write_row, write_show};
 use scene_kinds::{Entity, Fault, Refusal};
 use scene_pass::{Filter, added_since, changed_since};
-use scene_script::{BadLine, Command, Line, write_row};
+use scene_script::{BadLine, Command, Line};
 use scene_world::World;
 use std::alloc::{AllocError, Global};
 
@@ -97,8 +97,8 @@ fn answer_get(
 {
     match row_of(world, entity) {
         None => write_refused(out, Refusal::from(Fault::NoSuchEntity)),
-        Some(row) => {
-            write_row(alloc, out, world.schema(), row)?;
+        Some((table, at)) => {
+            write_row(alloc, out, world.schema(), table, at)?;
             out.push('\n')
         }
     }

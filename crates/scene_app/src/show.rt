@@ -1,15 +1,18 @@
 //! The printed text of a whole world.
-ghost use Rattle.std.specs.Prelude.{◌≡◌, ◌++◌, ◌<◌, OnOk, IfOk, map, string_bytes, option_map};
+ghost use Rattle.std.specs.Prelude.{◌≡◌, ◌++◌, ◌<◌, OnOk, IfOk, Some, length, map, slice_get, string_bytes, option_map};
+ghost use Rattle.scene_kinds.specs.declared.cells.Row.{Row};
 ghost use Rattle.scene_world.specs.World.{kind_sets, rows_at, row_of};
 ghost use Rattle.scene_links.specs.Forest.{parents};
 ghost use Rattle.scene_resources.specs.Resources.{cell_of};
+ghost use Rattle.scene_script.specs.Printed.{cells_text, row_text};
 ghost use Rattle.scene_app.specs.Shown.{numbers_text, names_from, more_names, names_text, rows_text, table_text, tables_text, entities_text, link_text, links_text, resource_text, resources_text, head_text, show_text};
 ghost use Rattle.scene_app.specs.ShowSteps.{name_in, one_name, one_resource, named_text};
 
-use scene_kinds::{Cell, Entity, Row, Schema, has_kind};
+use scene_kinds::{Cell, Entity, Schema, has_kind};
 use scene_links::Links;
 use scene_resources::Resources;
-use scene_script::{write_cell, write_row};
+use scene_script::{write_cell, write_row_cell, write_row_head};
+use scene_table::Table;
 use scene_world::World;
 use std::alloc::{AllocError, Global};
 
@@ -83,29 +86,67 @@ fn write_names(out: &mut String, names: &[&str]) -> Result<(), AllocError>
     }
 }
 
-/// Adds rows, a line each.
+/// Adds the cells of the row at a place of a table, each after a space and with the name of its kind.
+fn write_row_cells(
+    alloc: Global,
+    out: &mut String,
+    schema: &Schema,
+    table: &Table,
+    at: usize,
+) -> Result<(), AllocError>
+    requires { at < length table.now.rows }
+    ensures { OnOk result ((row : Row) → slice_get table.now.rows at ≡ Some row → string_bytes out.new ≡ string_bytes out.old ++ cells_text schema.now row.cells) }
+{
+    'cells: for number in 0..table.cell_count(at) {
+        let (kind, cell) = table.nth_cell(at, number);
+        write_row_cell(alloc, out, schema, kind, cell)?;
+    }
+    Ok(())
+}
+
+/// Adds the row at a place of a table. It adds no line feed.
+pub(crate) fn write_row(
+    alloc: Global,
+    out: &mut String,
+    schema: &Schema,
+    table: &Table,
+    at: usize,
+) -> Result<(), AllocError>
+    requires { at < length table.now.rows }
+    ensures { OnOk result ((row : Row) → slice_get table.now.rows at ≡ Some row → string_bytes out.new ≡ string_bytes out.old ++ row_text schema.now row) }
+{
+    write_row_head(out, table.entity_at(at))?;
+    write_row_cells(alloc, out, schema, table, at)
+}
+
+/// Adds the rows of a table, a line each.
 fn write_rows(
     alloc: Global,
     out: &mut String,
     schema: &Schema,
-    rows: &[Row],
+    table: &Table,
 ) -> Result<(), AllocError>
-    ensures { OnOk result (string_bytes out.new ≡ string_bytes out.old ++ rows_text schema.now rows.now) }
+    ensures { OnOk result (string_bytes out.new ≡ string_bytes out.old ++ rows_text schema.now table.now.rows) }
 {
-    'rows: for row in rows {
-        write_row(alloc, out, schema, row)?;
+    'rows: for at in 0..table.len() {
+        write_row(alloc, out, schema, table, at)?;
         out.push('\n')?;
     }
     Ok(())
 }
 
-/// The rows of a kind set.
-fn rows_of(world: &World, mask: u64) -> &[Row]
-    ensures { result.now ≡ rows_at world.now.tables mask }
+/// Adds the rows of a kind set, a line each.
+fn write_rows_of(
+    alloc: Global,
+    out: &mut String,
+    world: &World,
+    mask: u64,
+) -> Result<(), AllocError>
+    ensures { OnOk result (string_bytes out.new ≡ string_bytes out.old ++ rows_text world.now.schema (rows_at world.now.tables mask)) }
 {
     match world.rows_of(mask) {
-        Some(table) => table.rows(),
-        None => &[],
+        Some(table) => write_rows(alloc, out, world.schema(), table),
+        None => Ok(()),
     }
 }
 
@@ -117,7 +158,7 @@ fn write_table(alloc: Global, out: &mut String, world: &World, mask: u64) -> Res
     out.push_str("table ")?;
     write_names(out, names.as_slice())?;
     out.push('\n')?;
-    write_rows(alloc, out, world.schema(), rows_of(world, mask))
+    write_rows_of(alloc, out, world, mask)
 }
 
 /// Adds tables.
@@ -256,11 +297,12 @@ pub(crate) fn write_show(alloc: Global, out: &mut String, world: &World) -> Resu
     write_resources(alloc, out, world.resources())
 }
 
-/// The row of an entity, or `None` where it isn't alive.
-pub(crate) fn row_of(world: &World, entity: Entity) -> Option<&Row>
-    ensures { option_map (λ row. row.now) result ≡ option_map (λ p. p.1) (row_of world.now entity) }
+/// The table and the place of an entity's row, or `None` where it isn't alive.
+pub(crate) fn row_of(world: &World, entity: Entity) -> Option<(&Table, usize)>
+    ensures { option_map (λ at. slice_get at.0.now.rows at.1) result ≡ option_map (λ p. Some p.1) (row_of world.now entity) }
 {
     let mask = world.mask_of(entity)?;
     let place = world.place_of(entity)?;
-    rows_of(world, mask).get(place as usize)
+    let table = world.rows_of(mask)?;
+    Some((table, place as usize))
 }

@@ -2,3 +2,4 @@ pub mod Bits
 pub mod KeptTables
 pub mod Listed
 pub mod Members
+pub mod RowSteps

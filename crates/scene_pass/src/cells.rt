@@ -1,13 +1,16 @@
 //! The cells of matching rows that were added or changed after a tick.
-ghost use Rattle.std.specs.Prelude.{◌≡◌, ◌++◌, IfOk, OnOk};
+ghost use Rattle.std.specs.Prelude.{◌≡◌, ◌<◌, ◌++◌, IfOk, OnOk, Some, length, slice_get};
 ghost use Rattle.std.specs.List.{flat_map};
+ghost use Rattle.scene_kinds.specs.Cells.{shown};
+ghost use Rattle.scene_kinds.specs.declared.cells.Row.{Row};
 ghost use Rattle.scene_pass.specs.Pass.{names_in, cells_where, changed_since, added_since};
 ghost use Rattle.scene_pass.specs.Since.{is_since};
 
 use crate::cell_name::CellName;
 use crate::filter::Filter;
 use crate::tables::matching_tables;
-use scene_kinds::{Cell, Row};
+use scene_kinds::CellRef;
+use scene_table::Table;
 use scene_world::World;
 use std::alloc::{AllocError, Global};
 
@@ -20,8 +23,8 @@ enum Since {
 
 impl Since {
     /// Whether a cell is listed. One of the very tick isn't.
-    fn lists(self, cell: &Cell) -> bool
-        ensures { result ≡ is_since self cell.now }
+    fn lists(self, cell: CellRef<'_>) -> bool
+        ensures { result ≡ is_since self (shown cell.entry) }
     {
         match self {
             Since::Added(tick) => cell.added > tick,
@@ -30,31 +33,36 @@ impl Since {
     }
 }
 
-/// Adds the names of a row's cells that are listed, by kind.
-fn push_names(names: &mut Vec<CellName>, row: &Row, since: Since) -> Result<(), AllocError>
-    ensures { OnOk result (names.new.items ≡ names.old.items ++ names_in (is_since since) row.now) }
+/// Adds the names of the cells that are listed of the row at a place of a table, by kind.
+fn push_names(
+    names: &mut Vec<CellName>,
+    table: &Table,
+    at: usize,
+    since: Since,
+) -> Result<(), AllocError>
+    requires { at < length table.now.rows }
+    ensures { OnOk result ((row : Row) → slice_get table.now.rows at ≡ Some row → names.new.items ≡ names.old.items ++ names_in (is_since since) row) }
 {
-    'cells: for (kind, cell) in row.cells.as_slice() {
+    let entity = table.entity_at(at);
+    'cells: for number in 0..table.cell_count(at) {
+        let (kind, cell) = table.nth_cell(at, number);
         if since.lists(cell) {
-            names.push(CellName {
-                entity: row.entity,
-                kind: *kind,
-            })?;
+            names.push(CellName { entity, kind })?;
         }
     }
     Ok(())
 }
 
-/// Adds the names of the cells of rows that are listed.
+/// Adds the names of the cells of a table's rows that are listed.
 fn push_names_of_rows(
     names: &mut Vec<CellName>,
-    rows: &[Row],
+    table: &Table,
     since: Since,
 ) -> Result<(), AllocError>
-    ensures { OnOk result (names.new.items ≡ names.old.items ++ flat_map (names_in (is_since since)) rows.now) }
+    ensures { OnOk result (names.new.items ≡ names.old.items ++ flat_map (names_in (is_since since)) table.now.rows) }
 {
-    'rows: for row in rows {
-        push_names(names, row, since)?;
+    'rows: for at in 0..table.len() {
+        push_names(names, table, at, since)?;
     }
     Ok(())
 }
@@ -71,7 +79,7 @@ fn cells_since(
     let tables = matching_tables(world, filter)?;
     let mut names = Vec::new(alloc);
     'tables: for table in &tables {
-        push_names_of_rows(&mut names, table.rows(), since)?;
+        push_names_of_rows(&mut names, table, since)?;
     }
     Ok(names)
 }

@@ -12,12 +12,12 @@ use std::alloc::{AllocError, Global};
 
 /// The entities of the rows of tables, in order.
 fn entities_of(alloc: Global, tables: &[&Table]) -> Result<Vec<Entity>, AllocError>
-    ensures { IfOk result (λ entities. entities.items ≡ map (λ row. row.entity) (flat_map (λ table. table.now.rows) tables.now)) }
+    ensures { IfOk result (λ entities. entities.items ≡ flat_map (λ table. map (λ row. row.entity) table.now.rows) tables.now) }
 {
     tables
         .iter()
-        .flat_map(|table| table.rows().iter())
-        .map(|row| row.entity)
+        .flat_map(|table| table.entities().iter())
+        .copied()
         .collect(alloc)
 }
 

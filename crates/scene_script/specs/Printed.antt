@@ -8,6 +8,7 @@ use Rattle.scene_kinds.specs.declared.value.Value.{Value}
 use Rattle.scene_kinds.specs.declared.value.Value.TheVariants as value
 use Rattle.scene_kinds.specs.declared.cell.Cell.{Cell}
 use Rattle.scene_kinds.specs.declared.cells.Row.{Row}
+use Rattle.scene_kinds.specs.declared.entity.Entity.{Entity}
 use Rattle.scene_kinds.specs.Entity.{entity_text}
 use Rattle.scene_kinds.specs.Schema.{Kinds, name_of}
 
@@ -44,11 +45,19 @@ cell_text name cell = name ++ (assigned_text cell.value ++ ticks_text cell.added
 abbrev pub kind_text : Kinds → ℕ → List ℕ
 kind_text kinds kind = unwrap_or (name_of kinds kind) []
 
--- each cell after a space (32), with the name of its kind
+-- a cell of a row: after a space (32), with the name of its kind
+abbrev pub row_cell_text : Kinds → ℕ → Cell → List ℕ
+row_cell_text kinds kind cell = 32 ∷ cell_text (kind_text kinds kind) cell
+
+-- the cells of a row, one after another
 abbrev pub cells_text : Kinds → List (ℕ × Cell) → List ℕ
 cells_text kinds [] = []
-cells_text kinds (c ∷ cs) = 32 ∷ (cell_text (kind_text kinds c.0) c.1 ++ cells_text kinds cs)
+cells_text kinds (c ∷ cs) = row_cell_text kinds c.0 c.1 ++ cells_text kinds cs
+
+-- what a row begins with
+abbrev pub row_head : Entity → List ℕ
+row_head entity = codes "row " ++ entity_text entity.index entity.generation
 
 -- the entity of a row, and then its cells
 abbrev pub row_text : Kinds → Row → List ℕ
-row_text kinds row = codes "row " ++ (entity_text row.entity.index row.entity.generation ++ cells_text kinds row.cells)
+row_text kinds row = row_head row.entity ++ cells_text kinds row.cells

@@ -1,8 +1,9 @@
 //! The printed texts of values, cells and rows.
 ghost use Rattle.std.specs.Prelude.{◌≡◌, ◌++◌, OnOk, string_bytes};
-ghost use Rattle.scene_script.specs.Printed.{json_text, vec3_text, value_text, assigned_text, cell_text, row_text, cells_text};
+ghost use Rattle.scene_kinds.specs.Cells.{shown};
+ghost use Rattle.scene_script.specs.Printed.{json_text, vec3_text, value_text, assigned_text, cell_text, row_head, row_cell_text};
 
-use scene_kinds::{Cell, Row, Schema, Value};
+use scene_kinds::{Cell, CellRef, Entity, Schema, Value};
 use std::alloc::{AllocError, Global};
 
 /// Adds a text as a JSON string, as `serde_json` writes it.
@@ -47,6 +48,21 @@ fn write_assigned(alloc: Global, out: &mut String, value: &Value) -> Result<(), 
     write_value(alloc, out, value)
 }
 
+/// Adds a cell that is lent, with its name: `NAME=VALUE@ADDED/CHANGED`, or `NAME@ADDED/CHANGED` for a tag.
+fn write_lent_cell(
+    alloc: Global,
+    out: &mut String,
+    name: &str,
+    cell: CellRef<'_>,
+) -> Result<(), AllocError>
+    ensures { OnOk result (string_bytes out.new ≡ string_bytes out.old ++ cell_text name.now (shown cell.entry)) }
+{
+    out.push_str(name)?;
+    write_assigned(alloc, out, cell.value)?;
+    write!(out, "@{}/{}", cell.added, cell.changed)?;
+    Ok(())
+}
+
 /// Adds a cell with its name: `NAME=VALUE@ADDED/CHANGED`, or `NAME@ADDED/CHANGED` for a tag (docs/SCRIPTS.md,
 /// "Output").
 pub fn write_cell(
@@ -57,39 +73,35 @@ pub fn write_cell(
 ) -> Result<(), AllocError>
     ensures { OnOk result (string_bytes out.new ≡ string_bytes out.old ++ cell_text name.now cell.now) }
 {
-    out.push_str(name)?;
-    write_assigned(alloc, out, &cell.value)?;
-    write!(out, "@{}/{}", cell.added, cell.changed)?;
+    let lent = CellRef {
+        value: &cell.value,
+        added: cell.added,
+        changed: cell.changed,
+    };
+    write_lent_cell(alloc, out, name, lent)
+}
+
+/// Adds what a row begins with: `row ENTITY` (docs/SCRIPTS.md, "Output"). Its cells follow, each by
+/// `write_row_cell`.
+pub fn write_row_head(out: &mut String, entity: Entity) -> Result<(), AllocError>
+    ensures { OnOk result (string_bytes out.new ≡ string_bytes out.old ++ row_head entity) }
+{
+    write!(out, "row {entity}")?;
     Ok(())
 }
 
-/// Adds cells, each after a space and with the name of its kind.
-fn write_cells(
+/// Adds a cell of a row: a space, and the cell with the name that the schema has for its kind (docs/SCRIPTS.md,
+/// "Output").
+pub fn write_row_cell(
     alloc: Global,
     out: &mut String,
     schema: &Schema,
-    cells: &[(u8, Cell)],
+    kind: u8,
+    cell: CellRef<'_>,
 ) -> Result<(), AllocError>
-    ensures { OnOk result (string_bytes out.new ≡ string_bytes out.old ++ cells_text schema.now cells.now) }
+    ensures { OnOk result (string_bytes out.new ≡ string_bytes out.old ++ row_cell_text schema.now kind (shown cell.entry)) }
 {
-    'cells: for (kind, cell) in cells {
-        out.push(' ')?;
-        let name = schema.name_of(*kind).unwrap_or("");
-        write_cell(alloc, out, name, cell)?;
-    }
-    Ok(())
-}
-
-/// Adds a row: `row ENTITY`, and then each cell after a space, named by the schema (docs/SCRIPTS.md,
-/// "Output"). It adds no line feed.
-pub fn write_row(
-    alloc: Global,
-    out: &mut String,
-    schema: &Schema,
-    row: &Row,
-) -> Result<(), AllocError>
-    ensures { OnOk result (string_bytes out.new ≡ string_bytes out.old ++ row_text schema.now row.now) }
-{
-    write!(out, "row {}", row.entity)?;
-    write_cells(alloc, out, schema, row.cells.as_slice())
+    out.push(' ')?;
+    let name = schema.name_of(kind).unwrap_or("");
+    write_lent_cell(alloc, out, name, cell)
 }

@@ -37,3 +37,4 @@ pub mod ShiftedCells
 pub mod SpawnKeeps
 pub mod Stored
 pub mod TakenSlots
+pub mod TwoTables

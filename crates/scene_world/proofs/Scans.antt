@@ -1,6 +1,7 @@
 -- A scan over the tables of the code finds the home of an entity.
-use Rattle.std.proofs.Common.{◌≡◌, ℕ, true, false, List, [], ◌∷◌, refl, ap, subst, sym, ◌∙◌, Option, Some, None, nat_eq}
+use Rattle.std.proofs.Common.{◌≡◌, ℕ, ◌+◌, true, false, cond, map, List, [], ◌∷◌, refl, ap, subst, sym, ◌∙◌, Option, Some, None, nat_eq}
 use Rattle.std.specs.Prelude.{option_map, option_and_then, IfSome}
+use Rattle.std.specs.List.{position_from}
 use Rattle.std.specs.Option.{option_or}
 use Rattle.std.specs.Cmp.{nat_cmp_total}
 use Rattle.std.specs.FinMap.{nat_cmp-IsAntisymmetric}
@@ -8,6 +9,7 @@ use Rattle.std.proofs.lemmas.Bool.{eqb-true, eqb-false}
 use Rattle.std.proofs.lemmas.Option.{slice_get_within}
 use Rattle.scene_kinds.specs.declared.entity.Entity.{Entity}
 use Rattle.scene_kinds.specs.declared.cells.Row.{Row}
+use Rattle.scene_kinds.specs.Entity.{is_same}
 use Rattle.scene_kinds.proofs.Lists.{list_at_same, list_at_apart}
 use Rattle.scene_table.specs.Table.{TableState}
 use Rattle.scene_world.specs.declared.home.Home.{Home}
@@ -20,6 +22,11 @@ use Rattle.scene_resources.specs.Resources.{StoredResources}
 use Rattle.scene_world.specs.Stored.{tables_of, AreApart, scan, world_of, IsSound, IsHomeOf}
 use Rattle.scene_world.proofs.Homes.{HasAt, home_found, place_found, place_missed, home_is, home_none, nowhere}
 use Rattle.scene_world.proofs.Stored.{none_seen}
+
+-- a search among the entities of rows ends where the search among the rows does
+pub place_of_entity : (e : Entity) (rows : List Row) (n : ℕ) → position_from (λ (x : Entity). is_same x e) n (map (λ (row : Row). row.entity) rows) ≡ position_from (λ (row : Row). is_same row.entity e) n rows
+place_of_entity e [] n = refl
+place_of_entity e (r ∷ rs) n = ap (λ (o : Option ℕ). cond (is_same r.entity e) (Some n) o) (place_of_entity e rs (n + 1))
 
 scan_sound : (e : Entity) (ts : List TableState) → AreApart ts → (h : Home) → scan e ts ≡ Some h → HasAt (rows_at (tables_of ts) h.mask) h.place e
 scan_sound e [] apart h is = absurd (let k : None ≡ Some h = is in cc)

@@ -1,5 +1,5 @@
 -- The tables of the code after one of them was made, grown or written.
-use Rattle.std.proofs.Common.{◌≡◌, ℕ, zero, suc, ◌<◌, ◌≤◌, Bool, true, false, cond, List, [], ◌∷◌, ◌++◌, length, refl, ap, subst, sym, ◌∙◌, arith, Option, Some, None, Ok, nat_eq, length-set, get_or-set_same}
+use Rattle.std.proofs.Common.{◌≡◌, ℕ, zero, suc, ◌+◌, ◌<◌, ◌≤◌, Bool, true, false, cond, List, [], ◌∷◌, ◌++◌, length, refl, ap, subst, sym, ◌∙◌, arith, Option, Some, None, Ok, nat_eq, length-set, get_or-set_same}
 use Rattle.std.specs.Prelude.{slice_set, slice_index_or, Result, Err, OnOk, IfOk, IfSome, IfNone, option_map}
 use Rattle.std.specs.List.{position_from}
 use Rattle.std.specs.Ordering.{nat_cmp}
@@ -125,20 +125,9 @@ apart_appended (t ∷ ts) new h a = (none_appended t.mask ts new (λ e. h.0 (sym
 -- ---- one step on the table of a kind set
 
 -- a table that grew has room
-pub room_made : {E : Type 0} (ts : List TableState) (mask i : ℕ) (d new : TableState) (r : Result (Unit {0}) E) → StandsAt ts mask i → new.mask ≡ (slice_index_or ts i d).mask → OnOk r (1 ≤ new.room) → IfOk r (λ _. HasRoomAt (slice_set ts i new) mask i)
+pub room_made : {E : Type 0} (ts : List TableState) (mask i : ℕ) (d new : TableState) (r : Result (Unit {0}) E) → StandsAt ts mask i → new.mask ≡ (slice_index_or ts i d).mask → OnOk r (length new.rows + 1 ≤ new.capacity) → IfOk r (λ _. HasRoomAt (slice_set ts i new) mask i)
 room_made ts mask i d new (Ok x) h e o = record { stands = stands_kept ts i d new e mask i h; room = λ z. let within : i < length ts = h.within in rw get_or-set_same (omega arith) }
 room_made ts mask i d new (Err x) h e o = tt
-
-room_at : (ts : List TableState) (i : ℕ) (d new : TableState) → (slice_index_or ts i d).room ≤ new.room → (p : ℕ) (z : TableState) → 0 < (slice_index_or ts p z).room → 0 < (slice_index_or (slice_set ts i new) p z).room
-room_at [] i d new e p z h = h
-room_at (t ∷ ts) zero d new e zero z h = omega arith
-room_at (t ∷ ts) zero d new e (suc p) z h = h
-room_at (t ∷ ts) (suc i) d new e zero z h = h
-room_at (t ∷ ts) (suc i) d new e (suc p) z h = room_at ts i d new e p z h
-
--- a table that lost a row leaves each room that was there
-pub rooms_kept : (ts : List TableState) (i : ℕ) (d new : TableState) → new.mask ≡ (slice_index_or ts i d).mask → (slice_index_or ts i d).room ≤ new.room → (m p : ℕ) → HasRoomAt ts m p → HasRoomAt (slice_set ts i new) m p
-rooms_kept ts i d new e f m p h = record { stands = stands_kept ts i d new e m p h.stands; room = λ z. room_at ts i d new f p z (h.room z) }
 
 -- the rows that are seen of a table that stands at an index
 pub rows_there : (ts : List TableState) (mask i : ℕ) (d : TableState) → StandsAt ts mask i → d ≡ slice_index_or ts i d → rows_at (tables_of ts) mask ≡ d.rows

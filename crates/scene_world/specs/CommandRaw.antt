@@ -1,5 +1,5 @@
 -- Each accepted command is a raw change that may be made, with what it brings and what it met. So is raising the tick.
-use Rattle.std.specs.Prelude.{◌≡◌, ℕ, ◌+◌, List, true, false, not, length, Option, Some, None, Ok}
+use Rattle.std.specs.Prelude.{◌≡◌, ℕ, ◌+◌, List, true, false, length, Option, Some, None, Ok}
 use Rattle.scene_kinds.specs.declared.entity.Entity.{Entity}
 use Rattle.scene_kinds.specs.declared.cell.Cell.{Cell}
 use Rattle.scene_kinds.specs.declared.value.Value.{Value}

@@ -8,7 +8,7 @@ use Rattle.scene_kinds.specs.Schema.{Kinds}
 use Rattle.scene_alloc.specs.Slots.{StoredSlots}
 use Rattle.scene_links.specs.Forest.{Forest}
 use Rattle.scene_resources.specs.Resources.{StoredResources}
-use Rattle.scene_table.specs.Table.{TableState}
+use Rattle.scene_table.specs.Table.{TableState, HasRoom}
 use Rattle.scene_world.specs.declared.home.Home.{Home}
 use Rattle.scene_world.specs.World.{World, Tables, rows_at, row_at, row_of, with_rows, row_place}
 use Rattle.scene_world.specs.Valid.{IsValid}
@@ -36,7 +36,7 @@ pub record StandsAt (ts : List TableState) (mask i : ℕ) : Type 0 where
 -- it stands there, and has room for one more row
 pub record HasRoomAt (ts : List TableState) (mask i : ℕ) : Type 0 where
   pub stands : StandsAt ts mask i
-  pub room : (d : TableState) → 0 < (slice_index_or ts i d).room
+  pub room : (d : TableState) → HasRoom (slice_index_or ts i d)
 
 -- no table has a kind set
 abbrev pub NoneHas : ℕ → List TableState → Type 0

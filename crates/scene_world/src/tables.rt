@@ -1,10 +1,12 @@
 //! The tables of a world in the code: one for each kind set that has or had rows. A table without rows isn't
 //! seen by contracts, and is kept with its room.
-ghost use Rattle.std.specs.Prelude.{◌≡◌, ◌<◌, ◌^◌, ℕ, List, [], length, Some, IfOk, OnOk, IfSome, IfNone, IsSome, nat_eq, ◌&&◌};
+ghost use Rattle.std.specs.Prelude.{◌≡◌, ◌<◌, ◌≤◌, ◌^◌, ℕ, List, [], length, vec_capacity, Some, IfOk, OnOk, IfSome, IfNone, IsSome, nat_eq, ◌&&◌};
 ghost use Rattle.std.specs.List.{position_from};
 ghost use Rattle.std.specs.Option.{option_map};
 ghost use Rattle.scene_kinds.specs.Cells.{HasKinds, mask_of, shown};
+ghost use Rattle.scene_kinds.specs.Entity.{is_same};
 ghost use Rattle.scene_kinds.specs.Lists.{whole};
+ghost use Rattle.scene_kinds.specs.declared.cells.Row.{Row};
 ghost use Rattle.scene_kinds.specs.Map as map;
 ghost use Rattle.scene_table.specs.Table.{cell_at, rows_with_cell};
 ghost use Rattle.scene_world.specs.World.{rows_at, row_at, with_rows, with_row, without_row, row_place};
@@ -22,11 +24,18 @@ pub(crate) fn find_table(tables: &[Table], mask: u64) -> Option<usize>
     tables.iter().position(|table| table.mask() == mask)
 }
 
-/// The place of an entity's row.
-fn find_place(rows: &[Row], entity: Entity) -> Option<usize>
-    ensures { result ≡ row_place entity rows.now }
+/// The place of an entity in a list.
+fn place_among(entities: &[Entity], entity: Entity) -> Option<usize>
+    ensures { result ≡ position_from (λ other. is_same other entity) 0 entities.now }
 {
-    rows.iter().position(|row| row.entity == entity)
+    entities.iter().position(|other| *other == entity)
+}
+
+/// The place of an entity's row in a table.
+fn find_place(table: &Table, entity: Entity) -> Option<usize>
+    ensures { result ≡ row_place entity table.now.rows }
+{
+    place_among(table.entities(), entity)
 }
 
 /// Where the row of an entity stands. It costs a walk over the rows.
@@ -34,7 +43,7 @@ pub(crate) fn find_home(tables: &[Table], entity: Entity) -> Option<Home>
     ensures { result ≡ scan entity tables.now }
 {
     for table in tables {
-        if let Some(place) = find_place(table.rows(), entity) {
+        if let Some(place) = find_place(table, entity) {
             return Some(Home {
                 mask: table.mask(),
                 place,
@@ -96,20 +105,17 @@ pub(crate) fn put_row(tables: &mut Vec<Table>, at: usize, row: Row)
     ensures rows { tables_of tables.new.items ≡ with_row (tables_of tables.old.items) row }
     ensures apart { AreApart tables.old.items → AreApart tables.new.items }
 {
-    tables[at].push_row(row);
+    tables[at].push_row_reserved(row);
 }
 
-/// Takes out the row at a home, by the index of its table. It takes no memory.
-pub(crate) fn take_row(tables: &mut Vec<Table>, at: usize, home: Home) -> Row
+/// Drops the row at a home, by the index of its table. It takes no memory.
+pub(crate) fn drop_row(tables: &mut Vec<Table>, at: usize, home: Home)
     requires stands { StandsAt tables.old.items home.mask at }
     requires within { home.place < length (rows_at (tables_of tables.old.items) home.mask) }
-    ensures row { row_at (tables_of tables.old.items) home ≡ Some result }
-    ensures fits { HasKinds home.mask result }
     ensures rows { tables_of tables.new.items ≡ without_row (tables_of tables.old.items) home }
     ensures apart { AreApart tables.old.items → AreApart tables.new.items }
-    ensures rooms { (m i : ℕ) → HasRoomAt tables.old.items m i → HasRoomAt tables.new.items m i }
 {
-    tables[at].swap_remove(home.place)
+    tables[at].drop_row(home.place);
 }
 
 /// The index of the table of a kind set that has rows.
@@ -141,23 +147,13 @@ pub(crate) fn write_cell(
 }
 
 /// The cell of a kind in the row at a home, or `None` where the row doesn't have that kind. It costs a walk
-/// over the row's cells.
+/// over the table's kinds.
 pub(crate) fn cell_there(tables: &[Table], home: Home, kind: u8) -> Option<CellRef<'_>>
     requires { home.place < length (rows_at (tables_of tables.now) home.mask) }
     ensures { option_map shown result ≡ cell_at (rows_at (tables_of tables.now) home.mask) home.place kind }
 {
     let at = table_there(tables, home.mask);
     tables[at].cell(home.place, kind)
-}
-
-/// How many cells the row at a home has.
-pub(crate) fn cells_there(tables: &[Table], home: Home) -> usize
-    requires { home.place < length (rows_at (tables_of tables.now) home.mask) }
-    ensures count { option_map (λ row. length row.cells) (row_at (tables_of tables.now) home) ≡ Some result }
-    ensures small { result < 2 ^ 63 }
-{
-    let at = table_there(tables, home.mask);
-    tables[at].cell_count(home.place)
 }
 
 /// The added tick of the cell of a kind in the row at a home, or `None` where the row doesn't have that kind.

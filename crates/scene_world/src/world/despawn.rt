@@ -3,7 +3,7 @@ ghost use Rattle.std.specs.Prelude.{◌≡◌};
 ghost use Rattle.scene_kinds.specs.Answers.{Gives};
 ghost use Rattle.scene_world.specs.Commands.{despawn};
 
-use crate::tables::{table_there, take_row};
+use crate::tables::{drop_row, table_there};
 use crate::world::World;
 use scene_kinds::{Entity, Fault, Refusal};
 
@@ -25,7 +25,7 @@ impl World {
             return Err(Refusal::from(Fault::HasChildren));
         }
         let at = table_there(self.tables.as_slice(), home.mask);
-        let _row = take_row(&mut self.tables, at, home);
+        drop_row(&mut self.tables, at, home);
         let _retired = self.slots.release(entity);
         let _place = self.links.unlink(entity);
         Ok(())

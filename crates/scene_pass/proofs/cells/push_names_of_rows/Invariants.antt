@@ -5,4 +5,4 @@ use Rattle.scene_pass.specs.Since.{is_since}
 use Rattle.scene_pass.proofs.cells.push_names_of_rows.Given as goal
 
 abbrev pub invariant-rows : goal.invariant-rows
-invariant-rows l = l.names.items ++ flat_map (names_in (is_since l.since)) (drop l.row-index l.rows) ≡ l.initial.names.items ++ flat_map (names_in (is_since l.since)) l.rows
+invariant-rows l = l.names.items ++ flat_map (names_in (is_since l.since)) (drop l.at l.table.rows) ≡ l.initial.names.items ++ flat_map (names_in (is_since l.since)) l.table.rows

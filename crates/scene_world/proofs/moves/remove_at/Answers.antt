@@ -1,9 +1,11 @@
-use Rattle.std.proofs.Common.{◌∙◌, ap, sym}
-use Rattle.scene_kinds.specs.KindSet.{set_without}
-use Rattle.scene_kinds.proofs.KindSets.{mask_of-without_cell}
+use Rattle.scene_world.specs.World.{rows_at}
+use Rattle.scene_world.specs.Stored.{tables_of}
+use Rattle.scene_world.proofs.TwoTables.{row_in, kind_there}
 use Rattle.scene_world.proofs.moves.remove_at.Goals as goal
 
-pub move_without-requires-clause-kinds : goal.move_without-requires-clause-kinds
-move_without-requires-clause-kinds c = λ row at.
-    let has = c.requires.kinds row at in
-    c.set_without-to.ensures ∙ ap (λ m. set_without m c.args.kind) (sym has.0.kinds) ∙ sym (mask_of-without_cell row.cells c.args.kind has.0.ascending has.1 c.requires.low)
+pub move_row_without-requires-clause-has : goal.move_row_without-requires-clause-has
+move_row_without-requires-clause-has c =
+    let h = c.args.home in
+    let rows = rows_at (tables_of c.args.tables.now.items) h.mask in
+    let row = row_in rows h.place c.requires.within in
+    kind_there h.mask h.place c.args.kind rows row.0 row.1 (c.requires.kinds row.0 row.1).0 c.requires.there

@@ -27,6 +27,6 @@ invariant_of-self c =
     let left : IsValid (after_despawn old c.in-Some.home c.args.entity) = subst (λ (e : Entity). IsValid (after_despawn old c.in-Some.home e)) home.same
     (gone_valid old c.in-Some.home home.row c.self.invariant.valid home.there (ap (λ (e : Entity). is_some (map.get w.links.forest e)) home.same ∙ alone)) in
     let links = unlinked_cut w.links.forest c.unlink-place.new.self.forest c.args.entity c.unlink-place.result c.unlink-place.ensures.answer in
-    let after : after_despawn old c.in-Some.home c.args.entity ≡ world_of w.schema c.release-retired.new.self w.tick c.take_row-row.new.tables.items c.unlink-place.new.self.forest w.resources =
-    λ i. record { schema = w.schema; slots = sym c.release-retired.ensures.state i; tick = w.tick; tables = sym c.take_row-row.ensures.rows i; children = sym links i; resources = w.resources.cells } in
-    record { apart = c.take_row-row.ensures.apart c.self.invariant.apart; valid = subst IsValid after left }
+    let after : after_despawn old c.in-Some.home c.args.entity ≡ world_of w.schema c.release-retired.new.self w.tick c.drop_row.new.tables.items c.unlink-place.new.self.forest w.resources =
+    λ i. record { schema = w.schema; slots = sym c.release-retired.ensures.state i; tick = w.tick; tables = sym c.drop_row.ensures.rows i; children = sym links i; resources = w.resources.cells } in
+    record { apart = c.drop_row.ensures.apart c.self.invariant.apart; valid = subst IsValid after left }
