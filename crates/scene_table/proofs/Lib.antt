@@ -1,2 +1,9 @@
-pub mod CellWrites
+pub mod ColumnCells
+pub mod ColumnLists
+pub mod KindLists
+pub mod Moves
+pub mod Parts
 pub mod Swaps
+pub mod TableFacts
+pub mod TableRows
+pub mod Zips

@@ -1,7 +1,7 @@
 -- Rows that leave by a swap, and come back.
-use Rattle.std.proofs.Common.{◌≡◌, ℕ, zero, suc, ◌+◌, ◌-◌, ◌<◌, ◌≤◌, List, [], ◌∷◌, ◌++◌, length, get_or, take, refl, ap, ◌∙◌, arith, Some}
+use Rattle.std.proofs.Common.{◌≡◌, ℕ, zero, suc, ◌+◌, ◌-◌, ◌<◌, ◌≤◌, List, [], ◌∷◌, ◌++◌, length, get_or, take, refl, ap, ◌∙◌, arith, length-append, Some}
 use Rattle.std.specs.Prelude.{slice_set}
-use Rattle.std.specs.List.{swap_remove}
+use Rattle.std.specs.List.{swap, swap_remove}
 use Rattle.scene_table.specs.Rows.{last_of, front_of, last_first, swap_out, put_back, SwapOutLeavesAPlace, SwapOutComesBack, PutBackStands, PutBackComesBack}
 
 -- the last put behind the others
@@ -93,8 +93,44 @@ pub swap_remove_is : {X : Type 0} (xs : List X) (i : ℕ) (d : X) → i < length
 swap_remove_is [] i d h = absurd (omega arith)
 swap_remove_is (x ∷ xs) i d h = rw (one_less (length xs), get_last x xs d) (cut_after_write x xs i (omega arith))
 
--- the removal by a swap, for search
-pub ruleset swaps = (swap_remove_is)
+-- the last element is written
+write_last : {X : Type 0} (xs : List X) (x y : X) → slice_set (xs ++ x ∷ []) (length xs) y ≡ xs ++ y ∷ []
+write_last [] x y = refl
+write_last (z ∷ zs) x y = ap (λ t. z ∷ t) (write_last zs x y)
+
+-- and read
+read_last : {X : Type 0} (xs : List X) (x d : X) → get_or (xs ++ x ∷ []) (length xs) d ≡ x
+read_last [] x d = refl
+read_last (z ∷ zs) x d = read_last zs x d
+
+-- the last written at i, and what stood there written last
+exchanged : {X : Type 0} (xs : List X) (i : ℕ) (x d : X) → i ≤ length xs → slice_set (slice_set (xs ++ x ∷ []) i x) (length xs) (get_or (xs ++ x ∷ []) i d) ≡ put_back xs i x
+exchanged [] zero x d h = refl
+exchanged [] (suc i) x d h = absurd (omega arith)
+exchanged (z ∷ zs) zero x d h = ap (λ t. x ∷ t) (write_last zs x z)
+exchanged (z ∷ zs) (suc i) x d h = ap (λ t. z ∷ t) (exchanged zs i x d (omega arith))
+
+-- one that is pushed, and swapped with the one at i, is put back there
+pub swap_is : {X : Type 0} (xs : List X) (i j : ℕ) (x : X) → i ≤ length xs → j ≡ length xs → swap (xs ++ x ∷ []) i j ≡ put_back xs i x
+swap_is [] i j x h e = ap (λ k. slice_set (slice_set (x ∷ []) i (get_or (x ∷ []) k x)) k (get_or (x ∷ []) i x)) e ∙ exchanged [] i x x h
+swap_is (z ∷ zs) i j x h e =
+    ap (λ k. slice_set (slice_set (z ∷ zs ++ x ∷ []) i (get_or (z ∷ zs ++ x ∷ []) k z)) k (get_or (z ∷ zs ++ x ∷ []) i z)) e
+    ∙ ap (λ (y : _). slice_set (slice_set (z ∷ zs ++ x ∷ []) i y) (length (z ∷ zs)) (get_or (z ∷ zs ++ x ∷ []) i z)) (read_last (z ∷ zs) x z)
+    ∙ exchanged (z ∷ zs) i x z h
+
+-- one that is put back behind the last is pushed
+pub put_back_last : {X : Type 0} (xs : List X) (x : X) → put_back xs (length xs) x ≡ xs ++ x ∷ []
+put_back_last [] x = refl
+put_back_last (z ∷ zs) x = ap (λ t. z ∷ t) (put_back_last zs x)
+
+-- one more stands there
+pub length-put_back : {X : Type 0} (xs : List X) (i : ℕ) (x : X) → length (put_back xs i x) ≡ length xs + 1
+length-put_back [] i x = refl
+length-put_back (z ∷ zs) zero x = omega (arith, length-append zs (z ∷ []))
+length-put_back (z ∷ zs) (suc i) x = omega (arith, length-put_back zs i x)
+
+-- the removal by a swap, and what is pushed and swapped, for search
+pub ruleset swaps = (swap_remove_is, swap_is)
 
 -- both laws of a row that is put back
 pub ruleset put_back_laws = (put_back_stands, put_back_back)

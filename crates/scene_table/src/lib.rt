@@ -1,15 +1,23 @@
 //! A table of a scene's world: the rows of one archetype, in order.
 //!
 //! All rows of a table have just the table's kinds. A new row goes last; a row that leaves is
-//! replaced by the last one. Contracts see the kind set, the list of rows, and the room: for how
-//! many more rows there is memory.
+//! replaced by the last one. The rows stand in columns: the entities, and for each kind the values,
+//! the added ticks and the changed ticks. Contracts see the kind set, the list of rows, and the
+//! capacity: for how many rows there is memory in all columns.
 //!
-//! Only `reserve` takes memory for rows, and nothing gives it back, so that a change can be undone
-//! without a refusal: each call that changes a table says that its storage didn't shrink.
+//! Only `reserve`, and `push_row` and `unswap` by it, take memory for rows, and nothing gives it
+//! back, so that a change can be undone without a refusal: each call that changes a table says what
+//! capacity it leaves.
 #![tactic(auto)]
 
+mod column;
+mod columns;
+mod entities;
 mod rows;
 mod table;
+#[cfg(test)]
+mod tests;
 
+pub use column::ColumnRef;
 pub use rows::{put_back_comes_back, swap_out_comes_back};
 pub use table::Table;

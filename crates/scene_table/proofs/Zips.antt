@@ -1,0 +1,69 @@
+-- Two lists made one: what is done to both is done to the one.
+use Rattle.std.proofs.Common.{◌≡◌, ℕ, zero, suc, List, [], ◌∷◌, ◌++◌, length, refl, ap, arith, Some, None}
+use Rattle.std.specs.Prelude.{slice_get, slice_set}
+use Rattle.scene_table.specs.Rows.{last_of, front_of, last_first, swap_out, put_back}
+use Rattle.scene_table.specs.Columns.{zip_with}
+
+module _ {X Y Z : Type 0} (f : X → Y → Z) where
+  -- it is as long as both
+  pub zip-length : (xs : List X) (ys : List Y) → length xs ≡ length ys → length (zip_with f xs ys) ≡ length xs
+  zip-length [] ys e = refl
+  zip-length (x ∷ xs) [] e = absurd (omega arith)
+  zip-length (x ∷ xs) (y ∷ ys) e = ap (λ n. suc n) (zip-length xs ys (omega arith))
+
+  -- one more of each
+  zip-last : (xs : List X) (ys : List Y) (x : X) (y : Y) → length xs ≡ length ys → zip_with f (xs ++ x ∷ []) (ys ++ y ∷ []) ≡ zip_with f xs ys ++ f x y ∷ []
+  zip-last [] [] x y e = refl
+  zip-last [] (v ∷ ys) x y e = absurd (omega arith)
+  zip-last (u ∷ xs) [] x y e = absurd (omega arith)
+  zip-last (u ∷ xs) (v ∷ ys) x y e = ap (λ t. f u v ∷ t) (zip-last xs ys x y (omega arith))
+
+  -- the last of both
+  zip-last_of : (x : X) (y : Y) (xs : List X) (ys : List Y) → length xs ≡ length ys → f (last_of x xs) (last_of y ys) ≡ last_of (f x y) (zip_with f xs ys)
+  zip-last_of x y [] [] e = refl
+  zip-last_of x y [] (v ∷ ys) e = absurd (omega arith)
+  zip-last_of x y (u ∷ xs) [] e = absurd (omega arith)
+  zip-last_of x y (u ∷ xs) (v ∷ ys) e = zip-last_of u v xs ys (omega arith)
+
+  -- and all but the last
+  zip-front_of : (x : X) (y : Y) (xs : List X) (ys : List Y) → length xs ≡ length ys → zip_with f (front_of x xs) (front_of y ys) ≡ front_of (f x y) (zip_with f xs ys)
+  zip-front_of x y [] [] e = refl
+  zip-front_of x y [] (v ∷ ys) e = absurd (omega arith)
+  zip-front_of x y (u ∷ xs) [] e = absurd (omega arith)
+  zip-front_of x y (u ∷ xs) (v ∷ ys) e = ap (λ t. f x y ∷ t) (zip-front_of u v xs ys (omega arith))
+
+  zip-last_first : (xs : List X) (ys : List Y) → length xs ≡ length ys → zip_with f (last_first xs) (last_first ys) ≡ last_first (zip_with f xs ys)
+  zip-last_first [] [] e = refl
+  zip-last_first [] (y ∷ ys) e = absurd (omega arith)
+  zip-last_first (x ∷ xs) [] e = absurd (omega arith)
+  zip-last_first (x ∷ xs) (y ∷ ys) e = λ i. zip-last_of x y xs ys (omega arith) i ∷ zip-front_of x y xs ys (omega arith) i
+
+  -- both leave a place by a swap
+  pub zip-swap_out : (xs : List X) (ys : List Y) (i : ℕ) → length xs ≡ length ys → zip_with f (swap_out xs i) (swap_out ys i) ≡ swap_out (zip_with f xs ys) i
+  zip-swap_out [] [] i e = refl
+  zip-swap_out [] (y ∷ ys) i e = absurd (omega arith)
+  zip-swap_out (x ∷ xs) [] i e = absurd (omega arith)
+  zip-swap_out (x ∷ xs) (y ∷ ys) zero e = zip-last_first xs ys (omega arith)
+  zip-swap_out (x ∷ xs) (y ∷ ys) (suc i) e = ap (λ t. f x y ∷ t) (zip-swap_out xs ys i (omega arith))
+
+  -- both are put back at a place
+  pub zip-put_back : (xs : List X) (ys : List Y) (i : ℕ) (x : X) (y : Y) → length xs ≡ length ys → zip_with f (put_back xs i x) (put_back ys i y) ≡ put_back (zip_with f xs ys) i (f x y)
+  zip-put_back [] [] i x y e = refl
+  zip-put_back [] (v ∷ ys) i x y e = absurd (omega arith)
+  zip-put_back (u ∷ xs) [] i x y e = absurd (omega arith)
+  zip-put_back (u ∷ xs) (v ∷ ys) zero x y e = ap (λ t. f x y ∷ t) (zip-last xs ys u v (omega arith))
+  zip-put_back (u ∷ xs) (v ∷ ys) (suc i) x y e = ap (λ t. f u v ∷ t) (zip-put_back xs ys i x y (omega arith))
+
+  -- both are written at a place
+  pub zip-set : (xs : List X) (ys : List Y) (i : ℕ) (x : X) (y : Y) → length xs ≡ length ys → zip_with f (slice_set xs i x) (slice_set ys i y) ≡ slice_set (zip_with f xs ys) i (f x y)
+  zip-set [] ys i x y e = refl
+  zip-set (u ∷ xs) [] i x y e = absurd (omega arith)
+  zip-set (u ∷ xs) (v ∷ ys) zero x y e = refl
+  zip-set (u ∷ xs) (v ∷ ys) (suc i) x y e = ap (λ t. f u v ∷ t) (zip-set xs ys i x y (omega arith))
+
+  -- both stand at a place
+  pub zip-get : (xs : List X) (ys : List Y) (i : ℕ) (x : X) (y : Y) → slice_get xs i ≡ Some x → slice_get ys i ≡ Some y → slice_get (zip_with f xs ys) i ≡ Some (f x y)
+  zip-get [] ys i x y h k = absurd (let g : None ≡ Some x = h in cc)
+  zip-get (u ∷ xs) [] i x y h k = absurd (let g : None ≡ Some y = k in cc)
+  zip-get (u ∷ xs) (v ∷ ys) zero x y h k = cc
+  zip-get (u ∷ xs) (v ∷ ys) (suc i) x y h k = zip-get xs ys i x y h k

@@ -1,0 +1,158 @@
+//! A column of a table: the cells of one kind, as lists of values, of added ticks and of changed ticks.
+ghost use Rattle.std.specs.Prelude.{◌≡◌, ◌+◌, ◌<◌, ◌≤◌, [], length, slice_get, slice_set, Some, IsOk, OnOk, IfOk};
+ghost use Rattle.scene_kinds.specs.Cells.{shown};
+ghost use Rattle.scene_table.specs.Columns.{out_of_column, back_in_column, cells_of};
+
+use scene_kinds::{Cell, CellRef, Value};
+use std::alloc::{AllocError, Global};
+use std::marker::Model;
+
+/// The cells of one kind, in the order of the rows.
+///
+/// Contracts see the kind, the cells, and for how many cells there is memory in each of the three lists.
+#[derive(Drop, Debug)]
+pub(crate) struct Column {
+    kind: u8,
+    values: Vec<Value>,
+    added: Vec<u64>,
+    changed: Vec<u64>,
+}
+
+impl Model for Column {
+    ghost use Rattle.std.specs.Prelude.{min, vec_capacity};
+    ghost use Rattle.scene_table.specs.Columns.{ColumnState, IsColumn, cells_of};
+
+    ghost Value = { ColumnState };
+
+    ghost view = { λ c. record { kind = c.kind; cells = cells_of c.values.items c.added.items c.changed.items; capacity = min (vec_capacity c.values) (min (vec_capacity c.added) (vec_capacity c.changed)) } };
+
+    ghost invariant = { λ c. IsColumn c.values.items c.added.items c.changed.items };
+}
+
+impl Column {
+    /// A column of a kind without cells. It takes no memory.
+    pub(crate) fn new(alloc: Global, kind: u8) -> Self
+        ensures kind { result.kind ≡ kind }
+        ensures cells { result.cells ≡ [] }
+    {
+        Column {
+            kind,
+            values: Vec::new(alloc),
+            added: Vec::new(alloc),
+            changed: Vec::new(alloc),
+        }
+    }
+
+    /// The kind of the cells.
+    pub(crate) fn kind(&self) -> u8
+        ensures { result ≡ self.now.kind }
+    {
+        self.kind
+    }
+
+    /// Makes room for this many more cells. It fails only where that room isn't there yet and no memory was found.
+    pub(crate) fn reserve(&mut self, additional: usize) -> Result<(), AllocError>
+        ensures kind { self.new.kind ≡ self.old.kind }
+        ensures cells { self.new.cells ≡ self.old.cells }
+        ensures room { OnOk result (length self.new.cells + additional ≤ self.new.capacity) }
+        ensures there { length self.old.cells + additional ≤ self.old.capacity → IsOk result }
+        ensures wide { self.old.capacity ≤ self.new.capacity }
+    {
+        self.values.reserve(additional)?;
+        self.added.reserve(additional)?;
+        self.changed.reserve(additional)
+    }
+
+    /// Puts a cell at a place, and the one that stood there last. It takes no memory.
+    pub(crate) fn put_back(&mut self, at: usize, cell: Cell)
+        requires within { at ≤ length self.old.cells }
+        requires room { length self.old.cells < self.old.capacity }
+        ensures { self.new ≡ back_in_column at self.old cell }
+    {
+        let Cell {
+            value,
+            added,
+            changed,
+        } = cell;
+        let last = self.values.len();
+        self.values.push_reserved(value);
+        self.values.swap(at, last);
+        self.added.push_reserved(added);
+        self.added.swap(at, last);
+        self.changed.push_reserved(changed);
+        self.changed.swap(at, last);
+    }
+
+    /// Takes out the cell at a place, and gives it. The last takes its place.
+    pub(crate) fn take(&mut self, at: usize) -> Cell
+        requires { at < length self.old.cells }
+        ensures cell { slice_get self.old.cells at ≡ Some result }
+        ensures left { self.new ≡ out_of_column at self.old }
+    {
+        Cell {
+            value: self.values.swap_remove(at),
+            added: self.added.swap_remove(at),
+            changed: self.changed.swap_remove(at),
+        }
+    }
+
+    /// Puts a cell in place of the one at a place, and gives that one.
+    pub(crate) fn set(&mut self, at: usize, cell: Cell) -> Cell
+        requires { at < length self.old.cells }
+        ensures old { slice_get self.old.cells at ≡ Some result }
+        ensures new { self.new ≡ record self.old { cells = slice_set self.old.cells at cell } }
+    {
+        Cell {
+            value: std::mem::replace(&mut self.values[at], cell.value),
+            added: std::mem::replace(&mut self.added[at], cell.added),
+            changed: std::mem::replace(&mut self.changed[at], cell.changed),
+        }
+    }
+
+    /// The cell at a place.
+    pub(crate) fn get(&self, at: usize) -> CellRef<'_>
+        requires { at < length self.now.cells }
+        ensures { slice_get self.now.cells at ≡ Some (shown result) }
+    {
+        CellRef {
+            value: &self.values[at],
+            added: self.added[at],
+            changed: self.changed[at],
+        }
+    }
+
+    /// The lists of values and ticks.
+    pub(crate) fn lent(&self) -> ColumnRef<'_>
+        ensures cells { cells_of result.values.now result.added.now result.changed.now ≡ self.now.cells }
+        ensures added { length result.added.now ≡ length result.values.now }
+        ensures changed { length result.changed.now ≡ length result.values.now }
+    {
+        ColumnRef {
+            values: self.values.as_slice(),
+            added: self.added.as_slice(),
+            changed: self.changed.as_slice(),
+        }
+    }
+
+    /// A column with an equal kind and equal cells, or an error where no memory was found.
+    pub(crate) fn try_clone(&self) -> Result<Column, AllocError>
+        ensures kind { IfOk result (λ copy. copy.kind ≡ self.now.kind) }
+        ensures cells { IfOk result (λ copy. copy.cells ≡ self.now.cells) }
+    {
+        Ok(Column {
+            kind: self.kind,
+            values: self.values.clone()?,
+            added: self.added.clone()?,
+            changed: self.changed.clone()?,
+        })
+    }
+}
+
+/// A column that is lent: at each place the value of the row there, the tick at which it was added, and the one at
+/// which it was last changed.
+#[derive(Clone, Copy, Debug)]
+pub struct ColumnRef<'a> {
+    pub values: &'a [Value],
+    pub added: &'a [u64],
+    pub changed: &'a [u64],
+}

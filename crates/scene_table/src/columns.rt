@@ -1,0 +1,199 @@
+//! The columns of a table, one for each of its kinds, ascending: what is done to a row is done to each column.
+ghost use Rattle.std.specs.Prelude.{◌≡◌, ◌+◌, ◌<◌, ◌≤◌, ℕ, List, [], length, map, insert, remove, slice_get, vec_capacity, All, Some, None, OnOk, OnErr, IfOk, IsOk, not, nat_eq, nat_lt};
+ghost use Rattle.std.specs.List.{AllZip, position_from};
+ghost use Rattle.std.specs.Option.{option_map};
+ghost use Rattle.scene_kinds.specs.Cells.{cell_of, with_cell};
+ghost use Rattle.scene_kinds.specs.declared.cell.Cell.{Cell};
+ghost use Rattle.scene_table.specs.Columns.{AreColumnsOf, AreLong, AreCellsAt, HasRoomAt, IsGrown, IsSameColumn, kinds_of, kinds_in, put_each, out_of_column};
+
+use crate::column::Column;
+use scene_kinds::{Cell, KindSet, has_kind};
+use std::alloc::{AllocError, Global};
+
+/// The columns of a kind set, without cells.
+pub(crate) fn columns_of(alloc: Global, mask: KindSet) -> Result<Vec<Column>, AllocError>
+    ensures kinds { IfOk result (λ columns. AreColumnsOf mask columns.items) }
+    ensures empty { IfOk result (λ columns. AreLong 0 columns.items) }
+{
+    let mut columns = Vec::new(alloc);
+    for kind in 0..64u8 {
+        if has_kind(mask, kind) {
+            columns.push(Column::new(alloc, kind))?;
+        }
+    }
+    Ok(columns)
+}
+
+/// Puts the columns of a kind set, without cells, in place of others where there is no memory for rows yet. Where no
+/// memory was found the others stay.
+pub(crate) fn make_columns(
+    alloc: Global,
+    mask: KindSet,
+    columns: &mut Vec<Column>,
+    capacity: usize,
+) -> Result<(), AllocError>
+    ensures kept { 0 < capacity → columns.new.items ≡ columns.old.items }
+    ensures made { capacity ≡ 0 → OnOk result (AreColumnsOf mask columns.new.items × AreLong 0 columns.new.items) }
+    ensures err { OnErr result (columns.new.items ≡ columns.old.items) }
+    ensures there { 0 < capacity → IsOk result }
+{
+    if capacity == 0 {
+        *columns = columns_of(alloc, mask)?;
+    }
+    Ok(())
+}
+
+/// Makes room for this many more cells in each column. It fails only where that room isn't there yet and no memory
+/// was found.
+pub(crate) fn reserve_each(columns: &mut [Column], additional: usize) -> Result<(), AllocError>
+    ensures grown { AllZip IsGrown columns.old columns.new }
+    ensures room { OnOk result (All (λ column. length column.cells + additional ≤ column.capacity) columns.new) }
+    ensures there { All (λ column. length column.cells + additional ≤ column.capacity) columns.old → IsOk result }
+{
+    for column in columns.iter_mut() {
+        column.reserve(additional)?;
+    }
+    Ok(())
+}
+
+/// Puts the cells of a row back at a place, one in each column. It takes no memory.
+pub(crate) fn put_cells(columns: &mut [Column], at: usize, cells: Vec<(u8, Cell)>)
+    requires count { length cells.items ≡ length columns.old }
+    requires room { All (HasRoomAt at) columns.old }
+    ensures { columns.new ≡ put_each at cells.items columns.old }
+{
+    let mut cells = cells;
+    while let Some((_, cell)) = cells.pop() {
+        columns[cells.len()].put_back(at, cell);
+    }
+}
+
+/// Takes out the cells at a place, one of each column, and gives them with their kinds, in a list that has room for
+/// them. It takes no memory.
+pub(crate) fn take_cells(
+    columns: &mut [Column],
+    at: usize,
+    room: Vec<(u8, Cell)>,
+) -> Vec<(u8, Cell)>
+    requires within { All (λ column. at < length column.cells) columns.old }
+    requires empty { room.items ≡ [] }
+    requires fits { length columns.old ≤ vec_capacity room }
+    ensures cells { AreCellsAt columns.old at result.items }
+    ensures left { columns.new ≡ map (out_of_column at) columns.old }
+{
+    let mut cells = room;
+    for column in columns.iter_mut() {
+        cells.push_reserved((column.kind(), column.take(at)));
+    }
+    cells
+}
+
+/// Drops the cells at a place, one of each column.
+pub(crate) fn drop_cells(columns: &mut [Column], at: usize)
+    requires within { All (λ column. at < length column.cells) columns.old }
+    ensures left { columns.new ≡ map (out_of_column at) columns.old }
+{
+    for column in columns.iter_mut() {
+        column.take(at);
+    }
+}
+
+/// Moves the cells at a place to a place of other columns, as many, each cell to the column of the same number. It
+/// takes no memory.
+pub(crate) fn move_cells(source: &mut [Column], at: usize, target: &mut [Column], to: usize)
+    requires count { length target.old ≡ length source.old }
+    requires within { All (λ column. at < length column.cells) source.old }
+    requires room { All (HasRoomAt to) target.old }
+    ensures left { source.new ≡ map (out_of_column at) source.old }
+    ensures put { (cells : List (ℕ × Cell)) → AreCellsAt source.old at cells → target.new ≡ put_each to cells target.old }
+{
+    for i in 0..source.len() {
+        let cell = source[i].take(at);
+        target[i].put_back(to, cell);
+    }
+}
+
+/// Moves the cells at a place to a place of other columns, of which there is one more, at a number: it gains a cell.
+pub(crate) fn move_gaining(
+    source: &mut [Column],
+    at: usize,
+    target: &mut [Column],
+    to: usize,
+    number: usize,
+    cell: Cell,
+)
+    requires number { number ≤ length source.old }
+    requires count { length target.old ≡ length source.old + 1 }
+    requires within { All (λ column. at < length column.cells) source.old }
+    requires room { All (HasRoomAt to) target.old }
+    ensures left { source.new ≡ map (out_of_column at) source.old }
+    ensures put { (cells : List (ℕ × Cell)) (kind : ℕ) → AreCellsAt source.old at cells → target.new ≡ put_each to (insert cells number (kind, cell)) target.old }
+{
+    let (low, high) = source.split_at_mut(number);
+    let (target_low, rest) = target.split_at_mut(number);
+    let (gained, target_high) = rest.split_at_mut(1);
+    move_cells(low, at, target_low, to);
+    gained[0].put_back(to, cell);
+    move_cells(high, at, target_high, to);
+}
+
+/// Moves the cells at a place to a place of other columns, of which there is one less, but for the cell of the column
+/// of a number, and gives that cell.
+pub(crate) fn move_losing(
+    source: &mut [Column],
+    at: usize,
+    target: &mut [Column],
+    to: usize,
+    number: usize,
+) -> Cell
+    requires number { number ≤ length target.old }
+    requires count { length source.old ≡ length target.old + 1 }
+    requires within { All (λ column. at < length column.cells) source.old }
+    requires room { All (HasRoomAt to) target.old }
+    ensures left { source.new ≡ map (out_of_column at) source.old }
+    ensures lost { (cells : List (ℕ × Cell)) → AreCellsAt source.old at cells → option_map (λ c. c.1) (slice_get cells number) ≡ Some result }
+    ensures put { (cells : List (ℕ × Cell)) → AreCellsAt source.old at cells → target.new ≡ put_each to (remove cells number) target.old }
+{
+    let (low, rest) = source.split_at_mut(number);
+    let (lost, high) = rest.split_at_mut(1);
+    let (target_low, target_high) = target.split_at_mut(number);
+    move_cells(low, at, target_low, to);
+    move_cells(high, at, target_high, to);
+    lost[0].take(at)
+}
+
+/// The number of the column of a kind.
+pub(crate) fn number_of(columns: &[Column], kind: u8) -> Option<usize>
+    ensures { result ≡ position_from (λ c. nat_eq kind c.kind) 0 columns.now }
+{
+    columns.iter().position(|column| column.kind() == kind)
+}
+
+/// The number of the first column whose kind isn't below a kind.
+pub(crate) fn number_from(columns: &[Column], kind: u8) -> Option<usize>
+    ensures { result ≡ position_from (λ c. not (nat_lt c.kind kind)) 0 columns.now }
+{
+    columns.iter().position(|column| column.kind() >= kind)
+}
+
+/// The number at which a cell of a kind goes among cells of the other columns' kinds: how many of these kinds are lower.
+pub(crate) fn number_for(columns: &[Column], kind: u8) -> usize
+    ensures within { result ≤ length columns.now }
+    ensures goes { (cells : List (ℕ × Cell)) (cell : Cell) → kinds_in cells ≡ kinds_of columns.now → cell_of cells kind ≡ None → insert cells result (kind, cell) ≡ with_cell cells kind cell }
+{
+    match number_from(columns, kind) {
+        Some(number) => number,
+        None => columns.len(),
+    }
+}
+
+/// Columns with equal kinds and cells, or an error where no memory was found.
+pub(crate) fn clone_columns(alloc: Global, columns: &[Column]) -> Result<Vec<Column>, AllocError>
+    ensures { IfOk result (λ copies. AllZip IsSameColumn columns.now copies.items) }
+{
+    let mut copies = Vec::new(alloc);
+    for column in columns {
+        copies.push(column.try_clone()?)?;
+    }
+    Ok(copies)
+}
