@@ -1,132 +1,113 @@
-//! What no clause says: that memory is found, and rows and ticks from outside.
-ghost use Rattle.std.specs.Prelude.{IfOk};
+//! What no clause says: that memory is found, and rows, values and ticks worked out by hand.
+ghost use Rattle.std.specs.Prelude.{◌≡◌, length, IfOk};
 ghost use Rattle.scene_kinds.specs.Cells.{HasKinds};
 
-use super::*;
-use scene_kinds::{Cell, CellRef, Cells, Entity, Row, Value};
+use crate::{ColumnRef, Table};
+use scene_kinds::{Cell, Cells, Entity, Row, Value};
 use std::alloc::{AllocError, Global};
 use std::test::Fail;
 
-/// A row of an entity of generation 1, with a number as kind 0 and a tag as kind 3, both of tick 2.
-fn numbered(alloc: Global, index: u32, number: i64) -> Result<Row, AllocError>
-    ensures { IfOk result (HasKinds 9) }
+fn entity(index: u32) -> Entity {
+    Entity {
+        index,
+        generation: 1,
+    }
+}
+
+fn cell(number: i64, added: u64, changed: u64) -> Cell {
+    Cell {
+        value: Value::Int(number),
+        added,
+        changed,
+    }
+}
+
+/// A row of generation 1 with a number as its one cell, of kind 0.
+fn numbered(alloc: Global, index: u32, cell: Cell) -> Result<Row, AllocError>
+    ensures { IfOk result (HasKinds 1) }
 {
     let mut items = Vec::new(alloc);
-    items.push((0, cell(Value::Int(number), 2)))?;
-    items.push((3, cell(Value::Tag, 2)))?;
+    items.push((0, cell))?;
     Ok(Row {
-        entity: Entity {
-            index,
-            generation: 1,
-        },
+        entity: entity(index),
         cells: Cells::from_vec(items),
     })
 }
 
-fn cell(value: Value, tick: u64) -> Cell {
-    Cell {
-        value,
-        added: tick,
-        changed: tick,
-    }
-}
-
-/// The number that a cell shows, with its ticks.
-fn seen(found: Option<CellRef<'_>>) -> Option<(i64, u64, u64)> {
-    let found = found?;
-    match found.value {
-        Value::Int(number) => Some((*number, found.added, found.changed)),
-        _ => None,
-    }
-}
-
-/// Three rows, with the numbers 10, 11 and 12.
-fn three_rows(alloc: Global) -> Result<Table, AllocError> {
-    let mut table = Table::new(alloc, 9);
-    table.reserve(3)?;
-    table.push_row_reserved(numbered(alloc, 0, 10)?);
-    table.push_row_reserved(numbered(alloc, 1, 11)?);
-    table.push_row_reserved(numbered(alloc, 2, 12)?);
+/// The rows of 0v1 to 3v1, with the numbers 10 to 13, added at the ticks 1 to 4 and changed at 5 to 8.
+fn four_rows(alloc: Global) -> Result<Table, AllocError>
+    ensures mask { IfOk result (λ table. table.mask ≡ 1) }
+    ensures count { IfOk result (λ table. length table.rows ≡ 4) }
+{
+    let mut table = Table::new(alloc, 1);
+    table.reserve(4)?;
+    table.push_row_reserved(numbered(alloc, 0, cell(10, 1, 5))?);
+    table.push_row_reserved(numbered(alloc, 1, cell(11, 2, 6))?);
+    table.push_row_reserved(numbered(alloc, 2, cell(12, 3, 7))?);
+    table.push_row_reserved(numbered(alloc, 3, cell(13, 4, 8))?);
     Ok(table)
 }
 
-#[test]
-fn rows_leave_by_a_swap_with_the_last(rt: HostRuntime) -> Result<(), Fail> {
-    let mut table = three_rows(rt.alloc())?;
-    assert_eq!(rt; table.len(), 3);
-    assert_eq!(rt; table.swap_remove(0)?.entity.index, 0);
-    assert_eq!(rt; table.len(), 2);
-    assert_eq!(rt; table.entity_at(0).index, 2);
-    assert_eq!(rt; table.entity_at(1).index, 1);
-    assert_eq!(rt; table.swap_remove(1)?.entity.index, 1);
-    assert_eq!(rt; table.len(), 1);
-    assert_eq!(rt; seen(table.cell(0, 0)), Some((12, 2, 2)));
-    table.drop_row(0);
-    assert!(rt; table.is_empty());
-    Ok(())
+/// Whether a column has these numbers and ticks.
+fn shows(column: Option<ColumnRef<'_>>, numbers: &[i64], added: &[u64], changed: &[u64]) -> bool {
+    let Some(column) = column else { return false };
+    column.values.len() == numbers.len()
+        && column.values.iter().zip(numbers).all(|(
+            value,
+            number,
+        )| matches!(value, Value::Int(n) if n == number))
+        && column.added == added
+        && column.changed == changed
 }
 
-#[test]
-fn a_cell_is_exchanged_and_a_copy_stays(rt: HostRuntime) -> Result<(), Fail> {
-    let alloc = rt.alloc();
-    let mut table = three_rows(alloc)?;
-    let copy = table.try_clone()?;
-    assert_eq!(rt; copy.mask(), 9);
-    assert_eq!(rt; table.len(), 3);
-    assert!(rt; table.cell(1, 0).is_some());
-    let old = table.set_cell(1, 0, cell(Value::Int(99), 7));
-    assert!(rt; matches!(old.value, Value::Int(11)));
-    assert_eq!(rt; seen(table.cell(1, 0)), Some((99, 7, 7)));
-    assert_eq!(rt; seen(table.cell(0, 0)), Some((10, 2, 2)));
-    assert!(rt; table.cell(1, 3).is_some());
-    assert!(rt; table.cell(1, 5).is_none());
-    assert_eq!(rt; copy.entities().len(), 3);
-    assert_eq!(rt; seen(copy.cell(1, 0)), Some((11, 2, 2)));
-    Ok(())
-}
-
-/// Two rows leave a table of four by swaps with the last, and come back in reverse order.
 #[test]
 fn rows_come_back_to_their_places(rt: HostRuntime) -> Result<(), Fail> {
-    let alloc = rt.alloc();
-    let mut table = three_rows(alloc)?;
-    table.push_row(numbered(alloc, 3, 13)?)?;
+    let mut table = four_rows(rt.alloc())?;
     let first = table.swap_remove(1)?;
+    assert_eq!(rt; table.len(), 3);
     let second = table.swap_remove(0)?;
-    assert_eq!(rt; table.len(), 2);
-    assert_eq!(rt; table.entity_at(0).index, 2);
-    assert_eq!(rt; table.entity_at(1).index, 3);
+    assert_eq!(rt; table.entities(), [entity(2), entity(3)].as_slice());
+    assert!(rt; shows(table.column(0), &[12, 13], &[3, 4], &[7, 8]));
     table.unswap(0, second)?;
+    assert_eq!(rt; table.len(), 3);
     table.unswap(1, first)?;
-    let entities = table.entities();
-    assert_eq!(rt; entities.len(), 4);
-    for (index, entity) in entities.iter().enumerate() {
-        assert_eq!(rt; entity.index as usize, index);
-    }
-    let column = table.column(0);
-    assert!(rt; column.is_some());
-    if let Some(numbers) = column {
-        assert_eq!(rt; numbers.values.len(), 4);
-        assert!(rt; matches!(numbers.values[0], Value::Int(10)));
-        assert!(rt; matches!(numbers.values[1], Value::Int(11)));
-        assert!(rt; matches!(numbers.values[2], Value::Int(12)));
-        assert!(rt; matches!(numbers.values[3], Value::Int(13)));
-        assert_eq!(rt; numbers.added[1], 2);
-        assert_eq!(rt; numbers.changed[3], 2);
-    }
+    assert_eq!(rt;
+        table.entities(),
+        [entity(0), entity(1), entity(2), entity(3)].as_slice()
+    );
+    assert!(rt;
+        shows(
+            table.column(0),
+            &[10, 11, 12, 13],
+            &[1, 2, 3, 4],
+            &[5, 6, 7, 8]
+        )
+    );
     Ok(())
 }
 
 #[test]
-fn a_new_table_lends_empty_columns(rt: HostRuntime) -> Result<(), Fail> {
-    let table = Table::new(rt.alloc(), 9);
-    assert!(rt; table.entities().is_empty());
-    assert!(rt; table.column(3).is_some());
-    assert!(rt; table.column(1).is_none());
-    if let Some(column) = table.column(0) {
-        assert!(rt; column.values.is_empty());
-        assert!(rt; column.added.is_empty());
-        assert!(rt; column.changed.is_empty());
-    }
+fn a_row_moves_with_a_cell_and_back_without_it(rt: HostRuntime) -> Result<(), Fail> {
+    let mut one = four_rows(rt.alloc())?;
+    let mut two = Table::new(rt.alloc(), 9);
+    two.reserve(1)?;
+    one.move_with(1, &mut two, 0, 3, cell(20, 9, 10));
+    assert_eq!(rt; two.entities(), [entity(1)].as_slice());
+    assert!(rt; shows(two.column(0), &[11], &[2], &[6]));
+    assert!(rt; shows(two.column(3), &[20], &[9], &[10]));
+    assert!(rt; shows(one.column(0), &[10, 13, 12], &[1, 4, 3], &[5, 8, 7]));
+    one.reserve(1)?;
+    assert_eq!(rt; two.len(), 1);
+    let left = two.move_without(0, &mut one, 0, 3);
+    assert!(rt; matches!(left.value, Value::Int(20)));
+    assert!(rt; two.is_empty());
+    assert!(rt;
+        shows(
+            one.column(0),
+            &[11, 13, 12, 10],
+            &[2, 4, 3, 1],
+            &[6, 8, 7, 5]
+        )
+    );
     Ok(())
 }
