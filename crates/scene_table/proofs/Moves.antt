@@ -25,7 +25,7 @@ use Rattle.scene_table.specs.Columns.{ColumnState, IsTable, AreColumnsOf, out_of
 use Rattle.scene_table.specs.Table.{row_with_cell, row_without_cell}
 use Rattle.scene_table.proofs.ColumnLists.{length-cells_at}
 use Rattle.scene_table.proofs.KindLists.{kinds_as_columns}
-use Rattle.scene_table.proofs.TableFacts.{IsRowAt, same_position, same_count, out_back, put_back_lent, left_table, left_rows, left_least, came_table, came_rows, came_least}
+use Rattle.scene_table.proofs.TableFacts.{IsRowAt, same_position, same_count, out_back, put_back_lent, left_table, left_rows, left_least, left_room, came_table, came_rows, came_least}
 
 -- a kind that stands among cells has a cell
 kind_there : (cells : List (ℕ × Cell)) (kind n : ℕ) (d : ℕ × Cell) → n < length cells → (get_or cells n d).0 ≡ kind → cell_of cells kind ≡ None → ⊥
@@ -139,6 +139,7 @@ pub record HasLeft (mask at : ℕ) (rows : List Row) (room : ℕ) (entities : Li
   pub table : IsTable mask entities capacity columns
   pub rows_are : rows_of entities columns ≡ swap_out rows at
   pub room_is : least capacity columns ≡ room
+  pub behind : length (rows_of entities columns) < least capacity columns
 
 pub has_left : (mask capacity at count : ℕ) (entities : List Entity) (columns lent new : List ColumnState) → IsTable mask entities capacity columns → at < length entities → count ≡ length columns → lent ≡ columns → new ≡ map (out_of_column at) lent →
     (less : List Entity) (same : ℕ) → less ≡ swap_out entities at → same ≡ capacity → HasLeft mask at (rows_of entities columns) (least capacity columns) less same (take count (new ++ drop (length new) columns))
@@ -148,6 +149,7 @@ has_left mask capacity at count entities columns lent new is within all back don
       table = left_table mask capacity at entities columns is within less same _ e f g;
       rows_are = left_rows mask capacity at entities columns is within less same _ e f g;
       room_is = left_least mask capacity at entities columns is within less same _ e f g;
+      behind = left_room mask capacity at entities columns is within less same _ e f g;
     }
 
 -- and after a row came
@@ -156,13 +158,13 @@ pub record HasCome (mask at : ℕ) (row : Row) (rows : List Row) (room : ℕ) (e
   pub rows_are : rows_of entities columns ≡ put_back rows at row
   pub room_is : least capacity columns ≡ room
 
-pub has_come : (mask capacity at count : ℕ) (entities : List Entity) (columns lent new : List ColumnState) → IsTable mask entities capacity columns → (row : Row) → kinds_in row.cells ≡ kinds_of columns → count ≡ length columns → lent ≡ columns →
+pub has_come : (mask capacity at count : ℕ) (entities : List Entity) (columns lent new : List ColumnState) → IsTable mask entities capacity columns → length entities < least capacity columns → (row : Row) → kinds_in row.cells ≡ kinds_of columns → count ≡ length columns → lent ≡ columns →
     new ≡ put_each at row.cells lent → (more : List Entity) (same : ℕ) → more ≡ put_back entities at row.entity → same ≡ capacity →
     HasCome mask at row (rows_of entities columns) (least capacity columns) more same (take count (new ++ drop (length new) columns))
-has_come mask capacity at count entities columns lent new is row kinds all back done more same e f =
+has_come mask capacity at count entities columns lent new is room row kinds all back done more same e f =
     let g = put_back_lent count at row.cells columns lent new all (same_count row.cells columns kinds) back done in
     record {
-      table = came_table mask capacity at entities columns is row.entity row.cells kinds more same _ e f g;
-      rows_are = came_rows mask capacity at entities columns is row.entity row.cells kinds more same _ e f g;
-      room_is = came_least mask capacity at entities columns is row.entity row.cells kinds more same _ e f g;
+      table = came_table mask capacity at entities columns is room row.entity row.cells kinds more same _ e f g;
+      rows_are = came_rows mask capacity at entities columns is room row.entity row.cells kinds more same _ e f g;
+      room_is = came_least mask capacity at entities columns is room row.entity row.cells kinds more same _ e f g;
     }

@@ -163,16 +163,18 @@ table_out mask entities capacity at columns is l =
     record {
       long = long_out (length (swap_out entities at)) at columns (subst (λ n. AreLong n columns) (sym count) is.long) (omega (arith, count));
       kinds = λ some row e. is.kinds some row (e ∙ kinds_out at columns);
+      fits = omega (arith, is.fits, count, least_out capacity at columns);
     }
 
 -- a table after a row came
-pub table_back : (mask : ℕ) (entities : List Entity) (capacity at : ℕ) (columns : List ColumnState) (entity : Entity) (cells : List (ℕ × Cell)) → IsTable mask entities capacity columns → length cells ≡ length columns →
+pub table_back : (mask : ℕ) (entities : List Entity) (capacity at : ℕ) (columns : List ColumnState) (entity : Entity) (cells : List (ℕ × Cell)) → IsTable mask entities capacity columns → length entities < least capacity columns → length cells ≡ length columns →
     IsTable mask (put_back entities at entity) capacity (put_each at cells columns)
-table_back mask entities capacity at columns entity cells is e =
+table_back mask entities capacity at columns entity cells is room e =
     let count = length-put_back entities at entity in
     record {
       long = subst (λ n. AreLong n (put_each at cells columns)) (sym count) (long_back (length entities) at cells columns is.long e);
       kinds = λ some row f. is.kinds some row (f ∙ kinds_back at cells columns e);
+      fits = omega (arith, room, count, least_back capacity at cells columns e);
     }
 
 -- the columns have room where the table does
@@ -241,13 +243,19 @@ module _ (mask capacity at : ℕ) (entities : List Entity) (columns : List Colum
   pub left_least : least same others ≡ least capacity columns
   left_least = (λ i. least (f i) (g i)) ∙ least_out capacity at columns
 
-module _ (mask capacity at : ℕ) (entities : List Entity) (columns : List ColumnState) (is : IsTable mask entities capacity columns) (entity : Entity) (cells : List (ℕ × Cell)) (kinds : kinds_in cells ≡ kinds_of columns) (more : List Entity) (same : ℕ) (others : List ColumnState)
+  -- the room of the row stays behind
+  pub left_room : length (rows_of left others) < least same others
+  left_room =
+      let count = length-rows_of entities columns is.long in
+      omega (arith, is.fits, ap length left_rows, left_least, count, length-swap_out (rows_of entities columns) at (omega (arith, within, count)))
+
+module _ (mask capacity at : ℕ) (entities : List Entity) (columns : List ColumnState) (is : IsTable mask entities capacity columns) (room : length entities < least capacity columns) (entity : Entity) (cells : List (ℕ × Cell)) (kinds : kinds_in cells ≡ kinds_of columns) (more : List Entity) (same : ℕ) (others : List ColumnState)
     (e : more ≡ put_back entities at entity) (f : same ≡ capacity) (g : others ≡ put_each at cells columns) where
   -- what holds after a row came
   pub came_table : IsTable mask more same others
   came_table =
       subst (λ (t : List Entity). IsTable mask t same others) (sym e) (subst (λ (n : ℕ). IsTable mask (put_back entities at entity) n others) (sym f)
-      (subst (λ (t : List ColumnState). IsTable mask (put_back entities at entity) capacity t) (sym g) (table_back mask entities capacity at columns entity cells is (same_count cells columns kinds))))
+      (subst (λ (t : List ColumnState). IsTable mask (put_back entities at entity) capacity t) (sym g) (table_back mask entities capacity at columns entity cells is room (same_count cells columns kinds))))
 
   pub came_rows : rows_of more others ≡ put_back (rows_of entities columns) at (record { entity = entity; cells = cells })
   came_rows = (λ i. rows_of (e i) (g i)) ∙ rows_back entities columns at entity cells is.long kinds
@@ -261,14 +269,15 @@ module _ (mask capacity at kind n : ℕ) (entities : List Entity) (columns : Lis
   set_within : n < length columns
   set_within = (cell_found entities columns at kind n d is.long within found).0
 
+  pub set_least : least capacity (slice_set columns n new) ≡ least capacity columns
+  set_least = ap (λ t. least capacity (slice_set columns n t)) e ∙ least_set capacity n columns d (slice_set (get_or columns n d).cells at cell)
+
   pub set_table : IsTable mask entities capacity (slice_set columns n new)
   set_table = record {
     long = All-set (λ (c : ColumnState). length c.cells ≡ length entities) columns n new (ap (λ (c : ColumnState). length c.cells) e ∙ length-set (get_or columns n d).cells at cell ∙ is.long n d set_within) is.long;
     kinds = λ some row f. is.kinds some row (f ∙ ap (λ t. kinds_of (slice_set columns n t)) e ∙ kinds_set n columns d (slice_set (get_or columns n d).cells at cell));
+    fits = omega (arith, is.fits, set_least);
   }
-
-  pub set_least : least capacity (slice_set columns n new) ≡ least capacity columns
-  set_least = ap (λ t. least capacity (slice_set columns n t)) e ∙ least_set capacity n columns d (slice_set (get_or columns n d).cells at cell)
 
   pub set_rows : rows_of entities (slice_set columns n new) ≡ rows_with_cell (rows_of entities columns) at kind cell
   set_rows =
@@ -353,6 +362,7 @@ pub record AreReady (mask : ℕ) (entities : List Entity) (capacity : ℕ) (colu
   pub kinds : AreColumnsOf mask ready
   pub rows : rows_of entities ready ≡ rows_of entities columns
   pub wide : least capacity columns ≤ least capacity ready
+  pub fits : length entities ≤ least capacity ready
 
 pub are_ready : (mask : ℕ) (entities : List Entity) (capacity : ℕ) (columns ready : List ColumnState) → IsTable mask entities capacity columns → length entities ≤ capacity →
     (0 < capacity → ready ≡ columns) → (capacity ≡ 0 → AreColumnsOf mask ready × AreLong 0 ready) → AreReady mask entities capacity columns ready
@@ -364,6 +374,7 @@ are_ready mask entities zero columns ready is fits kept made =
       kinds = m.0;
       rows = (λ i. rows_of (none i) ready) ∙ no_rows ready m.1 ∙ sym (no_rows columns (subst (λ (es : List Entity). AreLong (length es) columns) none is.long)) ∙ (λ i. rows_of (sym none i) columns);
       wide = omega (arith, least_first 0 columns);
+      fits = omega (arith, fits);
     }
   where
     nothing : (es : List Entity) → length es ≤ 0 → es ≡ []
@@ -371,7 +382,7 @@ are_ready mask entities zero columns ready is fits kept made =
     nothing (e ∷ es) l = absurd (omega arith)
 are_ready mask entities (suc capacity) columns ready is fits kept made =
     let same = sym (kept (omega arith)) in
-    subst (AreReady mask entities (suc capacity) columns) same (record { long = is.long; kinds = is.kinds (omega arith); rows = refl; wide = omega arith })
+    subst (AreReady mask entities (suc capacity) columns) same (record { long = is.long; kinds = is.kinds (omega arith); rows = refl; wide = omega arith; fits = is.fits })
 
 -- a table after its columns grew, and perhaps its list of entities
 pub record IsWider (mask : ℕ) (entities : List Entity) (capacity wider : ℕ) (columns others : List ColumnState) : Type 0 where
@@ -385,7 +396,7 @@ is_wider mask entities capacity wider count columns ready lent new is l e f grow
     let all : AllZip IsGrown ready new = subst (λ t. AllZip IsGrown t new) f grown in
     let same = grown_same ready new all in
     subst (IsWider mask entities capacity wider columns) (sym (written_back count new ready e (length-grown ready new all))) (record {
-      table = record { long = same_long (length entities) ready new same is.long; kinds = λ some row g. is.kinds row (g ∙ same_kinds_of ready new same) };
+      table = record { long = same_long (length entities) ready new same is.long; kinds = λ some row g. is.kinds row (g ∙ same_kinds_of ready new same); fits = omega (arith, is.fits, least_grown capacity wider ready new l all) };
       rows = same_rows entities ready new same ∙ is.rows;
       wide = omega (arith, is.wide, least_grown capacity wider ready new l all);
     })
@@ -397,7 +408,7 @@ grown_table mask entities capacity count columns lent new is e f grown =
     let all : AllZip IsGrown columns new = subst (λ t. AllZip IsGrown t new) f grown in
     let same = grown_same columns new all in
     subst (IsWider mask entities capacity capacity columns) (sym (written_back count new columns e (length-grown columns new all))) (record {
-      table = record { long = same_long (length entities) columns new same is.long; kinds = λ some row g. is.kinds some row (g ∙ same_kinds_of columns new same) };
+      table = record { long = same_long (length entities) columns new same is.long; kinds = λ some row g. is.kinds some row (g ∙ same_kinds_of columns new same); fits = omega (arith, is.fits, least_grown capacity capacity columns new (omega arith) all) };
       rows = same_rows entities columns new same;
       wide = least_grown capacity capacity columns new (omega arith) all;
     })

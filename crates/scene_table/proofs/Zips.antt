@@ -1,5 +1,5 @@
 -- Two lists made one: what is done to both is done to the one.
-use Rattle.std.proofs.Common.{◌≡◌, ℕ, zero, suc, List, [], ◌∷◌, ◌++◌, length, refl, ap, arith, Some, None}
+use Rattle.std.proofs.Common.{◌≡◌, ◌≤◌, ℕ, zero, suc, List, [], ◌∷◌, ◌++◌, length, refl, ap, arith, Some, None}
 use Rattle.std.specs.Prelude.{slice_get, slice_set}
 use Rattle.scene_table.specs.Rows.{last_of, front_of, last_first, swap_out, put_back}
 use Rattle.scene_table.specs.Columns.{zip_with}
@@ -10,6 +10,12 @@ module _ {X Y Z : Type 0} (f : X → Y → Z) where
   zip-length [] ys e = refl
   zip-length (x ∷ xs) [] e = absurd (omega arith)
   zip-length (x ∷ xs) (y ∷ ys) e = ap (λ n. suc n) (zip-length xs ys (omega arith))
+
+  -- it is no longer than either
+  pub zip-low : (xs : List X) (ys : List Y) → (length (zip_with f xs ys) ≤ length xs) × (length (zip_with f xs ys) ≤ length ys)
+  zip-low [] ys = (omega arith, omega arith)
+  zip-low (x ∷ xs) [] = (omega arith, omega arith)
+  zip-low (x ∷ xs) (y ∷ ys) = let rest = zip-low xs ys in (omega (arith, rest.0), omega (arith, rest.1))
 
   -- one more of each
   zip-last : (xs : List X) (ys : List Y) (x : X) (y : Y) → length xs ≡ length ys → zip_with f (xs ++ x ∷ []) (ys ++ y ∷ []) ≡ zip_with f xs ys ++ f x y ∷ []

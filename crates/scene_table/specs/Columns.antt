@@ -99,7 +99,8 @@ least capacity (column ∷ columns) = min column.capacity (least capacity column
 abbrev pub AreColumnsOf : ℕ → List ColumnState → Type 0
 AreColumnsOf mask columns = (row : Row) → kinds_in row.cells ≡ kinds_of columns → HasKinds mask row
 
--- what holds in a table: its columns are as long as its entities, and once it has memory they are those of its kinds
+-- what holds in a table: its columns are as long as its entities, once it has memory they are those of its kinds, and its rows fit
 pub record IsTable (mask : ℕ) (entities : List Entity) (capacity : ℕ) (columns : List ColumnState) : Type 0 where
   pub long : AreLong (length entities) columns
   pub kinds : 0 < capacity → AreColumnsOf mask columns
+  pub fits : length entities ≤ least capacity columns

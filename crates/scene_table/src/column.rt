@@ -138,6 +138,7 @@ impl Column {
     pub(crate) fn try_clone(&self) -> Result<Column, AllocError>
         ensures kind { IfOk result (λ copy. copy.kind ≡ self.now.kind) }
         ensures cells { IfOk result (λ copy. copy.cells ≡ self.now.cells) }
+        ensures fits { IfOk result (λ copy. length copy.cells ≤ copy.capacity) }
     {
         Ok(Column {
             kind: self.kind,

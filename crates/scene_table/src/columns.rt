@@ -189,7 +189,8 @@ pub(crate) fn number_for(columns: &[Column], kind: u8) -> usize
 
 /// Columns with equal kinds and cells, or an error where no memory was found.
 pub(crate) fn clone_columns(alloc: Global, columns: &[Column]) -> Result<Vec<Column>, AllocError>
-    ensures { IfOk result (λ copies. AllZip IsSameColumn columns.now copies.items) }
+    ensures same { IfOk result (λ copies. AllZip IsSameColumn columns.now copies.items) }
+    ensures fits { IfOk result (λ copies. All (λ copy. length copy.cells ≤ copy.capacity) copies.items) }
 {
     let mut copies = Vec::new(alloc);
     for column in columns {

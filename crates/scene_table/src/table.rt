@@ -67,6 +67,7 @@ impl Table {
     pub fn len(&self) -> usize
         ensures count { result ≡ length self.now.rows }
         ensures kinds { AllHave self.now.mask self.now.rows }
+        ensures fits { length self.now.rows ≤ self.now.capacity }
     {
         self.entities.len()
     }
@@ -215,6 +216,7 @@ impl Table {
         ensures ok { OnOk result (self.new.rows ≡ swap_out self.old.rows at) }
         ensures err { OnErr result (self.new.rows ≡ self.old.rows) }
         ensures capacity { self.new.capacity ≡ self.old.capacity }
+        ensures behind { OnOk result (HasRoom self.new) }
     {
         let room = Vec::with_capacity(*self.entities.allocator(), self.columns.len())?;
         Ok(self.swap_remove_into(at, room))
@@ -231,6 +233,7 @@ impl Table {
         ensures fits { HasKinds self.old.mask result }
         ensures rows { self.new.rows ≡ swap_out self.old.rows at }
         ensures capacity { self.new.capacity ≡ self.old.capacity }
+        ensures behind { HasRoom self.new }
     {
         let cells = take_cells(&mut self.columns, at, room);
         Row {
@@ -246,6 +249,7 @@ impl Table {
         ensures mask { self.new.mask ≡ self.old.mask }
         ensures rows { self.new.rows ≡ swap_out self.old.rows at }
         ensures capacity { self.new.capacity ≡ self.old.capacity }
+        ensures behind { HasRoom self.new }
     {
         drop_cells(&mut self.columns, at);
         self.entities.swap_remove(at);
@@ -318,6 +322,7 @@ impl Table {
         ensures mask { self.new.mask ≡ self.old.mask }
         ensures rows { self.new.rows ≡ swap_out self.old.rows at }
         ensures capacity { self.new.capacity ≡ self.old.capacity }
+        ensures behind { HasRoom self.new }
         ensures target_mask { target.new.mask ≡ target.old.mask }
         ensures target_rows { (row : Row) → slice_get self.old.rows at ≡ Some row → target.new.rows ≡ put_back target.old.rows to (row_with_cell row kind cell) }
         ensures target_capacity { target.new.capacity ≡ target.old.capacity }
@@ -340,6 +345,7 @@ impl Table {
         ensures mask { self.new.mask ≡ self.old.mask }
         ensures rows { self.new.rows ≡ swap_out self.old.rows at }
         ensures capacity { self.new.capacity ≡ self.old.capacity }
+        ensures behind { HasRoom self.new }
         ensures cell { cell_at self.old.rows at kind ≡ Some result }
         ensures target_mask { target.new.mask ≡ target.old.mask }
         ensures target_rows { (row : Row) → slice_get self.old.rows at ≡ Some row → target.new.rows ≡ put_back target.old.rows to (row_without_cell row kind) }

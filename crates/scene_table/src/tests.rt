@@ -96,7 +96,6 @@ fn a_row_moves_with_a_cell_and_back_without_it(rt: HostRuntime) -> Result<(), Fa
     assert!(rt; shows(two.column(0), &[11], &[2], &[6]));
     assert!(rt; shows(two.column(3), &[20], &[9], &[10]));
     assert!(rt; shows(one.column(0), &[10, 13, 12], &[1, 4, 3], &[5, 8, 7]));
-    one.reserve(1)?;
     assert_eq!(rt; two.len(), 1);
     let left = two.move_without(0, &mut one, 0, 3);
     assert!(rt; matches!(left.value, Value::Int(20)));

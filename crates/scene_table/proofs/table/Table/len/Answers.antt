@@ -12,3 +12,8 @@ returns-clause-count c =
 pub returns-clause-kinds : goal.returns-clause-kinds
 returns-clause-kinds c =
     subst (λ (t : TableState). AllHave t.mask t.rows) c.self.view_is (all_have c.self.inside.mask c.self.inside.entities.items _ c.self.inside.columns.items c.self.invariant (omega arith))
+
+pub returns-clause-fits : goal.returns-clause-fits
+returns-clause-fits c =
+    let n = ap (λ t. length t.rows) (sym c.self.view_is) ∙ length-rows_of c.self.inside.entities.items c.self.inside.columns.items c.self.invariant.long in
+    omega (arith, c.self.invariant.fits, ap (λ t. t.capacity) c.self.view_is)

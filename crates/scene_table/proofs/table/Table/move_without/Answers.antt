@@ -104,6 +104,9 @@ returns-clause-rows c = (went (goal.at.returns-clause-rows c).After-move_entity)
 pub returns-clause-capacity : goal.returns-clause-capacity
 returns-clause-capacity c = (went (goal.at.returns-clause-capacity c).After-move_entity).room_is ∙ ap (λ t. t.capacity) c.self.view_is
 
+pub returns-clause-behind : goal.returns-clause-behind
+returns-clause-behind c = (went (goal.at.returns-clause-behind c).After-move_entity).behind
+
 pub returns-clause-cell : goal.returns-clause-cell
 returns-clause-cell c =
     let b = (goal.at.returns-clause-cell c).After-deref_mut-2 in
@@ -114,11 +117,11 @@ returns-clause-cell c =
 
 -- the table to which it came
 came : (c : After-move_entity) (row : Row) → IsRowAt c.self.inside.entities.items c.self.inside.columns.items c.args.at row →
-    IsLost c.self.inside.columns.items c.target.inside.columns.items c.in-Some.number c.args.kind row →
+    IsLost c.self.inside.columns.items c.target.inside.columns.items c.in-Some.number c.args.kind row → length c.target.inside.entities.items < least (vec_capacity c.target.inside.entities) c.target.inside.columns.items →
     HasCome c.target.inside.mask c.args.to (row_without_cell row c.args.kind) (rows_of c.target.inside.entities.items c.target.inside.columns.items) (least (vec_capacity c.target.inside.entities) c.target.inside.columns.items)
     c.move_entity.new.target.items (vec_capacity c.move_entity.new.target) (take c.target.inside.columns.len (c.move_losing-cell.new.target ++ drop (length c.move_losing-cell.new.target) c.target.inside.columns.items))
-came c row there is =
-    has_come c.target.inside.mask (vec_capacity c.target.inside.entities) c.args.to c.target.inside.columns.len c.target.inside.entities.items c.target.inside.columns.items c.deref_mut-2.result.now c.move_losing-cell.new.target c.target.invariant
+came c row there is wide =
+    has_come c.target.inside.mask (vec_capacity c.target.inside.entities) c.args.to c.target.inside.columns.len c.target.inside.entities.items c.target.inside.columns.items c.deref_mut-2.result.now c.move_losing-cell.new.target c.target.invariant wide
     (row_without_cell row c.args.kind) is.kinds (omega arith) c.deref_mut-2.ensures.value
     (c.move_losing-cell.ensures.put row.cells (subst (λ (cs : List ColumnState). AreCellsAt cs c.args.at row.cells) (sym c.deref_mut.ensures.value) there.cells_stand) ∙ ap (λ t. put_each c.args.to t c.deref_mut-2.result.now) is.removed)
     c.move_entity.new.target.items (vec_capacity c.move_entity.new.target) (c.move_entity.ensures.put row.entity there.entity_stands) c.move_entity.ensures.put_capacity
@@ -127,16 +130,16 @@ pub invariant_of-target : goal.invariant_of-target
 invariant_of-target c =
     let b = (goal.at.invariant_of-target c).After-deref_mut-2 in
     let there = row_there c.self.inside.entities.items c.self.inside.columns.items c.args.at c.self.invariant.long (own b) in
-    (came (goal.at.invariant_of-target c).After-move_entity there.0 there.1 (lost b there.0 there.1)).table
+    (came (goal.at.invariant_of-target c).After-move_entity there.0 there.1 (lost b there.0 there.1) (room b)).table
 
 pub returns-clause-target_rows : goal.returns-clause-target_rows
 returns-clause-target_rows c row is =
     let b = (goal.at.returns-clause-target_rows c).After-deref_mut-2 in
     let there = is_row_at c.self.inside.entities.items c.self.inside.columns.items c.args.at row (ap (λ t. slice_get t.rows c.args.at) c.self.view_is ∙ is) in
-    (came (goal.at.returns-clause-target_rows c).After-move_entity row there (lost b row there)).rows_are ∙ ap (λ t. put_back t.rows c.args.to (row_without_cell row c.args.kind)) c.target.view_is
+    (came (goal.at.returns-clause-target_rows c).After-move_entity row there (lost b row there) (room b)).rows_are ∙ ap (λ t. put_back t.rows c.args.to (row_without_cell row c.args.kind)) c.target.view_is
 
 pub returns-clause-target_capacity : goal.returns-clause-target_capacity
 returns-clause-target_capacity c =
     let b = (goal.at.returns-clause-target_capacity c).After-deref_mut-2 in
     let there = row_there c.self.inside.entities.items c.self.inside.columns.items c.args.at c.self.invariant.long (own b) in
-    (came (goal.at.returns-clause-target_capacity c).After-move_entity there.0 there.1 (lost b there.0 there.1)).room_is ∙ ap (λ t. t.capacity) c.target.view_is
+    (came (goal.at.returns-clause-target_capacity c).After-move_entity there.0 there.1 (lost b there.0 there.1) (room b)).room_is ∙ ap (λ t. t.capacity) c.target.view_is

@@ -8,7 +8,7 @@ use Rattle.scene_table.specs.Columns.{ColumnState, kinds_in, AreCellsAt}
 use Rattle.scene_table.proofs.Swaps.{swap_remove_is}
 use Rattle.scene_table.proofs.ColumnLists.{length-cells_at}
 use Rattle.scene_table.proofs.TableRows.{length-rows_of, rows_get}
-use Rattle.scene_table.proofs.TableFacts.{cells_kinds, row_there, within_each, out_back, left_table, left_rows, left_least}
+use Rattle.scene_table.proofs.TableFacts.{cells_kinds, row_there, within_each, out_back, left_table, left_rows, left_least, left_room}
 use Rattle.scene_table.proofs.table.Table.swap_remove_into.Goals as goal
 
 pub take_cells-cells-requires-clause-within : goal.take_cells-cells-requires-clause-within
@@ -70,3 +70,10 @@ returns-clause-capacity c =
     left_least c.self.inside.mask (vec_capacity c.self.inside.entities) c.args.at c.self.inside.entities.items c.self.inside.columns.items c.self.invariant (omega arith) c.swap_remove.new.self.items (vec_capacity c.swap_remove.new.self) _
     (c.swap_remove.ensures.items ∙ swap_remove_is c.self.inside.entities.items c.args.at c.swap_remove.result (omega arith)) c.swap_remove.ensures.capacity made
     ∙ ap (λ t. t.capacity) c.self.view_is
+
+pub returns-clause-behind : goal.returns-clause-behind
+returns-clause-behind c =
+    let n = ap (λ t. length t.rows) (sym c.self.view_is) ∙ length-rows_of c.self.inside.entities.items c.self.inside.columns.items c.self.invariant.long in
+    let made = out_back c.self.inside.columns.len c.args.at c.self.inside.columns.items c.deref_mut.result.now c.take_cells-cells.new.columns (omega arith) c.deref_mut.ensures.value c.take_cells-cells.ensures.left in
+    left_room c.self.inside.mask (vec_capacity c.self.inside.entities) c.args.at c.self.inside.entities.items c.self.inside.columns.items c.self.invariant (omega arith) c.swap_remove.new.self.items (vec_capacity c.swap_remove.new.self) _
+    (c.swap_remove.ensures.items ∙ swap_remove_is c.self.inside.entities.items c.args.at c.swap_remove.result (omega arith)) c.swap_remove.ensures.capacity made

@@ -52,7 +52,7 @@ invariant_of-self c =
     let count = same_count c.args.row.cells c.self.inside.columns.items kinds in
     let made = put_back_lent c.self.inside.columns.len c.args.at c.args.row.cells c.self.inside.columns.items c.deref_mut.result.now c.put_cells.new.columns (omega arith) count c.deref_mut.ensures.value
     (c.put_cells.ensures ∙ ap (λ t. put_each c.args.at t c.deref_mut.result.now) c.into_vec.ensures) in
-    came_table c.self.inside.mask (vec_capacity c.self.inside.entities) c.args.at c.self.inside.entities.items c.self.inside.columns.items c.self.invariant c.args.row.entity c.args.row.cells kinds c.swap.new.self.items (vec_capacity c.swap.new.self) _
+    came_table c.self.inside.mask (vec_capacity c.self.inside.entities) c.args.at c.self.inside.entities.items c.self.inside.columns.items c.self.invariant (omega arith) c.args.row.entity c.args.row.cells kinds c.swap.new.self.items (vec_capacity c.swap.new.self) _
     (c.swap.ensures.items ∙ ap (λ t. swap t c.args.at c.len-last.result) c.push_reserved.ensures.items ∙ swap_is c.self.inside.entities.items c.args.at c.len-last.result c.args.row.entity (omega arith) (omega (arith, c.len-last.ensures)))
     (c.swap.ensures.capacity ∙ c.push_reserved.ensures.capacity) made
 
@@ -67,7 +67,7 @@ returns-clause-rows c =
     let count = same_count c.args.row.cells c.self.inside.columns.items kinds in
     let made = put_back_lent c.self.inside.columns.len c.args.at c.args.row.cells c.self.inside.columns.items c.deref_mut.result.now c.put_cells.new.columns (omega arith) count c.deref_mut.ensures.value
     (c.put_cells.ensures ∙ ap (λ t. put_each c.args.at t c.deref_mut.result.now) c.into_vec.ensures) in
-    came_rows c.self.inside.mask (vec_capacity c.self.inside.entities) c.args.at c.self.inside.entities.items c.self.inside.columns.items c.self.invariant c.args.row.entity c.args.row.cells kinds c.swap.new.self.items (vec_capacity c.swap.new.self) _
+    came_rows c.self.inside.mask (vec_capacity c.self.inside.entities) c.args.at c.self.inside.entities.items c.self.inside.columns.items c.self.invariant (omega arith) c.args.row.entity c.args.row.cells kinds c.swap.new.self.items (vec_capacity c.swap.new.self) _
     (c.swap.ensures.items ∙ ap (λ t. swap t c.args.at c.len-last.result) c.push_reserved.ensures.items ∙ swap_is c.self.inside.entities.items c.args.at c.len-last.result c.args.row.entity (omega arith) (omega (arith, c.len-last.ensures)))
     (c.swap.ensures.capacity ∙ c.push_reserved.ensures.capacity) made
     ∙ ap (λ t. put_back t.rows c.args.at c.args.row) c.self.view_is
@@ -83,7 +83,7 @@ returns-clause-capacity c =
     let count = same_count c.args.row.cells c.self.inside.columns.items kinds in
     let made = put_back_lent c.self.inside.columns.len c.args.at c.args.row.cells c.self.inside.columns.items c.deref_mut.result.now c.put_cells.new.columns (omega arith) count c.deref_mut.ensures.value
     (c.put_cells.ensures ∙ ap (λ t. put_each c.args.at t c.deref_mut.result.now) c.into_vec.ensures) in
-    came_least c.self.inside.mask (vec_capacity c.self.inside.entities) c.args.at c.self.inside.entities.items c.self.inside.columns.items c.self.invariant c.args.row.entity c.args.row.cells kinds c.swap.new.self.items (vec_capacity c.swap.new.self) _
+    came_least c.self.inside.mask (vec_capacity c.self.inside.entities) c.args.at c.self.inside.entities.items c.self.inside.columns.items c.self.invariant (omega arith) c.args.row.entity c.args.row.cells kinds c.swap.new.self.items (vec_capacity c.swap.new.self) _
     (c.swap.ensures.items ∙ ap (λ t. swap t c.args.at c.len-last.result) c.push_reserved.ensures.items ∙ swap_is c.self.inside.entities.items c.args.at c.len-last.result c.args.row.entity (omega arith) (omega (arith, c.len-last.ensures)))
     (c.swap.ensures.capacity ∙ c.push_reserved.ensures.capacity) made
     ∙ r
