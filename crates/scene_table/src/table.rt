@@ -309,9 +309,12 @@ impl Table {
         }
     }
 
-    /// Moves the row at a place to a place of the table that has one kind more, with a cell of that kind. Here the last
-    /// row takes its place; there the row that stood at its place goes last. It takes no memory, since there must be room
-    /// in the other table, and leaves the room of the row behind. It costs the row's cells.
+    /// Moves the row at a place to a place of the table that has one kind more, with a cell of that kind (docs/MODEL.md,
+    /// "The rule of moves"). Its other cells go with it, ticks included.
+    ///
+    /// Here the last row takes its place. There the row that stood at its place goes last; at the place behind the last
+    /// it just goes there. It takes no memory, since there must be room in the other table, and leaves the room of the
+    /// row behind. It costs a walk over the row's cells.
     pub fn move_with(&mut self, at: usize, target: &mut Table, to: usize, kind: u8, cell: Cell)
         requires within { at < length self.old.rows }
         requires place { to ≤ length target.old.rows }
@@ -332,9 +335,11 @@ impl Table {
         move_entity(&mut self.entities, at, &mut target.entities, to);
     }
 
-    /// Moves the row at a place to a place of the table that has one kind less, and gives the cell of that kind. Here the
-    /// last row takes its place; there the row that stood at its place goes last. It takes no memory, since there must be
-    /// room in the other table, and leaves the room of the row behind. It costs the row's cells.
+    /// Moves the row at a place to a place of the table that has one kind less, and gives the cell of that kind
+    /// (docs/MODEL.md, "The rule of moves"). It takes back what `move_with` did at those places, and the reverse.
+    ///
+    /// The rows of both tables change places as in `move_with`. It takes no memory, since there must be room in the other
+    /// table, and leaves the room of the row behind. It costs a walk over the row's cells.
     pub fn move_without(&mut self, at: usize, target: &mut Table, to: usize, kind: u8) -> Cell
         requires within { at < length self.old.rows }
         requires place { to ≤ length target.old.rows }
