@@ -2,9 +2,9 @@
 //!
 //! A script's bytes are cut into lines and a line into words. The words are read as numbers, entities, targets,
 //! cells and commands, and a line becomes one value of the type `Line`, or a `BadLine`, which says its first mistake.
-//! Values, cells and rows print as docs/SCRIPTS.md, "Output", says. Each step is exact against a total function of
-//! bytes in `specs/` (docs/SCRIPTS.md explains the language). The crate knows of no world: what a line does is
-//! scene_app's.
+//! Values, cells and the parts of a row print as docs/SCRIPTS.md, "Output", says. Each step is exact against a total
+//! function of bytes in `specs/` (docs/SCRIPTS.md explains the language). The crate knows of no world: what a line does
+//! is scene_app's.
 #![tactic(auto)]
 
 mod bad_line;

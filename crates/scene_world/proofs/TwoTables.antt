@@ -28,29 +28,27 @@ indices_apart : (ts : List TableState) (mask to s t : ℕ) (d : TableState) → 
 indices_apart ts mask to s t d first second apart same =
     apart (sym (mask_of_first ts mask s d first) ∙ ap (λ i. (slice_index_or ts i d).mask) (sym same) ∙ mask_of_first ts to t d second)
 
--- one table was taken out, another written, and the first put back
-record AreWritten (ts : List TableState) (mask to s t : ℕ) (empty target source : TableState) : Type 0 where
-  first : StandsAt ts mask s
+-- where the tables stand once one was taken out, and once the other was written
+record AreWritten (ts : List TableState) (mask to s t : ℕ) (empty target : TableState) : Type 0 where
   second : StandsAt (slice_set ts s empty) to t
   third : StandsAt (slice_set (slice_set ts s empty) t target) mask s
 
-are_written : (ts : List TableState) (mask to s t : ℕ) (empty target source : TableState) → StandsAt ts mask s → StandsAt ts to t → empty.mask ≡ mask → target.mask ≡ to → AreWritten ts mask to s t empty target source
-are_written ts mask to s t empty target source first second e m =
+are_written : (ts : List TableState) (mask to s t : ℕ) (empty target : TableState) → StandsAt ts mask s → StandsAt ts to t → empty.mask ≡ mask → target.mask ≡ to → AreWritten ts mask to s t empty target
+are_written ts mask to s t empty target first second e m =
     let there = stands_kept ts s empty empty (e ∙ sym (mask_of_first ts mask s empty first.first)) in
     let two : StandsAt (slice_set ts s empty) to t = there to t second in
     record {
-      first = first;
       second = two;
       third = stands_kept (slice_set ts s empty) t empty target (m ∙ sym (mask_of_first (slice_set ts s empty) to t empty two.first)) mask s (there mask s first);
     }
 
--- the rows of both are seen
+-- the rows of both are seen, once the first was put back
 pub both_written : (ts : List TableState) (mask to s t : ℕ) (empty target source : TableState) → StandsAt ts mask s → StandsAt ts to t → (mask ≡ to → ⊥) → empty.mask ≡ mask → target.mask ≡ to → source.mask ≡ mask →
     tables_of (slice_set (slice_set (slice_set ts s empty) t target) s source) ≡ with_rows (with_rows (tables_of ts) mask source.rows) to target.rows
 both_written ts mask to s t empty target source first second apart e m n =
-    let w = are_written ts mask to s t empty target source first second e m in
+    let w = are_written ts mask to s t empty target first second e m in
     tables_of_set (slice_set (slice_set ts s empty) t target) mask s source w.third.first n
-    ∙ ap (λ z. with_rows z mask source.rows) (tables_of_set (slice_set ts s empty) to t target w.second.first m ∙ ap (λ z. with_rows z to target.rows) (tables_of_set ts mask s empty w.first.first e))
+    ∙ ap (λ z. with_rows z mask source.rows) (tables_of_set (slice_set ts s empty) to t target w.second.first m ∙ ap (λ z. with_rows z to target.rows) (tables_of_set ts mask s empty first.first e))
     ∙ with_list_apart nat_cmp_total nat_cmp-IsAntisymmetric (with_rows (tables_of ts) mask empty.rows) to mask target.rows source.rows (λ q. apart (sym q))
     ∙ ap (λ z. with_rows z to target.rows) (with_list-with_list nat_cmp_total nat_cmp-IsAntisymmetric (tables_of ts) mask empty.rows source.rows)
 
@@ -58,7 +56,7 @@ both_written ts mask to s t empty target source first second apart e m n =
 pub both_apart : (ts : List TableState) (mask to s t : ℕ) (empty target source : TableState) → StandsAt ts mask s → StandsAt ts to t → empty.mask ≡ mask → target.mask ≡ to → source.mask ≡ mask → AreApart ts →
     AreApart (slice_set (slice_set (slice_set ts s empty) t target) s source)
 both_apart ts mask to s t empty target source first second e m n a =
-    let w = are_written ts mask to s t empty target source first second e m in
+    let w = are_written ts mask to s t empty target first second e m in
     apart_kept (slice_set (slice_set ts s empty) t target) s empty source (n ∙ sym (mask_of_first (slice_set (slice_set ts s empty) t target) mask s empty w.third.first))
     (apart_kept (slice_set ts s empty) t empty target (m ∙ sym (mask_of_first (slice_set ts s empty) to t empty w.second.first)) (apart_kept ts s empty empty (e ∙ sym (mask_of_first ts mask s empty first.first)) a))
 
