@@ -22,7 +22,7 @@ use Rattle.scene_world.specs.Laws.{DespawnRecursiveIsWhole}
 use Rattle.scene_world.proofs.Homes.{live_here}
 use Rattle.scene_world.proofs.Lives.{lives_removed}
 use Rattle.scene_world.proofs.Outcomes.{not_ok, same_world, with_row_of}
-use Rattle.scene_world.proofs.Scans.{some_home}
+use Rattle.scene_world.proofs.Found.{some_home}
 use Rattle.scene_world.proofs.DespawnKeeps.{childless, despawn_keeps}
 
 -- the entities of a list can go one after another: each is alive, none stands twice, and none has children left by

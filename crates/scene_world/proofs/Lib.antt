@@ -31,12 +31,12 @@ pub mod ResourceKeeps
 pub mod ReturnedRows
 pub mod RowLists
 pub mod Rows
-pub mod Scans
+pub mod Found
 pub mod ShiftBack
 pub mod ShiftedCells
 pub mod SpawnKeeps
 pub mod Stored
 pub mod Rooms
 pub mod TakenSlots
-pub mod TwoTables
+pub mod KindThere
 pub mod WrittenHomes

@@ -1,6 +1,6 @@
 -- The tables of the code after one of them was made, grown or written.
 use Rattle.std.proofs.Common.{◌≡◌, ℕ, zero, suc, ◌+◌, ◌<◌, ◌≤◌, Bool, true, false, cond, List, [], ◌∷◌, ◌++◌, length, refl, ap, subst, sym, ◌∙◌, arith, Option, Some, None, Ok, nat_eq, length-set, get_or-set_same}
-use Rattle.std.specs.Prelude.{slice_set, slice_index_or, Result, Err, OnOk, IfOk, IfSome, IfNone, option_map}
+use Rattle.std.specs.Prelude.{slice_set, slice_index_or, Result, Err, OnOk, IfOk, option_map}
 use Rattle.std.specs.List.{position_from}
 use Rattle.std.specs.Ordering.{nat_cmp}
 use Rattle.std.specs.Cmp.{nat_cmp_total}
@@ -14,7 +14,7 @@ use Rattle.scene_kinds.proofs.Maps.{same_map}
 use Rattle.scene_table.specs.Table.{TableState}
 use Rattle.scene_world.specs.World.{Tables, rows_at, with_rows}
 use Rattle.scene_world.specs.KindTables.{tables_of, IsFirstOf, StandsAt, NoneHas, AreApart}
-use Rattle.scene_world.specs.Stored.{HasRoomAt}
+
 use Rattle.scene_kinds.proofs.Positions.{found, missed}
 
 -- ---- which rows are seen
@@ -125,11 +125,6 @@ apart_appended (t ∷ ts) new h a = (none_appended t.mask ts new (λ e. h.0 (sym
 
 -- ---- one step on the table of a kind set
 
--- a table that grew has room
-pub room_made : {E : Type 0} (ts : List TableState) (mask i : ℕ) (d new : TableState) (r : Result (Unit {0}) E) → StandsAt ts mask i → new.mask ≡ (slice_index_or ts i d).mask → OnOk r (length new.rows + 1 ≤ new.capacity) → IfOk r (λ _. HasRoomAt (slice_set ts i new) mask i)
-room_made ts mask i d new (Ok x) h e o = record { stands = stands_kept ts i d new e mask i h; room = λ z. let within : i < length ts = h.within in rw get_or-set_same (omega arith) }
-room_made ts mask i d new (Err x) h e o = tt
-
 -- the rows that are seen of a table that stands at an index
 pub rows_there : (ts : List TableState) (mask i : ℕ) (d : TableState) → StandsAt ts mask i → d ≡ slice_index_or ts i d → rows_at (tables_of ts) mask ≡ d.rows
 rows_there ts mask i d h e = rows_of_first ts mask i d h.first ∙ ap (λ t. t.rows) (sym e)
@@ -142,14 +137,6 @@ pub rows_written : (ts : List TableState) (mask i : ℕ) (d new : TableState) (r
 rows_written ts mask i d new rows h e m r = tables_of_set ts mask i new h.first (m ∙ mask_there ts mask i d h e) ∙ ap (with_rows (tables_of ts) mask) r
 
 -- ---- the rows of a kind set, where it has some
-
-pub some_found : (mask : ℕ) (ts : List TableState) (o : Option ℕ) → o ≡ position_from (λ (t : TableState). nat_eq t.mask mask) 0 ts → IfSome o (StandsAt ts mask)
-some_found mask ts None e = tt
-some_found mask ts (Some i) e = found_table mask ts i e
-
-pub none_there : (mask : ℕ) (ts : List TableState) (o : Option ℕ) → o ≡ position_from (λ (t : TableState). nat_eq t.mask mask) 0 ts → IfNone o (rows_at (tables_of ts) mask ≡ [])
-none_there mask ts None e = none_seen mask ts (none_found mask ts e)
-none_there mask ts (Some i) e = tt
 
 pub no_rows : (t : Tables) (mask : ℕ) → rows_at t mask ≡ [] → option_map whole (map.get t mask) ≡ None
 no_rows t mask e = elim (map.get t mask) as (λ o. listed o ≡ [] → option_map whole o ≡ None) [

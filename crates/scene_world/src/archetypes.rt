@@ -1,7 +1,7 @@
 //! The rows of all entities, and where each stands.
 ghost use Rattle.std.specs.Prelude.{◌≡◌, ◌<◌, ◌≤◌, ℕ, suc, [], length, Some, OnOk, IfOk, IfSome, IfNone, IsOk, IsSome, slice_get, false, true, vec_capacity, map as each};
 ghost use Rattle.std.specs.Option.{option_map, option_flatten};
-ghost use Rattle.scene_kinds.specs.Cells.{HasKinds, AreKindsBelow, mask_of};
+ghost use Rattle.scene_kinds.specs.Cells.{HasKinds, AreKindsBelow, mask_of, shown};
 ghost use Rattle.scene_kinds.specs.KindSet.{has_kind, set_with, set_without};
 ghost use Rattle.scene_kinds.specs.Lists.{whole};
 ghost use Rattle.scene_kinds.specs.Map as map;
@@ -14,7 +14,7 @@ ghost use Rattle.scene_world.specs.Archetypes.{ArchetypesState, HasRoomOf, NoneO
 
 use crate::home::Home;
 use crate::kind_tables::KindTables;
-use scene_kinds::{Cell, Entity, KindSet, Row, set_with, set_without};
+use scene_kinds::{Cell, CellRef, Entity, KindSet, Row, set_with, set_without};
 use scene_table::Table;
 use std::alloc::{AllocError, Global};
 use std::marker::Model;
@@ -262,13 +262,13 @@ impl Archetypes {
         self.tables.table(mask)
     }
 
-    /// The table in which a row stands.
-    pub(crate) fn table_of_row(&self, home: Home) -> &Table
+    /// The cell of a kind in the row at a home, or `None` where the row doesn't have that kind. It costs a walk over the
+    /// table's kinds.
+    pub(crate) fn cell(&self, home: Home, kind: u8) -> Option<CellRef<'_>>
         requires { IsWithin self.now.tables home }
-        ensures rows { result.now.rows ≡ rows_at self.now.tables home.mask }
-        ensures mask { result.now.mask ≡ home.mask }
+        ensures { option_map shown result ≡ cell_at (rows_at self.now.tables home.mask) home.place kind }
     {
-        self.tables.table_of_row(home)
+        self.tables.table_of_row(home).cell(home.place, kind)
     }
 
     /// The tables that have rows, ascending by kind set, or an error where no memory was found. It costs the number of

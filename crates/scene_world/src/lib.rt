@@ -22,7 +22,6 @@ mod laws;
 mod moves;
 mod raw_laws;
 mod stage;
-mod tables;
 mod world;
 
 pub use examples::worked_examples_hold;

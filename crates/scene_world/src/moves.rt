@@ -1,130 +1,82 @@
 //! Rows that move to the table of another kind set. All growth comes before the first change that is seen.
-ghost use Rattle.std.specs.Prelude.{◌≡◌, ◌<◌, true, false, length, Some, IsSome, OnOk, OnErr};
-ghost use Rattle.scene_kinds.specs.Cells.{HasKinds, AreKindsBelow, cell_of, with_cell, without_cell};
-ghost use Rattle.scene_kinds.specs.KindSet.{has_kind, set_with, set_without};
+ghost use Rattle.std.specs.Prelude.{◌≡◌, ◌<◌, Some, OnOk, OnErr, IsSome};
+ghost use Rattle.scene_kinds.specs.Cells.{HasKinds, AreKindsBelow, cell_of, without_cell};
 ghost use Rattle.scene_kinds.specs.declared.cells.Row.{Row};
 ghost use Rattle.scene_table.specs.Table.{cell_at};
 ghost use Rattle.scene_world.specs.World.{rows_at, row_at};
 ghost use Rattle.scene_world.specs.Commands.{after_move, after_insert};
-ghost use Rattle.scene_world.specs.Stored.{tables_of, StandsAt, HasRoomAt, AreApart};
+ghost use Rattle.scene_world.specs.KindTables.{IsWithin};
+ghost use Rattle.scene_world.specs.Archetypes.{StandsIn};
+ghost use Rattle.std.specs.Option.{option_map};
 
+use crate::archetypes::Archetypes;
 use crate::home::Home;
-use crate::tables::{added_there, room_for, table_there, write_cell};
-use scene_kinds::{Cell, Value, set_with, set_without};
-use scene_table::Table;
-use std::alloc::{AllocError, Global};
+use scene_kinds::{Cell, Entity, Value, set_with, set_without};
+use std::alloc::AllocError;
 
-/// Moves the row at a home, by the index of its table, to the last place of the table at another index, with one more
-/// cell. It takes no memory.
-fn move_row_with(
-    alloc: Global,
-    tables: &mut Vec<Table>,
-    source: usize,
-    home: Home,
-    target: usize,
-    kind: u8,
-    cell: Cell,
-)
-    requires stands { StandsAt tables.old.items home.mask source }
-    requires within { home.place < length (rows_at (tables_of tables.old.items) home.mask) }
-    requires room { HasRoomAt tables.old.items (set_with home.mask kind) target }
-    requires low { kind < 64 }
-    requires lacks { has_kind home.mask kind ≡ false }
-    requires kinds { (row : Row) → row_at (tables_of tables.old.items) home ≡ Some row → HasKinds home.mask row }
-    ensures rows { (row : Row) → row_at (tables_of tables.old.items) home ≡ Some row → tables_of tables.new.items ≡ after_move (tables_of tables.old.items) home row (with_cell row.cells kind cell) }
-    ensures apart { AreApart tables.old.items → AreApart tables.new.items }
+/// The added tick of the cell of a kind in the row at a home, or `None` where the row doesn't have that kind.
+fn added_at(tables: &Archetypes, home: Home, kind: u8) -> Option<u64>
+    requires { IsWithin tables.now.tables home }
+    ensures { result ≡ option_map (λ cell. cell.added) (cell_at (rows_at tables.now.tables home.mask) home.place kind) }
 {
-    let mut left = std::mem::replace(&mut tables[source], Table::new(alloc, home.mask));
-    let last = tables[target].len();
-    left.move_with(home.place, &mut tables[target], last, kind, cell);
-    tables[source] = left;
+    let cell = tables.cell(home, kind)?;
+    Some(cell.added)
 }
 
-/// Moves the row at a home, by the index of its table, to the last place of the table at another index, without the cell
-/// of a kind. It takes no memory.
-fn move_row_without(
-    alloc: Global,
-    tables: &mut Vec<Table>,
-    source: usize,
-    home: Home,
-    target: usize,
-    kind: u8,
-)
-    requires stands { StandsAt tables.old.items home.mask source }
-    requires within { home.place < length (rows_at (tables_of tables.old.items) home.mask) }
-    requires room { HasRoomAt tables.old.items (set_without home.mask kind) target }
-    requires low { kind < 64 }
-    requires has { has_kind home.mask kind ≡ true }
-    requires kinds { (row : Row) → row_at (tables_of tables.old.items) home ≡ Some row → HasKinds home.mask row × AreKindsBelow 64 row.cells }
-    ensures rows { (row : Row) → row_at (tables_of tables.old.items) home ≡ Some row → tables_of tables.new.items ≡ after_move (tables_of tables.old.items) home row (without_cell row.cells kind) }
-    ensures apart { AreApart tables.old.items → AreApart tables.new.items }
-{
-    let mut left = std::mem::replace(&mut tables[source], Table::new(alloc, home.mask));
-    let last = tables[target].len();
-    let _cell = left.move_without(home.place, &mut tables[target], last, kind);
-    tables[source] = left;
-}
-
-/// Inserts a component into the row at a home: in its place where the kind is there, else by a move.
+/// Inserts a component into the row of an entity, which stands at a home: in its place where the kind is there, else by
+/// a move.
 pub(crate) fn insert_at(
-    alloc: Global,
-    tables: &mut Vec<Table>,
+    tables: &mut Archetypes,
+    entity: Entity,
     home: Home,
     tick: u64,
     kind: u8,
     value: Value,
 ) -> Result<(), AllocError>
-    requires within { home.place < length (rows_at (tables_of tables.old.items) home.mask) }
-    requires kinds { (row : Row) → row_at (tables_of tables.old.items) home ≡ Some row → HasKinds home.mask row }
+    requires stands { StandsIn tables.old.tables entity home }
+    requires kinds { (row : Row) → row_at tables.old.tables home ≡ Some row → HasKinds home.mask row }
     requires low { kind < 64 }
-    ensures ok { OnOk result ((row : Row) → row_at (tables_of tables.old.items) home ≡ Some row → tables_of tables.new.items ≡ after_insert tick (tables_of tables.old.items) home row kind value (cell_of row.cells kind)) }
-    ensures err { OnErr result (tables_of tables.new.items ≡ tables_of tables.old.items) }
-    ensures apart { AreApart tables.old.items → AreApart tables.new.items }
+    ensures ok { OnOk result ((row : Row) → row_at tables.old.tables home ≡ Some row → tables.new.tables ≡ after_insert tick tables.old.tables home row kind value (cell_of row.cells kind)) }
+    ensures err { OnErr result (tables.new.tables ≡ tables.old.tables) }
 {
-    match added_there(tables.as_slice(), home, kind) {
+    match added_at(tables, home, kind) {
         Some(added) => {
             let changed = tick;
-            let at = table_there(tables.as_slice(), home.mask);
-            let _old = write_cell(
-                tables,
-                at,
-                home,
-                kind,
-                Cell {
-                    value,
-                    added,
-                    changed,
-                },
-            );
+            let cell = Cell {
+                value,
+                added,
+                changed,
+            };
+            let _old = tables.set_cell(home, kind, cell);
             Ok(())
         }
         None => {
-            let target = room_for(alloc, tables, set_with(home.mask, kind))?;
-            let source = table_there(tables.as_slice(), home.mask);
-            let cell = Cell::new(value, tick);
-            move_row_with(alloc, tables, source, home, target, kind, cell);
+            let target = set_with(home.mask, kind);
+            tables.reserve(target, 0)?;
+            let last = tables.len(target);
+            tables.move_with(entity, home, last, kind, Cell::new(value, tick));
             Ok(())
         }
     }
 }
 
-/// Removes the component of a kind that is there from the row at a home, by a move.
+/// Removes the component of a kind that is there from the row of an entity, which stands at a home, by a move.
 pub(crate) fn remove_at(
-    alloc: Global,
-    tables: &mut Vec<Table>,
+    tables: &mut Archetypes,
+    entity: Entity,
     home: Home,
     kind: u8,
 ) -> Result<(), AllocError>
-    requires within { home.place < length (rows_at (tables_of tables.old.items) home.mask) }
-    requires kinds { (row : Row) → row_at (tables_of tables.old.items) home ≡ Some row → HasKinds home.mask row × AreKindsBelow 64 row.cells }
-    requires there { IsSome (cell_at (rows_at (tables_of tables.old.items) home.mask) home.place kind) }
+    requires stands { StandsIn tables.old.tables entity home }
+    requires kinds { (row : Row) → row_at tables.old.tables home ≡ Some row → HasKinds home.mask row × AreKindsBelow 64 row.cells }
+    requires there { IsSome (cell_at (rows_at tables.old.tables home.mask) home.place kind) }
     requires low { kind < 64 }
-    ensures ok { OnOk result ((row : Row) → row_at (tables_of tables.old.items) home ≡ Some row → tables_of tables.new.items ≡ after_move (tables_of tables.old.items) home row (without_cell row.cells kind)) }
-    ensures err { OnErr result (tables_of tables.new.items ≡ tables_of tables.old.items) }
-    ensures apart { AreApart tables.old.items → AreApart tables.new.items }
+    ensures ok { OnOk result ((row : Row) → row_at tables.old.tables home ≡ Some row → tables.new.tables ≡ after_move tables.old.tables home row (without_cell row.cells kind)) }
+    ensures err { OnErr result (tables.new.tables ≡ tables.old.tables) }
 {
-    let target = room_for(alloc, tables, set_without(home.mask, kind))?;
-    let source = table_there(tables.as_slice(), home.mask);
-    move_row_without(alloc, tables, source, home, target, kind);
+    let target = set_without(home.mask, kind);
+    tables.reserve(target, 0)?;
+    let last = tables.len(target);
+    let _cell = tables.move_without(entity, home, last, kind);
     Ok(())
 }

@@ -17,11 +17,9 @@ mod remove_resource;
 mod set_parent;
 mod spawn;
 
-use crate::clones::clone_tables;
+use crate::archetypes::Archetypes;
 use crate::given::is_unknown;
 use crate::home::Home;
-use crate::kind_sets::{kind_sets_of, tables_by_kind_set};
-use crate::tables::{cell_there, find_home, table_with_rows};
 use scene_alloc::Slots;
 use scene_kinds::{CellRef, Entity, Fault, Refusal, Schema};
 use scene_links::Links;
@@ -42,7 +40,7 @@ pub struct World {
     schema: Schema,
     slots: Slots,
     tick: u64,
-    tables: Vec<Table>,
+    tables: Archetypes,
     links: Links,
     resources: Resources,
 }
@@ -63,11 +61,12 @@ impl Model for World {
 
     ghost coded = { Prim.hlevel (codes, shape.the_row.coded, map.code {R = nat_cmp} coded_ℕ (coded× row.the_row.coded (coded_list row.the_row.coded)), map.code {R = entity_cmp} entity.the_row.coded (coded× entity.the_row.coded (coded_list entity.the_row.coded)), map.code {R = name_cmp} (coded_list coded_ℕ) cell.the_row.coded) };
 
-    ghost use Rattle.scene_world.specs.Stored.{world_of, IsSound};
+    ghost use Rattle.scene_world.specs.Stored.{world_of};
+    ghost use Rattle.scene_world.specs.Valid.{IsValid};
 
-    ghost view = { λ w. world_of w.schema w.slots w.tick w.tables.items w.links.forest w.resources };
+    ghost view = { λ w. world_of w.schema w.slots w.tick w.tables.tables w.links.forest w.resources };
 
-    ghost invariant = { λ w. IsSound w.schema w.slots w.tick w.tables.items w.links.forest w.resources };
+    ghost invariant = { λ w. IsValid (world_of w.schema w.slots w.tick w.tables.tables w.links.forest w.resources) };
 }
 
 impl World {
@@ -84,7 +83,7 @@ impl World {
             schema,
             slots: Slots::new(alloc, limit),
             tick: 0,
-            tables: Vec::new(alloc),
+            tables: Archetypes::new(alloc),
             links: Links::new(alloc),
             resources: Resources::new(alloc),
         }
@@ -144,18 +143,17 @@ impl World {
         ensures row { IfSome result (IsHomeOf self.now entity) }
         ensures valid { IsValid self.now }
     {
-        find_home(self.tables.as_slice(), entity)
+        self.tables.find(entity)
     }
 
-    /// Whether an entity is alive: it has a row (docs/MODEL.md, "The rule of archetypes"). It costs a walk over
-    /// the rows.
+    /// Whether an entity is alive: it has a row (docs/MODEL.md, "The rule of archetypes").
     pub fn is_alive(&self, entity: Entity) -> bool
         ensures { result ≡ is_live self.now entity }
     {
         self.home_of(entity).is_some()
     }
 
-    /// The kind set of a live entity, in which kind k is bit k; else `None`. It costs a walk over the rows.
+    /// The kind set of a live entity, in which kind k is bit k; else `None`.
     pub fn mask_of(&self, entity: Entity) -> Option<u64>
         ensures { result ≡ mask_at self.now entity }
     {
@@ -163,7 +161,7 @@ impl World {
         Some(home.mask)
     }
 
-    /// A component of an entity, with its ticks. It costs a walk over the rows.
+    /// A component of an entity, with its ticks. It costs a walk over the entity's kinds.
     ///
     /// Refused, in this order: `NoSuchEntity` where the entity isn't alive; `NoSuchKind`; `NotPresent` where the
     /// entity doesn't have the kind. It takes no memory.
@@ -176,13 +174,13 @@ impl World {
         if is_unknown(&self.schema, kind) {
             return Err(Refusal::from(Fault::NoSuchKind));
         }
-        match cell_there(self.tables.as_slice(), home, kind) {
+        match self.tables.cell(home, kind) {
             Some(cell) => Ok(cell),
             None => Err(Refusal::from(Fault::NotPresent)),
         }
     }
 
-    /// The place of a live entity's row in its table, from 0; else `None`. It costs a walk over the rows.
+    /// The place of a live entity's row in its table, from 0; else `None`.
     pub fn place_of(&self, entity: Entity) -> Option<u32>
         ensures { result ≡ place_at self.now entity }
     {
@@ -190,13 +188,12 @@ impl World {
         Some(home.place as u32)
     }
 
-    /// The table of a kind set, in which kind k is bit k, or `None` where it has no rows. It costs a walk over
-    /// the kind sets.
+    /// The table of a kind set, in which kind k is bit k, or `None` where it has no rows.
     pub fn rows_of(&self, mask: u64) -> Option<&Table>
         ensures rows { option_map (λ table. table.now.rows) result ≡ rows_of self.now mask }
         ensures mask { IfSome result (λ table. table.now.mask ≡ mask) }
     {
-        table_with_rows(self.tables.as_slice(), mask)
+        self.tables.table(mask)
     }
 
     /// The kind sets that have rows, ascending, or an error where no memory was found. It costs the number of
@@ -204,7 +201,7 @@ impl World {
     pub fn tables(&self) -> Result<Vec<u64>, AllocError>
         ensures { IfOk result (λ sets. sets.items ≡ kind_sets self.now) }
     {
-        kind_sets_of(self.alloc, self.tables.as_slice())
+        self.tables.kind_sets()
     }
 
     /// The tables that have rows, ascending by kind set, or an error where no memory was found: a pass over them
@@ -213,7 +210,7 @@ impl World {
         ensures masks { IfOk result (λ tables. each (λ t. t.now.mask) tables.items ≡ kind_sets self.now) }
         ensures rows { IfOk result (λ tables. each (λ t. t.now.rows) tables.items ≡ each (rows_at self.now.tables) (kind_sets self.now)) }
     {
-        tables_by_kind_set(self.alloc, self.tables.as_slice())
+        self.tables.in_order()
     }
 
     /// An equal world, or an error where no memory was found. It costs a copy of the whole world.
@@ -222,7 +219,7 @@ impl World {
     {
         let schema = self.schema.try_clone()?;
         let slots = self.slots.try_clone()?;
-        let tables = clone_tables(self.alloc, self.tables.as_slice())?;
+        let tables = self.tables.try_clone()?;
         let links = self.links.try_clone()?;
         let resources = self.resources.try_clone()?;
         Ok(World {

@@ -3,15 +3,14 @@ ghost use Rattle.std.specs.Prelude.{◌≡◌};
 ghost use Rattle.scene_kinds.specs.Answers.{Gives};
 ghost use Rattle.scene_world.specs.Commands.{despawn};
 
-use crate::tables::{drop_row, table_there};
 use crate::world::World;
 use scene_kinds::{Entity, Fault, Refusal};
 
 impl World {
     /// Despawns an entity: its row leaves its table, the last row taking its place (docs/MODEL.md, "The rule of
     /// rows"); its index goes last in the free list with a raised generation, or is retired ("The rule of
-    /// retirement"); and it leaves its parent's list ("The rule of links"). It takes no memory, and costs a walk
-    /// over the rows.
+    /// retirement"); and it leaves its parent's list ("The rule of links"). It takes no memory, and costs a
+    /// walk over that list.
     ///
     /// Refused, in this order: `NoSuchEntity` where the entity isn't alive; `HasChildren`. After a refusal the
     /// world is as it was.
@@ -24,8 +23,7 @@ impl World {
         if !self.links.children_of(entity).is_empty() {
             return Err(Refusal::from(Fault::HasChildren));
         }
-        let at = table_there(self.tables.as_slice(), home.mask);
-        drop_row(&mut self.tables, at, home);
+        self.tables.drop_row(entity, home);
         let _retired = self.slots.release(entity);
         let _place = self.links.unlink(entity);
         Ok(())

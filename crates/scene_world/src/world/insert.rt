@@ -14,7 +14,7 @@ impl World {
     /// A kind that is there gets the value in its place: its changed tick becomes the world's, also where the
     /// new value equals the old one, and its added tick stays (docs/MODEL.md, "The rule of ticks"). Another kind
     /// moves the entity's row to the last place of the table of its new kind set ("The rule of moves"). It costs
-    /// a walk over the rows.
+    /// the entity's components.
     ///
     /// Refused, in this order: `NoSuchEntity` where the entity isn't alive; `NoSuchKind`; `WrongShape`;
     /// `NoMemory`. After a refusal the world is as it was, and the value is dropped.
@@ -27,7 +27,7 @@ impl World {
         if let Some(fault) = insert_fault(&self.schema, kind, &value) {
             return Err(Refusal::from(fault));
         }
-        insert_at(self.alloc, &mut self.tables, home, self.tick, kind, value)?;
+        insert_at(&mut self.tables, entity, home, self.tick, kind, value)?;
         Ok(())
     }
 }

@@ -5,14 +5,13 @@ ghost use Rattle.scene_world.specs.Commands.{remove};
 
 use crate::given::is_unknown;
 use crate::moves::remove_at;
-use crate::tables::cell_there;
 use crate::world::World;
 use scene_kinds::{Entity, Fault, Refusal};
 
 impl World {
     /// Removes a component from an entity, whose row moves to the last place of the table of its new kind set;
-    /// the other components go with it, ticks included (docs/MODEL.md, "The rule of moves"). It costs a walk
-    /// over the rows.
+    /// the other components go with it, ticks included (docs/MODEL.md, "The rule of moves"). It costs the
+    /// entity's components.
     ///
     /// Refused, in this order: `NoSuchEntity` where the entity isn't alive; `NoSuchKind`; `NotPresent` where the
     /// entity doesn't have the kind; `NoMemory`. After a refusal the world is as it was.
@@ -25,10 +24,10 @@ impl World {
         if is_unknown(&self.schema, kind) {
             return Err(Refusal::from(Fault::NoSuchKind));
         }
-        if cell_there(self.tables.as_slice(), home, kind).is_none() {
+        if self.tables.cell(home, kind).is_none() {
             return Err(Refusal::from(Fault::NotPresent));
         }
-        remove_at(self.alloc, &mut self.tables, home, kind)?;
+        remove_at(&mut self.tables, entity, home, kind)?;
         Ok(())
     }
 }

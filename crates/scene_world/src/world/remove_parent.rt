@@ -9,7 +9,7 @@ use scene_kinds::{Entity, Fault, Refusal};
 impl World {
     /// Removes the parent of an entity: the child leaves its parent's list, in which the others keep their order
     /// (docs/MODEL.md, "The rule of links"). No row and no tick of a component changes. It takes no memory, and
-    /// costs a walk over the rows and one over the list.
+    /// costs a walk over the list.
     ///
     /// Refused, in this order: `NoSuchEntity` where the entity isn't alive; `NoParent` where it has no parent.
     /// After a refusal the world is as it was.

@@ -9,7 +9,7 @@ use scene_kinds::{Entity, Fault, Refusal};
 impl World {
     /// Sets the parent of an entity: the child leaves the list in which it stands, if any, and goes last in the
     /// parent's, also where that is the same one (docs/MODEL.md, "The rule of links"). No row and no tick of a
-    /// component changes. It costs two walks over the rows, one over the list that the child leaves, and one over
+    /// component changes. It costs a walk over the list that the child leaves, and one over
     /// the ancestors of `parent` where the child has children itself.
     ///
     /// Refused, in this order: `NoSuchEntity` where the child or the parent isn't alive; `SelfParent` where the two

@@ -1,42 +1,43 @@
 //! Spawning an entity.
-ghost use Rattle.std.specs.Prelude.{◌≡◌, ◌≢◌, Ok, Err, IfOk, IfErr, OnErr};
+ghost use Rattle.std.specs.Prelude.{◌≡◌, ◌≢◌, ◌≤◌, length, Ok, Err, IfOk, IfErr, OnErr};
 ghost use Rattle.scene_kinds.specs.Answers.{Answers, refusal_of};
 ghost use Rattle.scene_kinds.specs.Cells.{IsAscending, mask_of};
 ghost use Rattle.scene_kinds.specs.declared.fault.Fault.TheVariants.{NoMemory};
 ghost use Rattle.scene_alloc.specs.Slots.{take_of};
 ghost use Rattle.scene_world.specs.Commands.{spawn};
 ghost use Rattle.scene_world.specs.World.{with_row};
-ghost use Rattle.scene_world.specs.KindTables.{tables_of, AreApart};
+ghost use Rattle.scene_world.specs.Archetypes.{NoneOf};
+ghost use Rattle.scene_alloc.specs.Slots.{SlotState};
+ghost use Rattle.scene_kinds.specs.declared.entity.Entity.{Entity};
 
+use crate::archetypes::Archetypes;
 use crate::given::{new_cells, spawn_fault};
-use crate::tables::{put_row, room_for};
 use crate::world::World;
 use scene_alloc::Slots;
-use scene_kinds::{Cells, Entity, Refusal, Row, Value};
-use scene_table::Table;
-use std::alloc::Global;
+use scene_kinds::{Cells, Entity, KindSet, Refusal, Row, Value};
 
 /// Takes a slot for a new entity, and puts its row last in the table of its kind set. All growth comes before
 /// the first change that is seen.
 fn spawn_row(
-    alloc: Global,
-    tables: &mut Vec<Table>,
+    tables: &mut Archetypes,
     slots: &mut Slots,
-    mask: u64,
+    mask: KindSet,
     cells: Cells,
 ) -> Result<Entity, Refusal>
     requires mask { mask ≡ mask_of cells }
     requires ascending { IsAscending cells }
+    requires unused { (e : Entity) (s : SlotState) → take_of slots.old.state ≡ Ok (e, s) → NoneOf e.index tables.old.tables }
+    requires low { (e : Entity) (s : SlotState) → take_of slots.old.state ≡ Ok (e, s) → e.index ≤ length slots.old.state.generations }
     ensures made { IfOk result (λ e. take_of slots.old.state ≡ Ok (e, slots.new.state)) }
-    ensures rows { IfOk result (λ e. tables_of tables.new.items ≡ with_row (tables_of tables.old.items) (record { entity = e; cells = cells })) }
+    ensures rows { IfOk result (λ e. tables.new.tables ≡ with_row tables.old.tables (record { entity = e; cells = cells })) }
     ensures slots { OnErr result (slots.new.state ≡ slots.old.state) }
-    ensures seen { OnErr result (tables_of tables.new.items ≡ tables_of tables.old.items) }
+    ensures seen { OnErr result (tables.new.tables ≡ tables.old.tables) }
     ensures refused { IfErr result (λ r. r ≢ refusal_of NoMemory → take_of slots.old.state ≡ Err r) }
-    ensures apart { AreApart tables.old.items → AreApart tables.new.items }
 {
-    let at = room_for(alloc, tables, mask)?;
+    tables.reserve(mask, slots.len() + 1)?;
     let entity = slots.take()?;
-    put_row(tables, at, Row { entity, cells });
+    let last = tables.len(mask);
+    tables.put_back(mask, last, Row { entity, cells });
     Ok(entity)
 }
 
@@ -57,7 +58,7 @@ impl World {
         }
         let cells = new_cells(self.alloc, self.tick, cells)?;
         let mask = cells.mask();
-        let entity = spawn_row(self.alloc, &mut self.tables, &mut self.slots, mask, cells)?;
+        let entity = spawn_row(&mut self.tables, &mut self.slots, mask, cells)?;
         Ok(entity)
     }
 }

@@ -8,25 +8,31 @@ use Rattle.scene_world.specs.Commands.{after_despawn}
 use Rattle.scene_world.specs.Stored.{world_of, IsHomeOf}
 use Rattle.scene_world.specs.Valid.{IsValid}
 use Rattle.scene_world.proofs.DespawnKeeps.{can_release, gone_valid, childless, unlinked_cut}
+use Rattle.scene_world.proofs.Found.{stands_in}
 use Rattle.scene_world.proofs.world.World.despawn.Goals as goal
+
+pub drop_row-requires : goal.drop_row-requires
+drop_row-requires c =
+    let w = c.self.inside in
+    stands_in (world_of w.schema w.slots w.tick w.tables.tables w.links.forest w.resources) c.args.entity c.in-Some.home (subst (λ (v : World). IsHomeOf v c.args.entity c.in-Some.home) (sym c.self.view_is) c.in-Some.ensures.row)
 
 pub release-retired-requires : goal.release-retired-requires
 release-retired-requires c =
     let w = c.self.inside in
-    let old : World = world_of w.schema w.slots w.tick w.tables.items w.links.forest w.resources in
+    let old : World = world_of w.schema w.slots w.tick w.tables.tables w.links.forest w.resources in
     let home : IsHomeOf old c.args.entity c.in-Some.home = subst (λ (v : World). IsHomeOf v c.args.entity c.in-Some.home) (sym c.self.view_is) c.in-Some.ensures.row in
-    subst (CanRelease w.slots.state) home.same (can_release old c.in-Some.home home.row c.self.invariant.valid home.there)
+    subst (CanRelease w.slots.state) home.same (can_release old c.in-Some.home home.row c.self.invariant home.there)
 
 pub invariant_of-self : goal.invariant_of-self
 invariant_of-self c =
     let w = c.self.inside in
-    let old : World = world_of w.schema w.slots w.tick w.tables.items w.links.forest w.resources in
+    let old : World = world_of w.schema w.slots w.tick w.tables.tables w.links.forest w.resources in
     let home : IsHomeOf old c.args.entity c.in-Some.home = subst (λ (v : World). IsHomeOf v c.args.entity c.in-Some.home) (sym c.self.view_is) c.in-Some.ensures.row in
     let alone : is_some (map.get w.links.forest c.args.entity) ≡ false = childless w.links.forest c.args.entity
     (ap (λ (es : List Entity). length es == 0) (sym c.children_of.ensures.value) ∙ sym c.is_empty.ensures ∙ c.if-not-is_empty.false) in
     let left : IsValid (after_despawn old c.in-Some.home c.args.entity) = subst (λ (e : Entity). IsValid (after_despawn old c.in-Some.home e)) home.same
-    (gone_valid old c.in-Some.home home.row c.self.invariant.valid home.there (ap (λ (e : Entity). is_some (map.get w.links.forest e)) home.same ∙ alone)) in
+    (gone_valid old c.in-Some.home home.row c.self.invariant home.there (ap (λ (e : Entity). is_some (map.get w.links.forest e)) home.same ∙ alone)) in
     let links = unlinked_cut w.links.forest c.unlink-place.new.self.forest c.args.entity c.unlink-place.result c.unlink-place.ensures.answer in
-    let after : after_despawn old c.in-Some.home c.args.entity ≡ world_of w.schema c.release-retired.new.self w.tick c.drop_row.new.tables.items c.unlink-place.new.self.forest w.resources =
-    λ i. record { schema = w.schema; slots = sym c.release-retired.ensures.state i; tick = w.tick; tables = sym c.drop_row.ensures.rows i; children = sym links i; resources = w.resources.cells } in
-    record { apart = c.drop_row.ensures.apart c.self.invariant.apart; valid = subst IsValid after left }
+    let after : after_despawn old c.in-Some.home c.args.entity ≡ world_of w.schema c.release-retired.new.self w.tick c.drop_row.new.self.tables c.unlink-place.new.self.forest w.resources =
+    λ i. record { schema = w.schema; slots = sym c.release-retired.ensures.state i; tick = w.tick; tables = sym c.drop_row.ensures.tables i; children = sym links i; resources = w.resources.cells } in
+    subst IsValid after left

@@ -8,17 +8,14 @@ use Rattle.scene_world.proofs.NewCells.{insert_tests}
 use Rattle.scene_world.proofs.world.World.insert.Goals as goal
 
 pub insert_at-requires-clause-kinds : goal.insert_at-requires-clause-kinds
-insert_at-requires-clause-kinds c = λ row at. (c.self.invariant.valid.rows.each c.in-Some.home row at).fits.kinds
+insert_at-requires-clause-kinds c = λ row at. (c.self.invariant.rows.each c.in-Some.home row at).fits.kinds
 
 pub invariant_of-self-2 : goal.invariant_of-self-2
 invariant_of-self-2 c =
     let w = c.self.inside in
-    let old : World = world_of w.schema w.slots w.tick w.tables.items w.links.forest w.resources in
+    let old : World = world_of w.schema w.slots w.tick w.tables.tables w.links.forest w.resources in
     let home : IsHomeOf old c.args.entity c.in-Some.home = subst (λ (v : World). IsHomeOf v c.args.entity c.in-Some.home) (sym c.self.view_is) c.in-Some.ensures.row in
     let made = c.in_ok-insert_at.ensures in
     let tests = insert_tests w.schema c.args.kind c.args.value (sym c.in_default-insert_fault.ensures) in
-    record {
-      apart = made.apart c.self.invariant.apart;
-      valid = subst (λ (t : Tables). IsValid (with_tables old t)) (sym (made.ok home.row home.there))
-          (insert_made old c.in-Some.home home.row c.args.kind c.args.value (cell_of home.row.cells c.args.kind) refl c.self.invariant.valid home.there tests.1);
-    }
+    subst (λ (t : Tables). IsValid (with_tables old t)) (sym (made.ok home.row home.there))
+          (insert_made old c.in-Some.home home.row c.args.kind c.args.value (cell_of home.row.cells c.args.kind) refl c.self.invariant home.there tests.1)

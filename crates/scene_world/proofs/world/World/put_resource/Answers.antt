@@ -10,8 +10,5 @@ use Rattle.scene_world.proofs.world.World.put_resource.Goals as goal
 pub invariant_of-self-2 : goal.invariant_of-self-2
 invariant_of-self-2 c =
     let w = c.self.inside in
-    let old : World = world_of w.schema w.slots w.tick w.tables.items w.links.forest w.resources in
-    record {
-      apart = c.self.invariant.apart;
-      valid = subst (λ (r : NamedCells). IsValid (with_resources old r)) (sym c.in_ok-_old.ensures.done) (put_valid old c.args.name.now c.args.value c.self.invariant.valid (sym c.good_name.ensures ∙ c.if-not-good_name.false) c.in_ok-_old.ensures.in_range);
-    }
+    let old : World = world_of w.schema w.slots w.tick w.tables.tables w.links.forest w.resources in
+    subst (λ (r : NamedCells). IsValid (with_resources old r)) (sym c.in_ok-_old.ensures.done) (put_valid old c.args.name.now c.args.value c.self.invariant (sym c.good_name.ensures ∙ c.if-not-good_name.false) c.in_ok-_old.ensures.in_range)

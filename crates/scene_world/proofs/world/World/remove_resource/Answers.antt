@@ -10,8 +10,5 @@ use Rattle.scene_world.proofs.world.World.remove_resource.Goals as goal
 pub invariant_of-self-2 : goal.invariant_of-self-2
 invariant_of-self-2 c =
     let w = c.self.inside in
-    let old : World = world_of w.schema w.slots w.tick w.tables.items w.links.forest w.resources in
-    record {
-      apart = c.self.invariant.apart;
-      valid = subst (λ (r : NamedCells). IsValid (with_resources old r)) (sym c.forget.ensures.cells) (taken_valid old c.args.name.now c.in_ok-_cell._cell c.take.new.self.cells c.self.invariant.valid c.in_ok-_cell.ensures.cells);
-    }
+    let old : World = world_of w.schema w.slots w.tick w.tables.tables w.links.forest w.resources in
+    subst (λ (r : NamedCells). IsValid (with_resources old r)) (sym c.forget.ensures.cells) (taken_valid old c.args.name.now c.in_ok-_cell._cell c.take.new.self.cells c.self.invariant c.in_ok-_cell.ensures.cells)
