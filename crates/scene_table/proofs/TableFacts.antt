@@ -401,18 +401,6 @@ is_wider mask entities capacity wider count columns ready lent new is l e f grow
       wide = omega (arith, is.wide, least_grown capacity wider ready new l all);
     })
 
--- a table whose columns grew
-pub grown_table : (mask : ℕ) (entities : List Entity) (capacity count : ℕ) (columns lent new : List ColumnState) → IsTable mask entities capacity columns → count ≡ length columns → lent ≡ columns → AllZip IsGrown lent new →
-    IsWider mask entities capacity capacity columns (take count (new ++ drop (length new) columns))
-grown_table mask entities capacity count columns lent new is e f grown =
-    let all : AllZip IsGrown columns new = subst (λ t. AllZip IsGrown t new) f grown in
-    let same = grown_same columns new all in
-    subst (IsWider mask entities capacity capacity columns) (sym (written_back count new columns e (length-grown columns new all))) (record {
-      table = record { long = same_long (length entities) columns new same is.long; kinds = λ some row g. is.kinds some row (g ∙ same_kinds_of columns new same); fits = omega (arith, is.fits, least_grown capacity capacity columns new (omega arith) all) };
-      rows = same_rows entities columns new same;
-      wide = least_grown capacity capacity columns new (omega arith) all;
-    })
-
 -- the room that was made in each column and in the list of entities is there in the table
 pub room_made : (mask : ℕ) (entities : List Entity) (wider additional count : ℕ) (columns lent new : List ColumnState) → IsTable mask entities wider (take count (new ++ drop (length new) columns)) →
     count ≡ length columns → lent ≡ columns → AllZip IsGrown lent new → ((k : ℕ) (d : ColumnState) → k < length new → length (get_or new k d).cells + additional ≤ (get_or new k d).capacity) → length entities + additional ≤ wider →

@@ -7,7 +7,7 @@
 //!
 //! Only `reserve`, and `push_row` and `unswap` by it, take memory for rows, and nothing gives it
 //! back, so that a change can be undone without a refusal: each call that changes a table says what
-//! capacity it leaves.
+//! capacity it leaves, and each by which a row leaves, that there is room for it to come back.
 #![tactic(auto)]
 
 mod column;

@@ -158,11 +158,11 @@ impl Table {
         ensures there { length self.old.rows + additional ≤ self.old.capacity → IsOk result }
         ensures wide { self.old.capacity ≤ self.new.capacity }
     {
+        let capacity = self.entities.capacity();
         if additional == 0 {
-            return reserve_each(&mut self.columns, 0);
+            return Ok(());
         }
         let kinds = self.mask;
-        let capacity = self.entities.capacity();
         make_columns(
             *self.entities.allocator(),
             kinds,
