@@ -10,7 +10,7 @@ use Rattle.scene_kinds.specs.declared.entity.Entity.{Entity}
 use Rattle.scene_kinds.specs.declared.cells.Row.{Row}
 use Rattle.scene_kinds.specs.declared.shape.Shape.TheVariants as shape
 use Rattle.scene_world.specs.World.{World, home_of, mask_at, place_at, row_of, rows_at, rows_of}
-use Rattle.scene_world.proofs.Scans.{some_home}
+use Rattle.scene_world.proofs.Found.{some_home}
 use Rattle.scene_app.specs.Shown.{names_from}
 use Rattle.scene_app.specs.ShowSteps.{name_in, one_name}
 

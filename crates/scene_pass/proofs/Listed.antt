@@ -22,7 +22,7 @@ use Rattle.scene_world.specs.World.{World, rows_at, row_at, row_of, home_of, mas
 use Rattle.scene_world.specs.Valid.{IsValid}
 use Rattle.scene_world.proofs.Homes.{home_is}
 use Rattle.scene_world.proofs.RowKinds.{fits_known}
-use Rattle.scene_world.proofs.Scans.{some_home}
+use Rattle.scene_world.proofs.Found.{some_home}
 use Rattle.scene_pass.specs.declared.filter.Filter.{Filter}
 use Rattle.scene_pass.specs.declared.cell_name.CellName.{CellName}
 use Rattle.scene_pass.specs.Filter.{is_match}

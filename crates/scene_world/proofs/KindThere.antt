@@ -31,3 +31,11 @@ kind_absent mask at kind rows row there has absent =
 pub kind_there : (mask at kind : ℕ) (rows : List Row) (row : Row) → slice_get rows at ≡ Some row → HasKinds mask row → IsSome (cell_at rows at kind) → has_kind mask kind ≡ true
 kind_there mask at kind rows row there has is =
     ap (λ m. has_kind m kind) (sym has.kinds) ∙ has_kind-mask_of row.cells kind has.ascending ∙ ap is_some (sym (cell_in rows at kind row there)) ∙ is
+
+-- a cell that isn't there
+pub cell_absent : (at kind : ℕ) (rows : List Row) (row : Row) → slice_get rows at ≡ Some row → None ≡ option_map (λ (cell : Cell). cell.added) (cell_at rows at kind) → cell_of row.cells kind ≡ None
+cell_absent at kind rows row there absent = none (cell_of row.cells kind) (absent ∙ ap (option_map (λ (cell : Cell). cell.added)) (cell_in rows at kind row there))
+  where
+    none : (o : Option Cell) → None ≡ option_map (λ (cell : Cell). cell.added) o → o ≡ None
+    none None h = refl
+    none (Some cell) h = absurd (cc)

@@ -9,14 +9,14 @@ use Rattle.scene_kinds.specs.declared.entity.Entity.{Entity}
 use Rattle.scene_kinds.specs.declared.cells.Row.{Row}
 use Rattle.scene_kinds.specs.Cells.{mask_of}
 use Rattle.scene_kinds.proofs.Elements.{pushed, pushed_stays, pushed_last}
-use Rattle.scene_kinds.proofs.Lists.{list_at_same, list_restored}
+use Rattle.scene_kinds.proofs.Lists.{list_at_same, list_at_apart, list_restored}
 use Rattle.scene_kinds.proofs.Maps.{equal_keys}
 use Rattle.scene_alloc.specs.Ends.{last, front}
-use Rattle.scene_alloc.proofs.Ends.{push-last}
+use Rattle.scene_alloc.proofs.SlotLaws.{push-last}
 use Rattle.scene_table.specs.Rows.{swap_out, put_back}
-use Rattle.scene_table.proofs.Swaps.{swap_out_back, put_back_stands, put_back_back}
+use Rattle.scene_table.proofs.Swaps.{swap_out_back, put_back_stands, put_back_back, put_back_last}
 use Rattle.scene_world.specs.declared.home.Home.{Home}
-use Rattle.scene_world.specs.World.{Tables, rows_at, row_at, lives, with_row, without_row}
+use Rattle.scene_world.specs.World.{Tables, rows_at, row_at, lives, with_rows, with_row, without_row}
 use Rattle.scene_world.specs.Valid.{EachRow, StandsOnce}
 use Rattle.scene_world.specs.Raw.{home_for, with_row_back}
 use Rattle.scene_world.proofs.Homes.{here_live, live_here}
@@ -182,3 +182,13 @@ lives_returned t place row e l =
     let h = here_live t e l in
     let k = returned_stays t place row h.0 h.1.row h.1.there in
     live_here (with_row_back t place row) e k.0 h.1.row k.1 h.1.same
+
+-- a row that is put back behind the last goes last
+pub back_last : (t : Tables) (row : Row) (mask last : ℕ) → mask ≡ mask_of row.cells → last ≡ length (rows_at t mask) → with_row_back t last row ≡ with_row t row
+back_last t row mask last m l =
+    ap (λ n. with_row_back t n row) (l ∙ ap (λ k. length (rows_at t k)) m) ∙ ap (with_rows t (mask_of row.cells)) (put_back_last (rows_at t (mask_of row.cells)) row)
+
+-- also after one left the table of another kind set
+pub moved_last : (t : Tables) (h : Home) (row : Row) (mask last : ℕ) → mask ≡ mask_of row.cells → (h.mask ≡ mask → ⊥) → last ≡ length (rows_at t mask) → with_row_back (without_row t h) last row ≡ with_row (without_row t h) row
+moved_last t h row mask last m ne l =
+    back_last (without_row t h) row mask last m (l ∙ ap length (sym (list_at_apart nat_cmp_total nat_cmp-IsAntisymmetric t h.mask mask (swap_out (rows_at t h.mask) h.place) (λ e. ne (sym e)))))

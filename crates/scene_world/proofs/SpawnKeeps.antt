@@ -1,8 +1,9 @@
 -- An accepted spawn keeps a valid world valid.
-use Rattle.std.proofs.Common.{◌≡◌, ℕ, ◌<◌, true, false, ◌||◌, nat_eq, List, length, refl, ap, subst, sym, ◌∙◌, Some, None, Ok, slice_get, slice_index, ⊎_elim}
+use Rattle.std.proofs.Common.{◌≡◌, ℕ, ◌<◌, ◌≤◌, nat_lt, arith, true, false, ◌||◌, nat_eq, List, length, refl, ap, subst, sym, ◌∙◌, Some, None, Ok, slice_get, slice_index, ⊎_elim}
 use Rattle.std.specs.Prelude.{Err}
 use Rattle.std.specs.List.{list_all}
-use Rattle.std.proofs.lemmas.Bool.{or_right, eqb-true, eqb-false}
+use Rattle.std.proofs.lemmas.Bool.{or_right, eqb-true, eqb-false, ltb-true, ltb-false}
+use Rattle.std.proofs.lemmas.Option.{slice_get_within}
 use Rattle.scene_kinds.specs.declared.entity.Entity.{Entity}
 use Rattle.scene_kinds.specs.declared.cell.Cell.{Cell}
 use Rattle.scene_kinds.specs.declared.cells.Row.{Row}
@@ -13,6 +14,7 @@ use Rattle.scene_alloc.specs.Slots.{SlotState, is_free, take_of}
 use Rattle.scene_world.specs.World.{World, lives, with_row}
 use Rattle.scene_world.specs.Commands.{spawn, after_take, spawn_fault, new_cells}
 use Rattle.scene_world.specs.Valid.{IsValid, IsRowOf, IsSoundRow, is_live_index, is_retired, is_timely}
+use Rattle.scene_world.specs.Archetypes.{NoneOf}
 use Rattle.scene_world.proofs.Outcomes.{no_fault, not_ok, same_world}
 use Rattle.scene_world.proofs.Homes.{live_here}
 use Rattle.scene_world.proofs.Rows.{StandsNowhere, added_there, each_added, once_added}
@@ -20,12 +22,26 @@ use Rattle.scene_world.proofs.Lives.{lives_added, read, there, one_of, first_of_
 use Rattle.scene_world.proofs.NewCells.{new_ascending, new_shapes, new_timely, spawn_tests}
 use Rattle.scene_world.proofs.TakenSlots.{IsTaken, taken}
 
--- nobody stands with the identity that a take gives
-pub taken_nowhere : (w : World) (s : SlotState) (e : Entity) → IsValid w → IsTaken w.slots s e → StandsNowhere e w.tables
-taken_nowhere w s e v t = λ h r g same. ⊎_elim
-    (λ f. let k : false ≡ true = sym (v.rows.each h r g).busy ∙ ap (λ (x : Entity). is_free w.slots x.index) same ∙ f in absurd (cc))
-    (λ n. let k : Some r.entity.generation ≡ None = sym (v.rows.each h r g).current ∙ ap (λ (x : Entity). slice_get w.slots.generations x.index) same ∙ n in absurd (cc))
+-- nobody stands with the index that a take gives, and so nobody with its identity
+pub taken_unused : (w : World) (s : SlotState) (e : Entity) → IsValid w → IsTaken w.slots s e → NoneOf e.index w.tables
+taken_unused w s e v t = λ h r g same. ⊎_elim
+    (λ f. let k : false ≡ true = sym (v.rows.each h r g).busy ∙ ap (is_free w.slots) same ∙ f in absurd (cc))
+    (λ n. let k : Some r.entity.generation ≡ None = sym (v.rows.each h r g).current ∙ ap (slice_get w.slots.generations) same ∙ n in absurd (cc))
     t.unused
+
+pub taken_nowhere : (w : World) (s : SlotState) (e : Entity) → IsValid w → IsTaken w.slots s e → StandsNowhere e w.tables
+taken_nowhere w s e v t = λ h r g same. taken_unused w s e v t h r g (ap (λ (x : Entity). x.index) same)
+
+-- it is no higher than the next new one
+pub taken_low : (s t : SlotState) (e : Entity) → IsTaken s t e → e.index ≤ length s.generations
+taken_low s t e k = elim (nat_lt (length s.generations) e.index) as (λ b. nat_lt (length s.generations) e.index ≡ b → e.index ≤ length s.generations) [
+  | true ↦ λ h.
+      let high = ltb-true (length s.generations) e.index h in
+      let within = slice_get_within t.generations e.index e.generation k.current in
+      let older = k.older (length s.generations) (omega (arith, high, within)) (λ q. omega (arith, q, high)) in
+      absurd (omega (arith, older))
+  | false ↦ λ h. let low = ltb-false (length s.generations) e.index h in omega (arith, low)
+] refl
 
 -- the world after a spawn
 abbrev pub with_spawned : World → SlotState → Row → World

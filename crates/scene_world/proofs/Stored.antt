@@ -1,6 +1,6 @@
 -- The tables of the code after one of them was made, grown or written.
-use Rattle.std.proofs.Common.{◌≡◌, ℕ, zero, suc, ◌+◌, ◌<◌, ◌≤◌, Bool, true, false, cond, List, [], ◌∷◌, ◌++◌, length, refl, ap, subst, sym, ◌∙◌, arith, Option, Some, None, Ok, nat_eq, length-set, get_or-set_same}
-use Rattle.std.specs.Prelude.{slice_set, slice_index_or, Result, Err, OnOk, IfOk, option_map}
+use Rattle.std.proofs.Common.{◌≡◌, ℕ, zero, suc, ◌<◌, Bool, true, false, cond, List, [], ◌∷◌, ◌++◌, length, refl, ap, subst, sym, ◌∙◌, arith, Option, Some, None, nat_eq, length-set}
+use Rattle.std.specs.Prelude.{slice_set, slice_index_or, option_map}
 use Rattle.std.specs.List.{position_from}
 use Rattle.std.specs.Ordering.{nat_cmp}
 use Rattle.std.specs.Cmp.{nat_cmp_total}
@@ -14,7 +14,6 @@ use Rattle.scene_kinds.proofs.Maps.{same_map}
 use Rattle.scene_table.specs.Table.{TableState}
 use Rattle.scene_world.specs.World.{Tables, rows_at, with_rows}
 use Rattle.scene_world.specs.KindTables.{tables_of, IsFirstOf, StandsAt, NoneHas, AreApart}
-
 use Rattle.scene_kinds.proofs.Positions.{found, missed}
 
 -- ---- which rows are seen

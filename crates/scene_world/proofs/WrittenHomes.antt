@@ -1,7 +1,6 @@
 -- What is written of homes stays true while rows leave, come back and are written.
 use Rattle.std.proofs.Common.{◌≡◌, ℕ, zero, suc, ◌<◌, ◌≤◌, List, [], ◌∷◌, length, refl, ap, subst, sym, ◌∙◌, arith, Option, Some, None, length-set, true, ◌&&◌, nat_eq}
 use Rattle.std.specs.Prelude.{slice_get, slice_set, option_map, IfSome}
-use Rattle.std.specs.Ordering.{nat_cmp}
 use Rattle.std.specs.Cmp.{nat_cmp_total}
 use Rattle.std.specs.FinMap.{nat_cmp-IsAntisymmetric}
 use Rattle.std.specs.Option.{option_flatten}
@@ -51,11 +50,11 @@ left_homes t homes home gone a at =
       }
       | Some c ↦ λ came.
           let last : (q : ℕ) × ((suc q ≡ length (rows_at t home.mask)) × ((home.place < q) × (row_at t (record { mask = home.mask; place = q }) ≡ Some c))) =
-              removed _ t home gone home c at came (λ e f q l m n. (q, (l, (m, n)))) (λ ne n k. absurd (ne refl)) in
+          removed _ t home gone home c at came (λ e f q l m n. (q, (l, (m, n)))) (λ ne n k. absurd (ne refl)) in
           let was : Home = record { mask = home.mask; place = last.0 } in
           let gone_other : c.entity.index ≡ gone.entity.index → ⊥ = kept_apart t homes was c home gone a last.1.1.1 at (λ s. let p : last.0 ≡ home.place = ap (λ (x : Home). x.place) s in let m = last.1.1.0 in omega (arith, p, m)) in
           let here : slice_get (slice_set (slice_set homes gone.entity.index None) c.entity.index (Some home)) c.entity.index ≡ Some (Some home) =
-              written_there (slice_set homes gone.entity.index None) c.entity.index (Some home) (Some was) (written_stays homes gone.entity.index None c.entity.index (Some was) gone_other (a.kept was c last.1.1.1)) in
+          written_there (slice_set homes gone.entity.index None) c.entity.index (Some home) (Some was) (written_stays homes gone.entity.index None c.entity.index (Some was) gone_other (a.kept was c last.1.1.1)) in
           record {
             kept = λ g r is. removed (slice_get (slice_set (slice_set homes gone.entity.index None) c.entity.index (Some home)) r.entity.index ≡ Some (Some g)) t home gone g r at is
                 (λ e f q l m n.
@@ -89,14 +88,14 @@ element_there (x ∷ xs) (suc i) l = element_there xs i (omega arith)
 
 pub come_homes : (t : Tables) (homes : List (Option Home)) (place : ℕ) (row : Row) → AreHomes t homes → place ≤ length (rows_at t (mask_of row.cells)) → NoneOf row.entity.index t → row.entity.index < length homes
     → AreHomes (with_row_back t place row)
-      (homes_come homes row.entity (home_for row.cells place) (option_map (λ (r : Row). r.entity) (row_at t (home_for row.cells place))) (length (rows_at t (mask_of row.cells))))
+    (homes_come homes row.entity (home_for row.cells place) (option_map (λ (r : Row). r.entity) (row_at t (home_for row.cells place))) (length (rows_at t (mask_of row.cells))))
 come_homes t homes place row a l none_of within =
     let home = home_for row.cells place in
     let last = home_for row.cells (length (rows_at t (mask_of row.cells))) in
     let index = row.entity.index in
     let any = element_there homes row.entity.index within in
     elim (row_at t (home_for row.cells place)) as (λ o. row_at t (home_for row.cells place) ≡ o
-        → AreHomes (with_row_back t place row) (homes_come homes row.entity (home_for row.cells place) (option_map (λ (r : Row). r.entity) o) (length (rows_at t (mask_of row.cells))))) [
+    → AreHomes (with_row_back t place row) (homes_come homes row.entity (home_for row.cells place) (option_map (λ (r : Row). r.entity) o) (length (rows_at t (mask_of row.cells))))) [
       | None ↦ λ none. record {
         kept = λ g r is. returned (slice_get (slice_set homes index (Some home)) r.entity.index ≡ Some (Some g)) t place row g r l is
             (λ e s. at_home (slice_set homes index (Some home)) g r e s (written_there homes index (Some home) any.0 any.1))
@@ -242,9 +241,9 @@ moved_homes t homes e home mask place row new_row after came displaced last midd
     let target : row_at (without_row t home) (record { mask = mask; place = place }) ≡ row_at t (record { mask = mask; place = place }) = ap (λ (rs : List Row). slice_get rs place) rows in
     let below : e.index < length middle = let k = entity_within t homes e home a stands in let n = ap length written ∙ length_left homes e home came in omega (arith, k, n) in
     let then = come (without_row t home) middle place new_row mask e displaced last end first m (entity ∙ same) (subst (λ (rs : List Row). place ≤ length rs) (sym rows) within) (none_left t homes e home a stands) below
-        (d ∙ ap (option_map (λ (r : Row). r.entity)) (sym target)) (l ∙ ap length (sym rows)) written2 in
+    (d ∙ ap (option_map (λ (r : Row). r.entity)) (sym target)) (l ∙ ap length (sym rows)) written2 in
     let back : after ≡ with_row_back (without_row t home) place new_row =
-        is ∙ ap (λ (rs : List Row). with_rows (without_row t home) mask (put_back rs place new_row)) (sym rows) ∙ ap (λ k. with_rows (without_row t home) k (put_back (rows_at (without_row t home) k) place new_row)) m in
+    is ∙ ap (λ (rs : List Row). with_rows (without_row t home) mask (put_back rs place new_row)) (sym rows) ∙ ap (λ k. with_rows (without_row t home) k (put_back (rows_at (without_row t home) k) place new_row)) m in
     (back, subst (λ u. AreHomes u end) (sym back) then)
 
 -- ---- where an entity is found

@@ -4,7 +4,7 @@ use Rattle.scene_kinds.specs.declared.entity.Entity.{Entity}
 use Rattle.scene_kinds.specs.declared.cells.Row.{Row}
 use Rattle.scene_world.specs.declared.home.Home.{Home}
 use Rattle.scene_world.specs.World.{Tables, rows_at, row_at}
-use Rattle.scene_world.specs.KindTables.{Rooms, TablesState, HasRoomFor, capacity_at}
+use Rattle.scene_world.specs.KindTables.{Rooms, capacity_at}
 
 -- what contracts see: the rows, for how many each kind set has memory, and for how many indices a home can be written
 pub record ArchetypesState : Type 0 where

@@ -1,9 +1,8 @@
 -- The tables of a world by kind set: their rows, and for how many rows each has memory. And the lists of the code that they are.
-use Rattle.std.specs.Prelude.{◌≡◌, ◌≢◌, ℕ, zero, suc, ◌<◌, ◌≤◌, List, [], ◌∷◌, Option, Bool, true, is_some, length, map as each}
+use Rattle.std.specs.Prelude.{◌≡◌, ◌≢◌, ℕ, zero, suc, ◌<◌, ◌≤◌, List, [], ◌∷◌, true, is_some, length, map as each}
 use Rattle.std.specs.Option.{unwrap_or}
 use Rattle.std.specs.Ordering.{nat_cmp}
 use Rattle.std.specs.Cmp.{nat_cmp_total}
-use Rattle.scene_kinds.specs.declared.cells.Row.{Row}
 use Rattle.scene_kinds.specs.Map as map
 use Rattle.scene_table.specs.Table.{TableState}
 use Rattle.scene_world.specs.declared.home.Home.{Home}

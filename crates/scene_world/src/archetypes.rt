@@ -85,7 +85,13 @@ fn write_left(homes: &mut Vec<Option<Home>>, gone: Entity, home: Home, came: Opt
 }
 
 /// Writes the homes after a row came to its own; the row that stood there went last, to another place.
-fn write_come(homes: &mut Vec<Option<Home>>, entity: Entity, home: Home, displaced: Option<Entity>, last: usize)
+fn write_come(
+    homes: &mut Vec<Option<Home>>,
+    entity: Entity,
+    home: Home,
+    displaced: Option<Entity>,
+    last: usize,
+)
     requires entity { entity.index < length homes.old.items }
     requires displaced { IfSome displaced (λ e. e.index < length homes.old.items) }
     ensures { homes.new.items ≡ homes_come homes.old.items entity home displaced last }
@@ -197,7 +203,14 @@ impl Archetypes {
     /// Moves the row of an entity, which stands at a home, to a place of the table of the kind set with one kind more,
     /// with a cell of that kind. The last row of its table takes its place; the row that stood at its new place goes
     /// last. It takes no memory.
-    pub(crate) fn move_with(&mut self, entity: Entity, home: Home, place: usize, kind: u8, cell: Cell)
+    pub(crate) fn move_with(
+        &mut self,
+        entity: Entity,
+        home: Home,
+        place: usize,
+        kind: u8,
+        cell: Cell,
+    )
         requires stands { StandsIn self.old.tables entity home }
         requires kinds { (row : Row) → row_at self.old.tables home ≡ Some row → HasKinds home.mask row }
         requires low { kind < 64 }
@@ -222,7 +235,13 @@ impl Archetypes {
     /// Moves the row of an entity, which stands at a home, to a place of the table of the kind set with one kind less,
     /// and gives the cell of that kind. The last row of its table takes its place; the row that stood at its new place
     /// goes last. It takes no memory.
-    pub(crate) fn move_without(&mut self, entity: Entity, home: Home, place: usize, kind: u8) -> Cell
+    pub(crate) fn move_without(
+        &mut self,
+        entity: Entity,
+        home: Home,
+        place: usize,
+        kind: u8,
+    ) -> Cell
         requires stands { StandsIn self.old.tables entity home }
         requires kinds { (row : Row) → row_at self.old.tables home ≡ Some row → HasKinds home.mask row × AreKindsBelow 64 row.cells }
         requires low { kind < 64 }

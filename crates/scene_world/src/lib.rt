@@ -4,8 +4,9 @@
 //! commands do, `specs/Valid.antt` the ten rules of a valid world, and `specs/Machine.antt` what frames, undo and
 //! redo do to whole saved worlds. `worked_examples_hold` has those definitions compute short scripts.
 //!
-//! `World` keeps a table for each kind set; all growth comes before the first change, so that a refusal leaves
-//! the world as it was. `laws` says of all commands, and of frames, that an accepted one keeps a valid world valid.
+//! `World` keeps a table for each kind set, found by its kind set at once (`kind_tables`), and the home of each entity's
+//! row by its index (`archetypes`). All growth comes before the first change, so that a refusal leaves the world as it
+//! was. `laws` says of all commands, and of frames, that an accepted one keeps a valid world valid.
 //!
 //! `specs/Raw.antt` has the raw changes of which commands are made, `specs/Can.antt` where each may be made, and
 //! `raw_laws` says that each keeps a valid world valid and is taken back exactly.
@@ -16,8 +17,8 @@ mod clones;
 mod examples;
 mod given;
 mod home;
-mod kind_tables;
 mod kind_sets;
+mod kind_tables;
 mod laws;
 mod moves;
 mod raw_laws;

@@ -74,6 +74,7 @@ pub(crate) fn remove_at(
     ensures ok { OnOk result ((row : Row) → row_at tables.old.tables home ≡ Some row → tables.new.tables ≡ after_move tables.old.tables home row (without_cell row.cells kind)) }
     ensures err { OnErr result (tables.new.tables ≡ tables.old.tables) }
 {
+    prove!(home.mask <= u64::MAX);
     let target = set_without(home.mask, kind);
     tables.reserve(target, 0)?;
     let last = tables.len(target);

@@ -1,8 +1,6 @@
 use Rattle.std.proofs.Common.{◌≡◌, ◌∙◌, ap, sym, true, false, Some, None}
-use Rattle.std.specs.Prelude.{option_map, slice_get}
-use Rattle.std.specs.Option.{option_flatten}
+use Rattle.std.specs.Prelude.{option_map}
 use Rattle.scene_kinds.specs.declared.cells.Row.{Row}
-use Rattle.scene_world.specs.declared.home.Home.{Home}
 use Rattle.scene_world.specs.World.{row_at, home_in}
 use Rattle.scene_world.specs.Archetypes.{StandsIn}
 use Rattle.scene_world.proofs.WrittenHomes.{found_home, dead_home, home_lent, same_parts, same_itself}

@@ -8,7 +8,7 @@ use Rattle.scene_kinds.specs.KindSet.{set_without}
 use Rattle.scene_kinds.proofs.KindSets.{mask_of-without_cell}
 use Rattle.scene_table.specs.Rows.{put_back}
 use Rattle.scene_table.specs.Table.{row_without_cell}
-use Rattle.scene_world.specs.World.{rows_at, row_at, with_rows, without_row}
+use Rattle.scene_world.specs.World.{rows_at, row_at, without_row}
 use Rattle.scene_world.specs.Raw.{with_row_back}
 use Rattle.scene_world.specs.Archetypes.{StandsIn, AreHomes, homes_come}
 use Rattle.scene_world.proofs.Rooms.{lost_apart}

@@ -1,7 +1,4 @@
-use Rattle.std.proofs.Common.{◌≡◌, ◌∙◌, ap, sym, subst, refl}
-use Rattle.std.specs.Prelude.{option_map}
-use Rattle.scene_kinds.specs.declared.cells.Row.{Row}
-use Rattle.scene_kinds.specs.Cells.{mask_of}
+use Rattle.std.proofs.Common.{◌∙◌, ap, sym, subst, refl}
 use Rattle.scene_table.specs.Rows.{put_back}
 use Rattle.scene_world.specs.World.{rows_at, with_rows}
 use Rattle.scene_world.specs.Archetypes.{AreHomes, NoneOf}

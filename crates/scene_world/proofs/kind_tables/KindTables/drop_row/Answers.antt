@@ -1,8 +1,8 @@
-use Rattle.std.proofs.Common.{◌≡◌, ◌<◌, ◌≤◌, ◌++◌, ◌∷◌, [], ◌∙◌, ap, sym, subst, length, arith, refl, Some, None, false, true}
+use Rattle.std.proofs.Common.{◌<◌, ◌∙◌, ap, sym, subst, length}
 use Rattle.std.specs.Prelude.{slice_set}
 use Rattle.scene_table.specs.Rows.{swap_out}
 use Rattle.scene_world.specs.World.{rows_at}
-use Rattle.scene_world.proofs.Rooms.{IsThere, IsStep, there, step, home_known, room_known}
+use Rattle.scene_world.proofs.Rooms.{IsThere, IsStep, there, step, home_known}
 use Rattle.scene_world.proofs.kind_tables.KindTables.drop_row.Goals as goal
 
 -- the table, and the tables after it

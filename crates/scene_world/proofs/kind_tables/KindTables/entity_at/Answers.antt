@@ -1,4 +1,4 @@
-use Rattle.std.proofs.Common.{◌≡◌, ◌∙◌, ap, sym, subst, List}
+use Rattle.std.proofs.Common.{◌∙◌, ap, sym, subst, List}
 use Rattle.std.specs.Prelude.{option_map, slice_get}
 use Rattle.std.proofs.lemmas.Option.{slice_get-map}
 use Rattle.scene_kinds.specs.declared.entity.Entity.{Entity}

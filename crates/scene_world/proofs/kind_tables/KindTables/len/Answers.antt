@@ -1,4 +1,4 @@
-use Rattle.std.proofs.Common.{◌≡◌, ◌∙◌, ap, sym, subst, length}
+use Rattle.std.proofs.Common.{◌∙◌, ap, sym, subst, length}
 use Rattle.scene_world.specs.World.{rows_at}
 use Rattle.scene_world.specs.KindTables.{NoneHas}
 use Rattle.scene_world.proofs.Stored.{none_seen}

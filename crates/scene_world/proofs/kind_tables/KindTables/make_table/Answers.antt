@@ -1,4 +1,4 @@
-use Rattle.std.proofs.Common.{◌≡◌, ◌<◌, ◌≤◌, ◌+◌, ◌∙◌, ap, sym, subst, length, arith, [], false, true}
+use Rattle.std.proofs.Common.{sym, subst, []}
 use Rattle.scene_world.specs.KindTables.{IsKnown, StandsAt, NoneHas}
 use Rattle.scene_world.proofs.Rooms.{first_known, known_stands}
 use Rattle.scene_world.proofs.kind_tables.KindTables.make_table.Goals as goal

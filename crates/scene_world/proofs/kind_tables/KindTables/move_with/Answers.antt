@@ -1,9 +1,9 @@
-use Rattle.std.proofs.Common.{◌≡◌, ◌<◌, ◌≤◌, ◌++◌, ◌∷◌, [], ◌∙◌, ap, sym, subst, length, arith, refl, Some, None, false, true, cond}
+use Rattle.std.proofs.Common.{◌≡◌, ◌<◌, ◌≤◌, ◌∙◌, ap, sym, subst, length, arith, refl, Some}
 use Rattle.std.specs.Prelude.{slice_set, slice_get}
 use Rattle.scene_kinds.specs.KindSet.{has_kind, set_with}
 use Rattle.scene_kinds.specs.declared.cells.Row.{Row}
 use Rattle.scene_table.specs.Rows.{swap_out, put_back}
-use Rattle.scene_table.specs.Table.{row_with_cell, cell_at}
+use Rattle.scene_table.specs.Table.{row_with_cell}
 use Rattle.scene_world.specs.World.{rows_at, row_at}
 use Rattle.scene_world.specs.KindTables.{StandsAt, IsKnown, rooms_of}
 use Rattle.scene_world.proofs.RowKinds.{row_there}

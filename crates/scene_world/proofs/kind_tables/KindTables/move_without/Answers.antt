@@ -1,4 +1,4 @@
-use Rattle.std.proofs.Common.{◌≡◌, ◌<◌, ◌≤◌, ◌++◌, ◌∷◌, [], ◌∙◌, ap, sym, subst, length, arith, refl, Some, None, false, true, cond}
+use Rattle.std.proofs.Common.{◌≡◌, ◌<◌, ◌≤◌, ◌∙◌, ap, sym, subst, length, arith, refl, Some}
 use Rattle.std.specs.Prelude.{slice_set, slice_get}
 use Rattle.scene_kinds.specs.KindSet.{has_kind, set_without}
 use Rattle.scene_kinds.specs.declared.cells.Row.{Row}

@@ -1,9 +1,9 @@
-use Rattle.std.proofs.Common.{◌≡◌, ◌<◌, ◌≤◌, ◌++◌, ◌∷◌, [], ◌∙◌, ap, sym, subst, length, arith, refl, Some, None, false, true}
+use Rattle.std.proofs.Common.{◌≤◌, ◌∙◌, ap, sym, subst, length, arith}
 use Rattle.std.specs.Prelude.{slice_set}
 use Rattle.scene_kinds.specs.Cells.{HasKinds}
 use Rattle.scene_table.specs.Rows.{put_back}
 use Rattle.scene_world.specs.World.{rows_at}
-use Rattle.scene_world.proofs.Rooms.{IsThere, IsStep, there, step, home_known, room_known}
+use Rattle.scene_world.proofs.Rooms.{IsThere, IsStep, there, step, room_known}
 use Rattle.scene_world.proofs.kind_tables.KindTables.put_back.Goals as goal
 
 -- the table, and the tables after it

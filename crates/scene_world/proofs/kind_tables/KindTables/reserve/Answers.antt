@@ -1,6 +1,6 @@
-use Rattle.std.proofs.Common.{◌≡◌, ◌<◌, ◌≤◌, ◌+◌, ◌∙◌, ap, sym, subst, length, arith, [], false, true}
+use Rattle.std.proofs.Common.{◌≤◌, ◌∙◌, ap, subst, length, arith}
 use Rattle.scene_world.specs.World.{rows_at}
-use Rattle.scene_world.specs.KindTables.{capacity_at, rooms_of}
+use Rattle.scene_world.specs.KindTables.{capacity_at}
 use Rattle.scene_world.proofs.Stored.{tables_of_same}
 use Rattle.scene_world.proofs.Rooms.{there, listed_kept, room_grown, wide_grown}
 use Rattle.scene_world.proofs.kind_tables.KindTables.reserve.Goals as goal

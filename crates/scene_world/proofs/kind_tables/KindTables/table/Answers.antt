@@ -1,4 +1,4 @@
-use Rattle.std.proofs.Common.{◌≡◌, ◌<◌, ◌≤◌, ◌+◌, ◌∙◌, ap, sym, subst, length, arith, [], false, true}
+use Rattle.std.proofs.Common.{◌≡◌, ◌∙◌, ap, sym, subst, arith, [], false, true}
 use Rattle.std.specs.Prelude.{option_map}
 use Rattle.std.proofs.Common.{Bor}
 use Rattle.scene_table.specs.Table.{TableState}

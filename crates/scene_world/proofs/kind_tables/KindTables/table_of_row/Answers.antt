@@ -1,4 +1,4 @@
-use Rattle.std.proofs.Common.{◌≡◌, ◌<◌, ◌≤◌, ◌++◌, ◌∷◌, [], ◌∙◌, ap, sym, subst, length, arith, refl, Some, None, false, true}
+use Rattle.std.proofs.Common.{sym}
 use Rattle.scene_world.proofs.Rooms.{there, home_known}
 use Rattle.scene_world.proofs.kind_tables.KindTables.table_of_row.Goals as goal
 

@@ -1,4 +1,4 @@
-use Rattle.std.proofs.Common.{◌≡◌, ◌∙◌, ap, sym, subst}
+use Rattle.std.proofs.Common.{◌∙◌, ap, sym, subst}
 use Rattle.scene_world.specs.KindTables.{AreApart, masks_in}
 use Rattle.scene_world.proofs.Copies.{all_same}
 use Rattle.scene_world.proofs.kind_tables.KindTables.try_clone.Goals as goal

@@ -18,4 +18,4 @@ invariant_of-self-2 c =
     let made = c.in_ok-insert_at.ensures in
     let tests = insert_tests w.schema c.args.kind c.args.value (sym c.in_default-insert_fault.ensures) in
     subst (λ (t : Tables). IsValid (with_tables old t)) (sym (made.ok home.row home.there))
-          (insert_made old c.in-Some.home home.row c.args.kind c.args.value (cell_of home.row.cells c.args.kind) refl c.self.invariant home.there tests.1)
+    (insert_made old c.in-Some.home home.row c.args.kind c.args.value (cell_of home.row.cells c.args.kind) refl c.self.invariant home.there tests.1)

@@ -27,4 +27,4 @@ invariant_of-self c =
     let old : World = world_of w.schema w.slots w.tick w.tables.tables w.links.forest w.resources in
     let live = both_live c in
     link_answered old c.args.child c.args.parent c.link.new.self.forest c.link.result c.self.invariant
-          (ap (λ (v : World). is_live v c.args.child) c.self.view_is ∙ live.0) (ap (λ (v : World). is_live v c.args.parent) c.self.view_is ∙ live.1) c.link.ensures.answer
+    (ap (λ (v : World). is_live v c.args.child) c.self.view_is ∙ live.0) (ap (λ (v : World). is_live v c.args.parent) c.self.view_is ∙ live.1) c.link.ensures.answer
