@@ -2,3 +2,4 @@ pub mod PlayLaws
 pub mod ReportLaws
 pub mod ResourceLaws
 pub mod ShowLaws
+pub mod Stacks

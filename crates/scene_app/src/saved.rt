@@ -99,6 +99,17 @@ fn do_frame(world: &mut World, command: Command) -> Result<Option<Entity>, Refus
     }
 }
 
+/// The world after a frame of one command, with the entity that it spawned. It costs a copy of the world.
+fn framed(world: &World, command: Command) -> Result<(World, Option<Entity>), Refusal>
+    ensures { MatchResult result (λ p. frame (alone command) world.now ≡ Ok (entities p.1, p.0)) (λ r. r ≢ refusal_of NoMemory → frame (alone command) world.now ≡ Err r) }
+{
+    let mut next = world.try_clone()?;
+    match do_frame(&mut next, command) {
+        Ok(made) => Ok((next, made)),
+        Err(refusal) => Err(refusal),
+    }
+}
+
 impl Saved {
     /// A machine without frames.
     pub(crate) fn new(alloc: Global, now: World) -> Self
@@ -131,9 +142,8 @@ impl Saved {
     pub(crate) fn submit(&mut self, command: Command) -> Result<Option<Entity>, Refusal>
         ensures { Answers (made result) self.old self.new (call self.old (Submit (alone command))) }
     {
-        let mut next = self.now.try_clone()?;
-        let made = do_frame(&mut next, command)?;
         self.past.reserve(1)?;
+        let (next, made) = framed(&self.now, command)?;
         let before = std::mem::replace(&mut self.now, next);
         self.past.push_reserved(before);
         self.future.clear();
