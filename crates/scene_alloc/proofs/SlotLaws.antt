@@ -6,6 +6,9 @@ use Rattle.scene_alloc.specs.Ends.{last, front}
 use Rattle.scene_alloc.specs.Slots.{SlotState, IsSlots, CanRelease, CanUntake, takes_new_slot, take_of, release_of}
 use Rattle.scene_alloc.proofs.Ends as ends
 use Rattle.scene_alloc.proofs.Moves as moves
+pub use Rattle.scene_alloc.proofs.Ends.{last-push}
+pub use Rattle.scene_alloc.proofs.Elsewhere.{SameElsewhere-untake, SameElsewhere-unrelease}
+pub use Rattle.scene_alloc.proofs.Moves.{IsSlots-untake, fresh_length, takes_new_slot-untake, take-untake, untake-take, CanRelease-unrelease, CanUnrelease-release, IsSlots-unrelease, release-unrelease, unrelease-release}
 
 -- a take reuses the last free index, or, where none is free, makes a new slot below the limit
 pub take_cases : (s : SlotState) (P : Entity → SlotState → Type 0)

@@ -13,14 +13,9 @@ use Rattle.scene_kinds.specs.Entity.{entity_cmp_total, entity_cmp_exact}
 use Rattle.scene_kinds.proofs.Lists.{list_at_same, list_at_apart}
 use Rattle.scene_alloc.specs.Ends.{front}
 use Rattle.scene_alloc.specs.Slots.{SlotState, CanRelease, CanUnrelease, is_free, release_of, unrelease_of}
-use Rattle.scene_alloc.proofs.Elsewhere.{SameElsewhere-unrelease}
-use Rattle.scene_alloc.proofs.Ends.{push-last}
-use Rattle.scene_alloc.proofs.Moves.{CanRelease-unrelease, CanUnrelease-release, IsSlots-unrelease, release-unrelease, unrelease-release}
+use Rattle.scene_alloc.proofs.SlotLaws.{SameElsewhere-unrelease, push-last, CanRelease-unrelease, CanUnrelease-release, IsSlots-unrelease, release-unrelease, unrelease-release}
 use Rattle.scene_links.specs.Forest.{Forest, IsForest, holds, without, put_at, place_among, children_of, parent_of, cut, link_in, with_link}
-use Rattle.scene_links.proofs.Climbs.{held_childless}
-use Rattle.scene_links.proofs.Cuts.{children-cut, cut_none}
-use Rattle.scene_links.proofs.Held.{not_same, parent_holds}
-use Rattle.scene_links.proofs.Places.{link_restored}
+use Rattle.scene_links.proofs.LinkLaws.{held_childless, children-cut, cut_none, not_same, parent_holds, link_restored}
 use Rattle.scene_table.specs.Rows.{swap_out}
 use Rattle.scene_table.proofs.Swaps.{swap_out_place}
 use Rattle.scene_world.specs.declared.home.Home.{Home}

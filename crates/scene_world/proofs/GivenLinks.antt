@@ -6,12 +6,7 @@ use Rattle.scene_kinds.specs.declared.entity.Entity.{Entity}
 use Rattle.scene_kinds.specs.Entity.{entity_cmp_total, is_same}
 use Rattle.scene_kinds.proofs.Lists.{list_at_same}
 use Rattle.scene_links.specs.Forest.{Forest, IsForest, AllLinked, Ends, holds, place_among, put_at, ancestors, children_of, parent_of, cut, joined_at, link_in, with_link}
-use Rattle.scene_links.proofs.Climbs.{held_nowhere, length_up}
-use Rattle.scene_links.proofs.Cuts.{cut_forest, children-cut, linked-cut, parent-cut, parent_gone}
-use Rattle.scene_links.proofs.Held.{apart_of, holds_cases, none_holds, none_or, same_self}
-use Rattle.scene_links.proofs.Joins.{adds_at, joined_at_forest, linked-added, parent-joined_at, above-cut}
-use Rattle.scene_links.proofs.Places.{place-put_at, place_within-without}
-use Rattle.scene_links.proofs.Walks.{ancestors_step, ancestors_none}
+use Rattle.scene_links.proofs.LinkLaws.{held_nowhere, length_up, cut_forest, children-cut, linked-cut, parent-cut, parent_gone, apart_of, holds_cases, none_holds, none_or, same_self, adds_at, joined_at_forest, linked-added, parent-joined_at, above-cut, place-put_at, place_within-without, ancestors_step, ancestors_none}
 
 -- ---- walks up
 

@@ -4,9 +4,7 @@ use Rattle.std.proofs.lemmas.Bool.{false_from_ne_true}
 use Rattle.scene_kinds.specs.declared.entity.Entity.{Entity}
 use Rattle.scene_kinds.specs.Entity.{is_same}
 use Rattle.scene_links.specs.Forest.{Forest, IsForest, ancestors, children_of, parent_of, cut, link_in, with_link}
-use Rattle.scene_links.proofs.Climbs.{length_up}
-use Rattle.scene_links.proofs.Held.{parent_holds, same_is}
-use Rattle.scene_links.proofs.Places.{link_restored, with_link-with_link}
+use Rattle.scene_links.proofs.LinkLaws.{length_up, parent_holds, same_is, link_restored, with_link-with_link}
 use Rattle.scene_world.specs.World.{World, is_live}
 use Rattle.scene_world.specs.Commands.{with_children}
 use Rattle.scene_world.specs.Valid.{IsValid}

@@ -9,8 +9,7 @@ use Rattle.scene_kinds.specs.Entity.{is_same}
 use Rattle.scene_kinds.specs.Schema.{is_good_name}
 use Rattle.scene_kinds.proofs.Maps.{ties_itself}
 use Rattle.scene_links.specs.Forest.{Forest, holds, ancestors, children_of, parent_of, cut, cut_from, joined, joined_at, with_children as with_list_of, link_of, unlinked, unlink_of}
-use Rattle.scene_links.proofs.Held.{none_or}
-use Rattle.scene_links.proofs.Joins.{put_at_last}
+use Rattle.scene_links.proofs.LinkLaws.{none_or, put_at_last}
 use Rattle.scene_resources.specs.Resources.{NamedCells, name_cmp_total, cell_of, restore_of, taken, take_of}
 use Rattle.scene_resources.proofs.ResourceLaws.{restored_cells}
 use Rattle.scene_world.specs.World.{World, is_live}

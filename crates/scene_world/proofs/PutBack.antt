@@ -11,11 +11,9 @@ use Rattle.scene_kinds.specs.Cells.{mask_of}
 use Rattle.scene_kinds.proofs.Lists.{list_at_same}
 use Rattle.scene_alloc.specs.Ends.{last}
 use Rattle.scene_alloc.specs.Slots.{SlotState, CanUntake, is_free, take_of, untake_of}
-use Rattle.scene_alloc.proofs.Elsewhere.{SameElsewhere-untake}
-use Rattle.scene_alloc.proofs.Ends.{last-push}
-use Rattle.scene_alloc.proofs.Moves.{CanUntake-take, IsSlots-untake, fresh_length, takes_new_slot-untake, take-untake, untake-take}
+use Rattle.scene_alloc.proofs.SlotLaws.{SameElsewhere-untake, last-push, CanUntake-take, IsSlots-untake, fresh_length, takes_new_slot-untake, take-untake, untake-take}
 use Rattle.scene_links.specs.Forest.{holds, children_of, parent_of}
-use Rattle.scene_links.proofs.Held.{nobody, none_holds, none_or, parent_holds}
+use Rattle.scene_links.proofs.LinkLaws.{nobody, none_holds, none_or, parent_holds}
 use Rattle.scene_world.specs.declared.home.Home.{Home}
 use Rattle.scene_world.specs.World.{World, rows_at, row_at, row_of, lives, with_row, without_row}
 use Rattle.scene_world.specs.Valid.{IsValid, IsSoundRow, is_live_index, is_retired}

@@ -12,7 +12,7 @@ use Rattle.scene_kinds.proofs.Elements.{pushed, pushed_stays, pushed_last}
 use Rattle.scene_kinds.proofs.Lists.{list_at_same, list_restored}
 use Rattle.scene_kinds.proofs.Maps.{equal_keys}
 use Rattle.scene_alloc.specs.Ends.{last, front}
-use Rattle.scene_alloc.proofs.Ends.{push-last}
+use Rattle.scene_alloc.proofs.SlotLaws.{push-last}
 use Rattle.scene_table.specs.Rows.{swap_out, put_back}
 use Rattle.scene_table.proofs.Swaps.{swap_out_back, put_back_stands, put_back_back}
 use Rattle.scene_world.specs.declared.home.Home.{Home}

@@ -10,8 +10,8 @@ use Rattle.scene_kinds.specs.declared.cells.Row.{Row}
 use Rattle.scene_kinds.specs.Cells.{mask_of}
 use Rattle.scene_kinds.proofs.Lists.{list_at_same, list_at_apart}
 use Rattle.scene_alloc.specs.Ends.{last}
-use Rattle.scene_alloc.proofs.Ends.{last-push}
-use Rattle.scene_links.proofs.Held.{case_same}
+use Rattle.scene_alloc.proofs.SlotLaws.{last-push}
+use Rattle.scene_links.proofs.LinkLaws.{case_same}
 use Rattle.scene_table.specs.Rows.{swap_out}
 use Rattle.scene_table.proofs.Swaps.{swap_out_place}
 use Rattle.scene_world.specs.declared.home.Home.{Home}
