@@ -1,16 +1,18 @@
 -- Tables that were copied one by one are seen as those that they copy.
-use Rattle.std.proofs.Common.{◌≡◌, ℕ, ◌+◌, ◌<◌, ◌≤◌, List, [], ◌∷◌, ◌++◌, length, get_or, take, refl, ap, subst, sym, ◌∙◌}
+use Rattle.std.proofs.Common.{◌≡◌, ℕ, ◌+◌, ◌<◌, ◌≤◌, List, [], ◌∷◌, ◌++◌, length, get_or, take, refl, ap, subst, sym, ◌∙◌, arith}
 use Rattle.std.specs.List.{AllZip}
 use Rattle.std.proofs.lemmas.List.{take_more, take_all}
 use Rattle.std.proofs.lemmas.List.Elements.{AllZip-push}
 use Rattle.scene_table.specs.Table.{TableState}
 use Rattle.scene_table.specs.Tables.{with_rows}
-use Rattle.scene_archetypes.specs.KindTables.{tables_of, masks_in, NoneHas, AreApart}
+use Rattle.scene_archetypes.specs.KindTables.{tables_of, rooms_of, masks_in, HoldRows, NoneHas, AreApart}
+use Rattle.scene_archetypes.proofs.Rooms.{held_more}
 
 -- a table has another one's kind set and rows
 pub record IsCopy (t u : TableState) : Type 0 where
   pub mask : u.mask ≡ t.mask
   pub rows : u.rows ≡ t.rows
+  pub room : length u.rows ≤ u.capacity
 
 -- the same rows are seen of copies
 pub tables_of_copies : (ts us : List TableState) → AllZip IsCopy ts us → tables_of us ≡ tables_of ts
@@ -55,3 +57,10 @@ all_same [] [] h = refl
 all_same [] (y ∷ ys) h = absurd h
 all_same (x ∷ xs) [] h = absurd h
 all_same (x ∷ xs) (y ∷ ys) h = λ i. h.0 i ∷ all_same xs ys h.1 i
+
+-- copies have memory for their rows
+pub held_copies : (ts us : List TableState) → AllZip IsCopy ts us → HoldRows (rooms_of us) (tables_of us)
+held_copies [] [] h = λ q. omega arith
+held_copies [] (u ∷ us) h = absurd h
+held_copies (t ∷ ts) [] h = absurd h
+held_copies (t ∷ ts) (u ∷ us) h = held_more us u h.0.room (held_copies ts us h.1)

@@ -1,24 +1,28 @@
 -- The room of tables, and one step on the table of a kind set.
 use Rattle.std.proofs.Common.{◌≡◌, ℕ, zero, suc, ◌+◌, ◌<◌, ◌≤◌, ◌^◌, true, false, cond, List, [], ◌∷◌, ◌++◌, length, refl, ap, subst, sym, ◌∙◌, arith, Option, Some, None, nat_eq, get_or-set_other, get_or-set_same}
-use Rattle.std.specs.Prelude.{slice_set, slice_index_or, is_some, Result, Ok, Err, OnOk, IfSome, IfNone, position}
+use Rattle.std.specs.Prelude.{slice_set, slice_get, slice_index_or, is_some, Result, Ok, Err, OnOk, IfSome, IfNone, position}
 use Rattle.std.specs.List.{list_any, position_from}
 use Rattle.std.proofs.lemmas.Iterator.Adapters.{position_from-zero}
 use Rattle.std.proofs.lemmas.Bool.{eqb-true, eqb-false, eq-eqb, ne_eqb}
-use Rattle.std.specs.Option.{unwrap_or}
+use Rattle.std.specs.Option.{unwrap_or, option_map}
 use Rattle.std.specs.Ordering.{nat_cmp, eq_by_cmp}
 use Rattle.std.specs.Cmp.{nat_cmp_total}
 use Rattle.std.specs.FinMap.{nat_cmp-IsAntisymmetric}
+use Rattle.scene_kinds.specs.declared.cell.Cell.{Cell}
 use Rattle.scene_kinds.specs.declared.cells.Row.{Row}
 use Rattle.scene_kinds.specs.KindSet.{has_kind, set_with, set_without}
 use Rattle.scene_kinds.specs.Map as map
 use Rattle.scene_kinds.proofs.KindSets.{has_kind-set_with, has_kind-set_without}
 use Rattle.scene_kinds.proofs.Maps.{get-insert, ties_itself, equal_keys}
-use Rattle.scene_kinds.proofs.Lists.{with_list_apart}
-use Rattle.scene_table.specs.Table.{TableState}
+use Rattle.scene_kinds.proofs.Lists.{with_list_apart, list_at_same, list_at_apart}
+use Rattle.scene_table.specs.Rows.{swap_out, put_back}
+use Rattle.scene_table.specs.Table.{TableState, row_with_cell, rows_with_cell}
+use Rattle.scene_table.proofs.Swaps.{length-swap_out, length-put_back}
+use Rattle.std.proofs.lemmas.List.{length-set}
 use Rattle.scene_table.specs.declared.home.Home.{Home}
-use Rattle.scene_table.specs.Tables.{rows_at, with_rows}
-use Rattle.scene_archetypes.specs.KindTables.{Rooms, TablesState, IsKnown, HasRoomFor, IsWithin, capacity_at, IsWider, tables_of, rooms_of, IsFirstOf, StandsAt, NoneHas, AreListed, masks_in}
-use Rattle.scene_archetypes.proofs.Stored.{found_table, none_found, rows_of_first, none_seen, rows_there, mask_there, mask_of_first, rows_written, apart_kept, apart_appended, stands_kept}
+use Rattle.scene_table.specs.Tables.{Tables, rows_at, with_rows}
+use Rattle.scene_archetypes.specs.KindTables.{Rooms, TablesState, IsKnown, HasRoomFor, IsWithin, capacity_at, IsWider, tables_of, rooms_of, IsFirstOf, StandsAt, NoneHas, AreListed, AreSound, HoldRows, masks_in}
+use Rattle.scene_archetypes.proofs.Stored.{found_table, none_found, rows_of_first, none_seen, rows_there, mask_there, mask_of_first, rows_written, tables_of_same, apart_kept, apart_appended, stands_kept}
 
 -- ---- the room of a kind set
 
@@ -146,17 +150,59 @@ listed_kept masks ts i d new e h = record { listed = h.listed ∙ sym (masks_kep
 
 -- the rows of one kind set were written, and room stays
 pub record IsStep (masks : List ℕ) (t : TablesState) (new : List TableState) (mask : ℕ) (rows : List Row) : Type 0 where
-  pub listed : AreListed masks new
+  pub sound : AreSound masks new
   pub tables : tables_of new ≡ with_rows t.tables mask rows
   pub rooms : rooms_of new ≡ t.rooms
 
+-- where they fit, and the others did
+pub held_with : (rooms : Rooms) (t : Tables) (mask : ℕ) (rows : List Row) → HoldRows rooms t → length rows ≤ capacity_at rooms mask → HoldRows rooms (with_rows t mask rows)
+held_with rooms t mask rows h l = λ q. elim (nat_eq mask q) as (λ b. nat_eq mask q ≡ b → length (rows_at (with_rows t mask rows) q) ≤ capacity_at rooms q) [
+  | true ↦ λ e. subst (λ p. length (rows_at (with_rows t mask rows) p) ≤ capacity_at rooms p) (eqb-true mask q e) (omega (arith, l, ap length (list_at_same nat_cmp_total t mask rows)))
+  | false ↦ λ e. omega (arith, h q, ap length (list_at_apart nat_cmp_total nat_cmp-IsAntisymmetric t mask q rows (λ s. eqb-false mask q e (sym s))))
+] refl
+
+-- a table more, with memory for its rows
+pub held_more : (ts : List TableState) (t : TableState) → length t.rows ≤ t.capacity → HoldRows (rooms_of ts) (tables_of ts) → HoldRows (rooms_of (t ∷ ts)) (tables_of (t ∷ ts))
+held_more ts t l h =
+    let wide = λ (q : ℕ). elim (eq_by_cmp nat_cmp q t.mask) as (λ b. eq_by_cmp nat_cmp q t.mask ≡ b → length (rows_at (tables_of (t ∷ ts)) q) ≤ cond b t.capacity (capacity_at (rooms_of ts) q)) [
+      | true ↦ λ e. subst (λ p. length (rows_at (tables_of (t ∷ ts)) p) ≤ t.capacity) (sym (equal_keys nat_cmp-IsAntisymmetric q t.mask e)) (omega (arith, l, ap length (list_at_same nat_cmp_total (tables_of ts) t.mask t.rows)))
+      | false ↦ λ e. omega (arith, h q, ap length (list_at_apart nat_cmp_total nat_cmp-IsAntisymmetric (tables_of ts) t.mask q t.rows (λ s. let k : false ≡ true = sym e ∙ ap (λ m. eq_by_cmp nat_cmp m t.mask) s ∙ ties_itself nat_cmp_total t.mask in absurd (cc))))
+    ] refl in
+    λ q. omega (arith, wide q, capacity_written (rooms_of ts) t.mask t.capacity q)
+
+-- as contracts see it
+pub now_held : (ts : List TableState) (t : TablesState) → seen ts ≡ t → HoldRows (rooms_of ts) (tables_of ts) → HoldRows t.rooms t.tables
+now_held ts t v h = subst (λ u. HoldRows u.rooms u.tables) v h
+
+-- rows that one left, to which one came, or of which one was written, fit
+pub few_left : (rooms : Rooms) (t : Tables) (h : Home) → HoldRows rooms t → IsWithin t h → length (swap_out (rows_at t h.mask) h.place) ≤ capacity_at rooms h.mask
+few_left rooms t h held l = omega (arith, held h.mask, length-swap_out (rows_at t h.mask) h.place l)
+
+pub few_come : (rooms : Rooms) (t : Tables) (mask place : ℕ) (row : Row) → length (rows_at t mask) < capacity_at rooms mask → length (put_back (rows_at t mask) place row) ≤ capacity_at rooms mask
+few_come rooms t mask place row l = omega (arith, l, length-put_back (rows_at t mask) place row)
+
+pub few_written : (rooms : Rooms) (t : Tables) (h : Home) (kind : ℕ) (cell : Cell) → HoldRows rooms t → length (rows_with_cell (rows_at t h.mask) h.place kind cell) ≤ capacity_at rooms h.mask
+few_written rooms t h kind cell held =
+    let same = elim (slice_get (rows_at t h.mask) h.place) as (λ o. length (unwrap_or (option_map (λ (row : Row). slice_set (rows_at t h.mask) h.place (row_with_cell row kind cell)) o) (rows_at t h.mask)) ≡ length (rows_at t h.mask)) [
+      | None ↦ refl
+      | Some row ↦ length-set (rows_at t h.mask) h.place (row_with_cell row kind cell)
+    ] in
+    omega (arith, held h.mask, same)
+
 pub step : (masks : List ℕ) (ts now : List TableState) (t : TablesState) (mask at : ℕ) (d new : TableState) (rows : List Row) → seen ts ≡ t → now ≡ ts → StandsAt now mask at → d ≡ slice_index_or ts at d
-    → AreListed masks ts → new.mask ≡ d.mask → new.rows ≡ rows → new.capacity ≡ d.capacity → IsStep masks t (slice_set ts at new) mask rows
-step masks ts now t mask at d new rows v s h e l m r c = record {
-  listed = listed_kept masks ts at d new (m ∙ ap (λ u. u.mask) e) l;
-  tables = rows_written ts mask at d new rows (subst (λ us. StandsAt us mask at) s h) e m r ∙ ap (λ u. with_rows u.tables mask rows) v;
-  rooms = rooms_same ts at d new (m ∙ ap (λ u. u.mask) e) (c ∙ ap (λ u. u.capacity) e) ∙ ap (λ u. u.rooms) v;
-}
+    → AreSound masks ts → new.mask ≡ d.mask → new.rows ≡ rows → new.capacity ≡ d.capacity → length rows ≤ capacity_at t.rooms mask → IsStep masks t (slice_set ts at new) mask rows
+step masks ts now t mask at d new rows v s h e l m r c few =
+    let tables = rows_written ts mask at d new rows (subst (λ us. StandsAt us mask at) s h) e m r ∙ ap (λ u. with_rows u.tables mask rows) v in
+    let rooms = rooms_same ts at d new (m ∙ ap (λ u. u.mask) e) (c ∙ ap (λ u. u.capacity) e) ∙ ap (λ u. u.rooms) v in
+    let held : HoldRows t.rooms (with_rows t.tables mask rows) = held_with t.rooms t.tables mask rows (subst (λ u. HoldRows u.rooms u.tables) v l.room) few in
+    record {
+      sound = record {
+        listed = listed_kept masks ts at d new (m ∙ ap (λ u. u.mask) e) l.listed;
+        room = subst (λ p. HoldRows p (tables_of (slice_set ts at new))) (sym rooms) (subst (HoldRows t.rooms) (sym tables) held);
+      };
+      tables = tables;
+      rooms = rooms;
+    }
 
 -- ---- a table more
 
@@ -206,6 +252,11 @@ room_grown (Ok x) ts now mask at d new s h m o =
     let capacity = ap (λ c. unwrap_or c 0) (room_of_first (slice_set ts at new) mask at d stands.first) ∙ ap (λ u. u.capacity) here in
     omega (arith, o, ap length rows, capacity)
 
+pub held_grown : (ts : List TableState) (at : ℕ) (d new : TableState) → new.mask ≡ (slice_index_or ts at d).mask → new.rows ≡ (slice_index_or ts at d).rows → (slice_index_or ts at d).capacity ≤ new.capacity
+    → HoldRows (rooms_of ts) (tables_of ts) → HoldRows (rooms_of (slice_set ts at new)) (tables_of (slice_set ts at new))
+held_grown ts at d new m r l h = λ q.
+    omega (arith, h q, wide_grown ts at d new m l q, ap (λ (t : Tables). length (rows_at t q)) (tables_of_same ts at d new m r))
+
 -- ---- a row that moves between two tables
 
 set_over : (ts : List TableState) (i : ℕ) (a b : TableState) → slice_set (slice_set ts i a) i b ≡ slice_set ts i b
@@ -233,26 +284,26 @@ still_there ts now t a b i j e d v s ne h k is =
 
 -- a row moved from the one to the other
 pub record IsMoved (masks : List ℕ) (t : TablesState) (new : List TableState) (a : ℕ) (left : List Row) (b : ℕ) (come : List Row) : Type 0 where
-  pub listed : AreListed masks new
+  pub sound : AreSound masks new
   pub tables : tables_of new ≡ with_rows (with_rows t.tables a left) b come
   pub rooms : rooms_of new ≡ t.rooms
 
 pub moved : (masks : List ℕ) (ts now : List TableState) (t : TablesState) (a b i j : ℕ) (e was left d come : TableState) (xs ys : List Row) → seen ts ≡ t → now ≡ ts → (a ≡ b → ⊥) → StandsAt now a i → StandsAt now b j
-    → AreListed masks ts → was ≡ slice_index_or ts i was → left.mask ≡ was.mask → left.rows ≡ xs → left.capacity ≡ was.capacity
+    → AreSound masks ts → was ≡ slice_index_or ts i was → left.mask ≡ was.mask → left.rows ≡ xs → left.capacity ≡ was.capacity
     → d ≡ slice_index_or (slice_set ts i e) j d → come.mask ≡ d.mask → come.rows ≡ ys → come.capacity ≡ d.capacity
-    → IsMoved masks t (slice_set (slice_set (slice_set ts i e) j come) i left) a xs b ys
-moved masks ts now t a b i j e was left d come xs ys v s ne h k l is m r c is2 m2 r2 c2 =
+    → length xs ≤ capacity_at t.rooms a → length ys ≤ capacity_at t.rooms b → IsMoved masks t (slice_set (slice_set (slice_set ts i e) j come) i left) a xs b ys
+moved masks ts now t a b i j e was left d come xs ys v s ne h k l is m r c is2 m2 r2 c2 few few2 =
     let stands = subst (λ us. StandsAt us a i) s h in
     let stands2 = subst (λ us. StandsAt us b j) s k in
     let apart : i ≡ j → ⊥ = two_places ts a b i j d ne stands stands2 in
     let there2 : d ≡ slice_index_or ts j d = is2 ∙ get_or-set_other ts i j e d (λ x. apart (sym x)) in
     let same : come.mask ≡ (slice_index_or ts j d).mask = m2 ∙ ap (λ u. u.mask) there2 in
-    let first = step masks ts now t b j d come ys v s k there2 l m2 r2 c2 in
+    let first = step masks ts now t b j d come ys v s k there2 l m2 r2 c2 few2 in
     let still : was ≡ slice_index_or (slice_set ts j come) i was = is ∙ sym (get_or-set_other ts j i come was apart) in
-    let then = step masks (slice_set ts j come) (slice_set ts j come) (seen (slice_set ts j come)) a i was left xs refl refl (stands_kept ts j d come same a i stands) still first.listed m r c in
+    let then = step masks (slice_set ts j come) (slice_set ts j come) (seen (slice_set ts j come)) a i was left xs refl refl (stands_kept ts j d come same a i stands) still first.sound m r c (subst (λ p. length xs ≤ capacity_at p a) (sym first.rooms) few) in
     let one : slice_set (slice_set (slice_set ts i e) j come) i left ≡ slice_set (slice_set ts j come) i left = taken_out ts i j e come left apart in
     record {
-      listed = subst (AreListed masks) (sym one) then.listed;
+      sound = subst (AreSound masks) (sym one) then.sound;
       tables = ap tables_of one ∙ then.tables ∙ ap (λ u. with_rows u a xs) first.tables ∙ with_list_apart nat_cmp_total nat_cmp-IsAntisymmetric t.tables b a ys xs (λ x. ne (sym x));
       rooms = ap rooms_of one ∙ then.rooms ∙ first.rooms;
     }

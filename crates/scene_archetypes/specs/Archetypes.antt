@@ -3,8 +3,8 @@ use Rattle.std.specs.Prelude.{◌≡◌, ℕ, ◌<◌, ◌≤◌, List, Option, 
 use Rattle.scene_kinds.specs.declared.entity.Entity.{Entity}
 use Rattle.scene_kinds.specs.declared.cells.Row.{Row}
 use Rattle.scene_table.specs.declared.home.Home.{Home}
-use Rattle.scene_table.specs.Tables.{Tables, rows_at, row_at}
-use Rattle.scene_archetypes.specs.KindTables.{Rooms, capacity_at}
+use Rattle.scene_table.specs.Tables.{Tables, EachRow, rows_at, row_at}
+use Rattle.scene_archetypes.specs.KindTables.{Rooms, HoldRows, capacity_at}
 
 -- what contracts see: the rows, for how many each kind set has memory, and for how many indices a home can be written
 pub record ArchetypesState : Type 0 where
@@ -16,6 +16,11 @@ pub record ArchetypesState : Type 0 where
 pub record HasRoomOf (a : ArchetypesState) (mask indices : ℕ) : Type 0 where
   pub row : length (rows_at a.tables mask) < capacity_at a.rooms mask
   pub homes : indices ≤ a.homes
+
+-- memory for the rows that there are, and for the homes of their entities
+pub record HoldsRows (rooms : Rooms) (count : ℕ) (tables : Tables) : Type 0 where
+  pub rows : HoldRows rooms tables
+  pub homes : EachRow (λ mask row. row.entity.index < count) tables
 
 -- what is written of homes: each row's home stands at its entity's index, and each home that stands there is a row's
 pub record AreHomes (tables : Tables) (homes : List (Option Home)) : Type 0 where

@@ -35,6 +35,10 @@ HasRoomFor t mask = length (rows_at t.tables mask) < capacity_at t.rooms mask
 abbrev pub IsWider : Rooms → Rooms → Type 0
 IsWider old new = (mask : ℕ) → capacity_at old mask ≤ capacity_at new mask
 
+-- each kind set has memory for the rows that it has
+abbrev pub HoldRows : Rooms → Tables → Type 0
+HoldRows rooms tables = (mask : ℕ) → length (rows_at tables mask) ≤ capacity_at rooms mask
+
 -- a row stands at a home
 abbrev pub IsWithin : Tables → Home → Type 0
 IsWithin tables home = home.place < length (rows_at tables home.mask)
@@ -80,3 +84,8 @@ masks_in ts = each (λ t. t.mask) ts
 pub record AreListed (masks : List ℕ) (ts : List TableState) : Type 0 where
   pub listed : masks ≡ masks_in ts
   pub apart : AreApart ts
+
+-- what always holds of them: they are listed, and each has memory for its rows
+pub record AreSound (masks : List ℕ) (ts : List TableState) : Type 0 where
+  pub listed : AreListed masks ts
+  pub room : HoldRows (rooms_of ts) (tables_of ts)

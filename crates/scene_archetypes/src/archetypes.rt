@@ -10,7 +10,7 @@ ghost use Rattle.scene_table.specs.Table.{cell_at, row_with_cell, row_without_ce
 ghost use Rattle.scene_table.specs.Tables.{rows_at, row_at, home_in, with_rows, without_row, masks_of};
 ghost use Rattle.scene_table.specs.Tables.{row_for, with_row_back};
 ghost use Rattle.scene_archetypes.specs.KindTables.{IsWider, IsWithin, capacity_at};
-ghost use Rattle.scene_archetypes.specs.Archetypes.{ArchetypesState, HasRoomOf, SameHomes, homes_left, homes_come};
+ghost use Rattle.scene_archetypes.specs.Archetypes.{ArchetypesState, HoldsRows, HasRoomOf, SameHomes, homes_left, homes_come};
 ghost use Rattle.scene_table.specs.Tables.{NoneOf, StandsIn};
 
 use crate::kind_tables::KindTables;
@@ -35,7 +35,7 @@ impl Model for Archetypes {
     ghost use Rattle.std.specs.Coded.{coded_ℕ, coded_list, coded×, codes};
     ghost use Rattle.scene_kinds.specs.contracts.cells.Row as row;
     ghost use Rattle.scene_kinds.specs.Map as map;
-    ghost use Rattle.scene_archetypes.specs.Archetypes.{ArchetypesState, AreHomes};
+    ghost use Rattle.scene_archetypes.specs.Archetypes.{ArchetypesState, HoldsRows, AreHomes};
 
     ghost Value = { ArchetypesState };
 
@@ -171,23 +171,6 @@ impl Archetypes {
         write_left(&mut self.homes, entity, home, self.tables.entity_at(home));
     }
 
-    /// Takes out the row of an entity, which stands at a home, its cells in an empty list that has room for them. The
-    /// last row of its table takes its place. It takes no memory.
-    pub fn take_row(&mut self, entity: Entity, home: Home, room: Vec<(u8, Cell)>) -> Row
-        requires stands { StandsIn self.old.tables entity home }
-        requires empty { room.items ≡ [] }
-        requires room { (row : Row) → row_at self.old.tables home ≡ Some row → length row.cells ≤ vec_capacity room }
-        ensures row { row_at self.old.tables home ≡ Some result }
-        ensures fits { HasKinds home.mask result }
-        ensures tables { self.new.tables ≡ without_row self.old.tables home }
-        ensures rooms { self.new.rooms ≡ self.old.rooms }
-        ensures homes { self.new.homes ≡ self.old.homes }
-    {
-        let row = self.tables.take_row(home, room);
-        write_left(&mut self.homes, entity, home, self.tables.entity_at(home));
-        row
-    }
-
     /// Puts a cell in place of that of a kind in the row at a home, and gives the old one. It takes no memory.
     pub fn set_cell(&mut self, home: Home, kind: u8, cell: Cell) -> Cell
         requires within { IsWithin self.old.tables home }
@@ -264,6 +247,13 @@ impl Archetypes {
         write_left(&mut self.homes, entity, home, self.tables.entity_at(home));
         write_come(&mut self.homes, entity, target, displaced, last);
         cell
+    }
+
+    /// A law of every value: its room holds the rows that there are. It does nothing.
+    pub fn room_holds(&self)
+        ensures { HoldsRows self.now.rooms self.now.homes self.now.tables }
+    {
+        self.tables.room_holds();
     }
 
     /// How many rows of a kind set there are.

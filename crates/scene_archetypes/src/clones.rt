@@ -1,6 +1,6 @@
 //! Copies of the tables of a world.
 ghost use Rattle.std.specs.Prelude.{◌≡◌, IfOk};
-ghost use Rattle.scene_archetypes.specs.KindTables.{tables_of, masks_in, AreApart};
+ghost use Rattle.scene_archetypes.specs.KindTables.{tables_of, rooms_of, masks_in, HoldRows, AreApart};
 
 use scene_table::Table;
 use std::alloc::{AllocError, Global};
@@ -10,6 +10,7 @@ use std::alloc::{AllocError, Global};
 pub(crate) fn clone_tables(alloc: Global, tables: &[Table]) -> Result<Vec<Table>, AllocError>
     ensures seen { IfOk result (λ copies. tables_of copies.items ≡ tables_of tables.now) }
     ensures apart { IfOk result (λ copies. AreApart tables.now → AreApart copies.items) }
+    ensures room { IfOk result (λ copies. HoldRows (rooms_of copies.items) (tables_of copies.items)) }
     ensures masks { IfOk result (λ copies. masks_in copies.items ≡ masks_in tables.now) }
 {
     let mut copies = Vec::new(alloc);

@@ -10,7 +10,7 @@ ghost use Rattle.scene_kinds.specs.declared.cells.Row.{Row};
 ghost use Rattle.scene_table.specs.Rows.{put_back};
 ghost use Rattle.scene_table.specs.Table.{TableState, cell_at, row_with_cell, row_without_cell, rows_with_cell};
 ghost use Rattle.scene_table.specs.Tables.{Tables, rows_at, row_at, with_rows, with_row, without_row, masks_of};
-ghost use Rattle.scene_archetypes.specs.KindTables.{TablesState, AreListed, NoneHas, StandsAt, IsKnown, HasRoomFor, IsWider, IsWithin, tables_of, rooms_of};
+ghost use Rattle.scene_archetypes.specs.KindTables.{TablesState, AreListed, AreSound, HoldRows, NoneHas, StandsAt, IsKnown, HasRoomFor, IsWider, IsWithin, tables_of, rooms_of};
 
 use crate::clones::clone_tables;
 use crate::kind_sets::{kind_sets_of, tables_by_kind_set};
@@ -37,7 +37,7 @@ impl Model for KindTables {
     ghost use Rattle.std.specs.Coded.{coded_ℕ, coded_list, coded×, codes};
     ghost use Rattle.scene_kinds.specs.contracts.cells.Row as row;
     ghost use Rattle.scene_kinds.specs.Map as map;
-    ghost use Rattle.scene_archetypes.specs.KindTables.{TablesState, AreListed, tables_of, rooms_of};
+    ghost use Rattle.scene_archetypes.specs.KindTables.{TablesState, AreSound, tables_of, rooms_of};
 
     ghost Value = { TablesState };
 
@@ -45,7 +45,7 @@ impl Model for KindTables {
 
     ghost view = { λ t. record { tables = tables_of t.tables.items; rooms = rooms_of t.tables.items } };
 
-    ghost invariant = { λ t. AreListed t.kind_sets.keys t.tables.items };
+    ghost invariant = { λ t. AreSound t.kind_sets.keys t.tables.items };
 }
 
 /// The index of the table of a kind set.
@@ -77,9 +77,9 @@ fn add_table(
     tables: &mut Vec<Table>,
     mask: KindSet,
 ) -> Result<(), AllocError>
-    requires listed { AreListed kind_sets.old.keys tables.old.items }
+    requires sound { AreSound kind_sets.old.keys tables.old.items }
     requires absent { NoneHas mask tables.old.items }
-    ensures listed { AreListed kind_sets.new.keys tables.new.items }
+    ensures sound { AreSound kind_sets.new.keys tables.new.items }
     ensures seen { tables_of tables.new.items ≡ tables_of tables.old.items }
     ensures wide { IsWider (rooms_of tables.old.items) (rooms_of tables.new.items) }
     ensures known { OnOk result (IsKnown (rooms_of tables.new.items) mask) }
@@ -158,21 +158,6 @@ impl KindTables {
         self.tables[at].drop_row(home.place);
     }
 
-    /// Takes out the row at a home, its cells in an empty list that has room for them. The last row takes its place. It
-    /// takes no memory.
-    pub(crate) fn take_row(&mut self, home: Home, room: Vec<(u8, Cell)>) -> Row
-        requires within { IsWithin self.old.tables home }
-        requires empty { room.items ≡ [] }
-        requires room { (row : Row) → row_at self.old.tables home ≡ Some row → length row.cells ≤ vec_capacity room }
-        ensures row { row_at self.old.tables home ≡ Some result }
-        ensures fits { HasKinds home.mask result }
-        ensures tables { self.new.tables ≡ without_row self.old.tables home }
-        ensures rooms { self.new.rooms ≡ self.old.rooms }
-    {
-        let at = known_table(&self.kind_sets, self.tables.as_slice(), home.mask);
-        self.tables[at].swap_remove_into(home.place, room)
-    }
-
     /// Puts a cell in place of that of a kind in the row at a home, and gives the old one. It takes no memory.
     pub(crate) fn set_cell(&mut self, home: Home, kind: u8, cell: Cell) -> Cell
         requires within { IsWithin self.old.tables home }
@@ -230,6 +215,13 @@ impl KindTables {
         let cell = source.move_without(home.place, &mut self.tables[to], place, kind);
         self.tables[from] = source;
         cell
+    }
+
+    /// A law of every value: each kind set has memory for the rows that it has. It does nothing.
+    pub(crate) fn room_holds(&self)
+        ensures { HoldRows self.now.rooms self.now.tables }
+    {
+        let _tables = &self.tables;
     }
 
     /// How many rows of a kind set there are.

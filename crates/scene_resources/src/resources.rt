@@ -46,6 +46,13 @@ impl Resources {
         }
     }
 
+    /// A law of every value: each name with a cell is kept. It does nothing.
+    pub fn room_holds(&self)
+        ensures { Holds self.now.kept self.now.cells }
+    {
+        let _cells = &self.cells;
+    }
+
     /// The cell of a name, or `None` where there is no resource of that name. A name with a cell is kept.
     pub fn get(&self, name: &str) -> Option<&Cell>
         ensures cell { option_copied result ≡ cell_of self.now.cells name.now }

@@ -369,6 +369,7 @@ impl Table {
     pub fn try_clone(&self) -> Result<Table, AllocError>
         ensures mask { IfOk result (λ copy. copy.mask ≡ self.now.mask) }
         ensures rows { IfOk result (λ copy. copy.rows ≡ self.now.rows) }
+        ensures fits { IfOk result (λ copy. length copy.rows ≤ copy.capacity) }
     {
         if self.entities.is_empty() {
             return Ok(Table::new(*self.entities.allocator(), self.mask));

@@ -1,7 +1,8 @@
-use Rattle.std.proofs.Common.{◌≡◌, ◌++◌, ◌∷◌, [], ◌∙◌, ap, sym, subst, length, cond}
+use Rattle.std.proofs.Common.{◌≡◌, ◌++◌, ◌∷◌, [], ◌∙◌, ap, sym, subst, length, cond, arith}
 use Rattle.std.specs.Prelude.{nat_eq}
 use Rattle.std.specs.List.{list_any}
-use Rattle.scene_archetypes.specs.KindTables.{tables_of, rooms_of, AreListed, IsKnown, IsWider, NoneHas}
+use Rattle.scene_table.specs.Tables.{rows_at}
+use Rattle.scene_archetypes.specs.KindTables.{capacity_at, tables_of, rooms_of, AreListed, IsKnown, IsWider, NoneHas}
 use Rattle.scene_archetypes.proofs.Stored.{tables_of_pushed, new_table}
 use Rattle.scene_archetypes.proofs.Rooms.{listed_pushed, not_listed, wide_pushed, first_known}
 use Rattle.scene_archetypes.proofs.kind_tables.add_table.Goals as goal
@@ -13,14 +14,25 @@ pushed c = c.push_reserved.ensures.items ∙ ap (λ ts. ts ++ c.new.result ∷ [
 named : (c : goal.After-push_reserved) → c.insert.new.self.keys ≡ c.args.kind_sets.now.keys ++ c.args.mask ∷ []
 named c =
     c.in_ok-insert.ensures.keys ∙ ap (λ b. cond b c.args.kind_sets.now.keys (c.args.kind_sets.now.keys ++ c.args.mask ∷ []))
-    (ap (list_any (nat_eq c.args.mask)) c.requires.listed.listed ∙ not_listed c.args.mask c.args.tables.now.items c.requires.absent)
+    (ap (list_any (nat_eq c.args.mask)) c.requires.sound.listed.listed ∙ not_listed c.args.mask c.args.tables.now.items c.requires.absent)
 
-pub returns-clause-listed : goal.returns-clause-listed
-returns-clause-listed c =
+listed : (c : goal.After-push_reserved) → AreListed c.insert.new.self.keys c.push_reserved.new.self.items
+listed c =
     subst (λ ks. AreListed ks c.push_reserved.new.self.items) (sym (named c))
     (subst (λ ts. AreListed (c.args.kind_sets.now.keys ++ c.args.mask ∷ []) ts) (sym (pushed c))
     (subst (λ m. AreListed (c.args.kind_sets.now.keys ++ m ∷ []) (c.args.tables.now.items ++ c.new.result ∷ [])) c.new.ensures.mask
-    (listed_pushed c.args.kind_sets.now.keys c.args.tables.now.items c.new.result (subst (λ m. NoneHas m c.args.tables.now.items) (sym c.new.ensures.mask) c.requires.absent) c.requires.listed)))
+    (listed_pushed c.args.kind_sets.now.keys c.args.tables.now.items c.new.result (subst (λ m. NoneHas m c.args.tables.now.items) (sym c.new.ensures.mask) c.requires.absent) c.requires.sound.listed)))
+
+pub returns-clause-sound : goal.returns-clause-sound
+returns-clause-sound c = record {
+  listed = listed c;
+  room = λ mask.
+      let before = c.requires.sound.room mask in
+      let wide = wide_pushed c.args.tables.now.items c.new.result mask in
+      let room = ap (λ ts. capacity_at (rooms_of ts) mask) (pushed c) in
+      let rows = ap (λ ts. length (rows_at (tables_of ts) mask)) (pushed c) ∙ ap (λ t. length (rows_at t mask)) (tables_of_pushed c.args.tables.now.items c.new.result c.new.ensures.rows) in
+      omega (arith, before, wide, room, rows);
+}
 
 pub returns-clause-seen : goal.returns-clause-seen
 returns-clause-seen c = ap tables_of (pushed c) ∙ tables_of_pushed c.args.tables.now.items c.new.result c.new.ensures.rows

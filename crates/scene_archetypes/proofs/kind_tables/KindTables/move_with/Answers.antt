@@ -7,7 +7,7 @@ use Rattle.scene_table.specs.Table.{row_with_cell}
 use Rattle.scene_table.specs.Tables.{rows_at, row_at}
 use Rattle.scene_archetypes.specs.KindTables.{StandsAt, IsKnown, rooms_of}
 use Rattle.scene_archetypes.proofs.RowKinds.{row_there}
-use Rattle.scene_archetypes.proofs.Rooms.{IsThere, IsMoved, there, still_there, moved, home_known, room_known, gained_apart}
+use Rattle.scene_archetypes.proofs.Rooms.{IsThere, IsMoved, there, still_there, moved, home_known, room_known, gained_apart, now_held, few_left, few_come}
 use Rattle.scene_archetypes.proofs.kind_tables.KindTables.move_with.Goals as goal
 
 -- where the two tables stand, and that they are two
@@ -70,10 +70,11 @@ after c row at =
     moved c.self.inside.kind_sets.keys ts ts c.args.self.now c.args.home.mask (set_with c.args.home.mask c.args.kind) c.known_table-from.result c.known_table-to.result c.replace-source.new.dest was c.move_with.new.self c.index_mut-2.result.now c.move_with.new.target
     (swap_out (rows_at c.args.self.now.tables c.args.home.mask) c.args.home.place) (put_back (rows_at c.args.self.now.tables (set_with c.args.home.mask c.args.kind)) c.args.place (row_with_cell row c.args.kind c.args.cell))
     c.self.view_is refl two stands stands_to c.self.invariant c.index_mut.ensures.value (c.move_with.ensures.mask ∙ ap (λ u. u.mask) source) (c.move_with.ensures.rows ∙ ap (λ r. swap_out r c.args.home.place) (sym rows)) (c.move_with.ensures.capacity ∙ ap (λ u. u.capacity) source)
-    c.index_mut-2.ensures.value c.move_with.ensures.target_mask (c.move_with.ensures.target_rows row (ap (λ r. slice_get r c.args.home.place) (sym rows) ∙ at) ∙ ap (λ r. put_back r c.args.place (row_with_cell row c.args.kind c.args.cell)) (sym to.rows)) c.move_with.ensures.target_capacity
+    c.index_mut-2.ensures.value c.move_with.ensures.target_mask (c.move_with.ensures.target_rows row (ap (λ r. slice_get r c.args.home.place) (sym rows) ∙ at) ∙ ap (λ r. put_back r c.args.place (row_with_cell row c.args.kind c.args.cell)) (sym to.rows))
+    c.move_with.ensures.target_capacity (few_left c.args.self.now.rooms c.args.self.now.tables c.args.home (now_held c.self.inside.tables.items c.args.self.now c.self.view_is c.self.invariant.room) c.requires.within) (few_come c.args.self.now.rooms c.args.self.now.tables (set_with c.args.home.mask c.args.kind) c.args.place (row_with_cell row c.args.kind c.args.cell) c.requires.room)
 
 pub invariant_of-self : goal.invariant_of-self
-invariant_of-self c = (after c (the_row c).0 (the_row c).1).listed
+invariant_of-self c = (after c (the_row c).0 (the_row c).1).sound
 
 pub returns-clause-tables : goal.returns-clause-tables
 returns-clause-tables c = λ row at. (after c row at).tables

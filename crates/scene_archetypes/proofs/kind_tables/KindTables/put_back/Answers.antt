@@ -3,7 +3,7 @@ use Rattle.std.specs.Prelude.{slice_set}
 use Rattle.scene_kinds.specs.Cells.{HasKinds}
 use Rattle.scene_table.specs.Rows.{put_back}
 use Rattle.scene_table.specs.Tables.{rows_at}
-use Rattle.scene_archetypes.proofs.Rooms.{IsThere, IsStep, there, step, room_known}
+use Rattle.scene_archetypes.proofs.Rooms.{IsThere, IsStep, there, step, room_known, few_come}
 use Rattle.scene_archetypes.proofs.kind_tables.KindTables.put_back.Goals as goal
 
 -- the table, and the tables after it
@@ -13,7 +13,8 @@ here c = there c.self.inside.tables.items c.as_slice.result.now c.args.self.now 
 after : (c : goal.After-self-1) → IsStep c.self.inside.kind_sets.keys c.args.self.now (slice_set c.self.inside.tables.items c.known_table-at.result c.unswap_reserved.new.self) c.args.mask (put_back (rows_at c.args.self.now.tables c.args.mask) c.args.place c.args.row)
 after c =
     let there = there c.self.inside.tables.items c.as_slice.result.now c.args.self.now c.args.mask c.known_table-at.result c.index_mut.result.now c.self.view_is c.as_slice.ensures.value c.known_table-at.ensures c.index_mut.ensures.value in
-    step c.self.inside.kind_sets.keys c.self.inside.tables.items c.as_slice.result.now c.args.self.now c.args.mask c.known_table-at.result c.index_mut.result.now c.unswap_reserved.new.self (put_back (rows_at c.args.self.now.tables c.args.mask) c.args.place c.args.row) c.self.view_is c.as_slice.ensures.value c.known_table-at.ensures c.index_mut.ensures.value c.self.invariant c.unswap_reserved.ensures.mask (c.unswap_reserved.ensures.rows ∙ ap (λ rows. put_back rows c.args.place c.args.row) (sym there.rows)) c.unswap_reserved.ensures.capacity
+    step c.self.inside.kind_sets.keys c.self.inside.tables.items c.as_slice.result.now c.args.self.now c.args.mask c.known_table-at.result c.index_mut.result.now c.unswap_reserved.new.self (put_back (rows_at c.args.self.now.tables c.args.mask) c.args.place c.args.row) c.self.view_is c.as_slice.ensures.value c.known_table-at.ensures c.index_mut.ensures.value c.self.invariant c.unswap_reserved.ensures.mask (c.unswap_reserved.ensures.rows ∙ ap (λ rows. put_back rows c.args.place c.args.row) (sym there.rows))
+    c.unswap_reserved.ensures.capacity (few_come c.args.self.now.rooms c.args.self.now.tables c.args.mask c.args.place c.args.row c.requires.room)
 
 pub known_table-at-requires-clause-known : goal.known_table-at-requires-clause-known
 known_table-at-requires-clause-known c = room_known c.self.inside.tables.items c.as_slice.result.now c.args.self.now c.args.mask c.self.view_is c.as_slice.ensures.value c.requires.room
@@ -28,7 +29,7 @@ pub unswap_reserved-requires-clause-room : goal.unswap_reserved-requires-clause-
 unswap_reserved-requires-clause-room c = omega (arith, c.requires.room, ap length (here c).rows, (here c).capacity)
 
 pub invariant_of-self : goal.invariant_of-self
-invariant_of-self c = (after c).listed
+invariant_of-self c = (after c).sound
 
 pub returns-clause-tables : goal.returns-clause-tables
 returns-clause-tables c = (after c).tables

@@ -2,12 +2,17 @@ use Rattle.std.proofs.Common.{◌≤◌, ◌∙◌, ap, subst, length, arith}
 use Rattle.scene_table.specs.Tables.{rows_at}
 use Rattle.scene_archetypes.specs.KindTables.{capacity_at}
 use Rattle.scene_archetypes.proofs.Stored.{tables_of_same}
-use Rattle.scene_archetypes.proofs.Rooms.{there, listed_kept, room_grown, wide_grown}
+use Rattle.scene_archetypes.proofs.Rooms.{there, listed_kept, room_grown, wide_grown, held_grown}
 use Rattle.scene_archetypes.proofs.kind_tables.KindTables.reserve.Goals as goal
 
 pub invariant_of-self : goal.invariant_of-self
 invariant_of-self c =
-    listed_kept c.self.inside.kind_sets.keys c.self.inside.tables.items c.known_table-at.result c.index_mut.result.now c.reserve.new.self (c.reserve.ensures.mask ∙ ap (λ t. t.mask) c.index_mut.ensures.value) c.self.invariant
+    let mask = c.reserve.ensures.mask ∙ ap (λ t. t.mask) c.index_mut.ensures.value in
+    record {
+      listed = listed_kept c.self.inside.kind_sets.keys c.self.inside.tables.items c.known_table-at.result c.index_mut.result.now c.reserve.new.self mask c.self.invariant.listed;
+      room = held_grown c.self.inside.tables.items c.known_table-at.result c.index_mut.result.now c.reserve.new.self mask (c.reserve.ensures.rows ∙ ap (λ t. t.rows) c.index_mut.ensures.value)
+      (subst (λ d. d.capacity ≤ c.reserve.new.self.capacity) c.index_mut.ensures.value c.reserve.ensures.wide) c.self.invariant.room;
+    }
 
 pub returns-clause-tables : goal.returns-clause-tables
 returns-clause-tables c =

@@ -5,6 +5,9 @@ use Rattle.scene_archetypes.proofs.kind_tables.KindTables.try_clone.Goals as goa
 
 pub invariant_of-result : goal.invariant_of-result
 invariant_of-result c = record {
-  listed = all_same c.self.inside.kind_sets.keys c.in_ok-clone.field-0.keys c.in_ok-clone.ensures.cases ∙ c.self.invariant.listed ∙ sym (c.in_ok-clone_tables.ensures.masks ∙ ap masks_in c.as_slice.ensures.value);
-  apart = c.in_ok-clone_tables.ensures.apart (subst AreApart (sym c.as_slice.ensures.value) c.self.invariant.apart);
+  listed = record {
+    listed = all_same c.self.inside.kind_sets.keys c.in_ok-clone.field-0.keys c.in_ok-clone.ensures.cases ∙ c.self.invariant.listed.listed ∙ sym (c.in_ok-clone_tables.ensures.masks ∙ ap masks_in c.as_slice.ensures.value);
+    apart = c.in_ok-clone_tables.ensures.apart (subst AreApart (sym c.as_slice.ensures.value) c.self.invariant.listed.apart);
+  };
+  room = c.in_ok-clone_tables.ensures.room;
 }

@@ -7,6 +7,7 @@ use Rattle.std.proofs.lemmas.Bool.Decides.{nat_tests}
 use Rattle.scene_kinds.specs.declared.entity.Entity.{Entity}
 use Rattle.scene_table.specs.Columns.{IsSameColumn, rows_of, AreLong}
 use Rattle.scene_table.proofs.TableFacts.{no_rows, same_rows, same_kinds_of, same_long, least_above}
+use Rattle.scene_table.proofs.TableRows.{length-rows_of}
 use Rattle.scene_table.proofs.table.Table.try_clone.Goals as goal
 
 pub invariant_of-result : goal.invariant_of-result
@@ -23,6 +24,15 @@ invariant_of-result c =
   where
     not_empty : (a b : ℕ) → a ≡ b → nat_eq a 0 ≡ false → 0 < b
     not_empty a b e h = grind (arith, nat_tests)
+
+pub returns-clause-fits : goal.returns-clause-fits
+returns-clause-fits c =
+    let es : c.in_ok-clone.field-0.items ≡ c.self.inside.entities.items = search (rules, same_from_all_zip) in
+    let all : AllZip IsSameColumn c.self.inside.columns.items c.in_ok-clone_columns.field-0.items = subst (λ t. AllZip IsSameColumn t c.in_ok-clone_columns.field-0.items) c.as_slice.ensures.value c.in_ok-clone_columns.ensures.same in
+    let long = same_long (length c.in_ok-clone.field-0.items) c.self.inside.columns.items c.in_ok-clone_columns.field-0.items all (subst (λ (t : List Entity). AreLong (length t) c.self.inside.columns.items) (sym es) c.self.invariant.long) in
+    let fits = least_above (length c.in_ok-clone.field-0.items) (vec_capacity c.in_ok-clone.field-0) c.in_ok-clone_columns.field-0.items (omega arith) (λ k d m. omega (arith, long k d m, c.in_ok-clone_columns.ensures.fits k d m)) in
+    let rows = length-rows_of c.in_ok-clone.field-0.items c.in_ok-clone_columns.field-0.items long in
+    omega (arith, fits, rows)
 
 pub returns-clause-rows : goal.returns-clause-rows
 returns-clause-rows c =
