@@ -1,1 +1,2 @@
 pub mod Onto
+pub mod Room

@@ -1,3 +1,4 @@
 pub mod Onto
+pub mod Room
 pub mod Stage
 pub mod Stored

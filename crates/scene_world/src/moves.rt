@@ -1,11 +1,11 @@
 //! Rows that move to the table of another kind set. All growth comes before the first change that is seen.
-ghost use Rattle.std.specs.Prelude.{◌≡◌, ◌<◌, Some, OnOk, OnErr, IsSome};
+ghost use Rattle.std.specs.Prelude.{◌≡◌, ◌<◌, ◌≤◌, Some, OnOk, OnErr, IsSome};
 ghost use Rattle.scene_kinds.specs.Cells.{HasKinds, AreKindsBelow, cell_of, without_cell};
 ghost use Rattle.scene_kinds.specs.declared.cells.Row.{Row};
 ghost use Rattle.scene_table.specs.Table.{cell_at};
 ghost use Rattle.scene_table.specs.Tables.{rows_at, row_at};
 ghost use Rattle.scene_model.specs.Commands.{after_move, after_insert};
-ghost use Rattle.scene_archetypes.specs.KindTables.{IsWithin};
+ghost use Rattle.scene_archetypes.specs.KindTables.{IsWider, IsWithin};
 ghost use Rattle.scene_table.specs.Tables.{StandsIn};
 ghost use Rattle.std.specs.Option.{option_map};
 
@@ -38,6 +38,8 @@ pub(crate) fn insert_at(
     requires low { kind < 64 }
     ensures ok { OnOk result ((row : Row) → row_at tables.old.tables home ≡ Some row → tables.new.tables ≡ after_insert tick tables.old.tables home row kind value (cell_of row.cells kind)) }
     ensures err { OnErr result (tables.new.tables ≡ tables.old.tables) }
+    ensures wide { IsWider tables.old.rooms tables.new.rooms }
+    ensures homes { tables.old.homes ≤ tables.new.homes }
 {
     match added_at(tables, home, kind) {
         Some(added) => {
@@ -73,6 +75,8 @@ pub(crate) fn remove_at(
     requires low { kind < 64 }
     ensures ok { OnOk result ((row : Row) → row_at tables.old.tables home ≡ Some row → tables.new.tables ≡ after_move tables.old.tables home row (without_cell row.cells kind)) }
     ensures err { OnErr result (tables.new.tables ≡ tables.old.tables) }
+    ensures wide { IsWider tables.old.rooms tables.new.rooms }
+    ensures homes { tables.old.homes ≤ tables.new.homes }
 {
     prove!(home.mask <= u64::MAX);
     let target = set_without(home.mask, kind);

@@ -24,7 +24,7 @@ pub trait Stage {
 
     /// The world as it is now.
     fn world(&self) -> &World
-        ensures { result.now ≡ (seen self.now).world };
+        ensures { result.now.world ≡ (seen self.now).world };
 
     /// Spawns an entity with these components, as `World::spawn` does.
     fn spawn(&mut self, cells: Vec<(u8, Value)>) -> Result<Entity, Refusal>
@@ -67,7 +67,7 @@ pub trait Stage {
 impl Stage for World {
     type Note = Infallible;
 
-    ghost seen = { λ w. record { world = w; notes = [] } };
+    ghost seen = { λ w. record { world = w.world; notes = [] } };
 
     ghost note = { λ _ _. [] };
 

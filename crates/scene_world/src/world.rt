@@ -7,6 +7,7 @@ ghost use Rattle.scene_table.specs.Tables.{rows_at};
 ghost use Rattle.scene_model.specs.Commands.{raise_tick};
 ghost use Rattle.scene_model.specs.World.{IsHomeOf};
 ghost use Rattle.scene_model.specs.Valid.{IsValid};
+ghost use Rattle.scene_world.specs.Room.{Holds, IsWider};
 
 mod despawn;
 mod despawn_recursive;
@@ -32,9 +33,10 @@ use std::marker::Model;
 /// A world: which entities are alive, their components by archetype, parents and children, resources, and the
 /// tick of its last frame (docs/MODEL.md).
 ///
-/// Contracts see it as one value: the schema, the slots, the tick, the rows of each kind set that has rows, the
-/// children of each entity that has some, and the resources. Room that was reserved isn't seen. Every `World`
-/// is valid (docs/MODEL.md, "A valid world").
+/// Contracts see `world`, one value: the schema, the slots, the tick, the rows of each kind set that has rows, the
+/// children of each entity that has some, and the resources. Every `World` is valid (docs/MODEL.md, "A valid world").
+/// Beside it they see `room`: for what the storage suffices with no more memory. No command loses room, so that a world
+/// that was there can come back without memory.
 #[derive(Drop, Debug)]
 pub struct World {
     alloc: Global,
@@ -56,16 +58,17 @@ impl Model for World {
     ghost use Rattle.scene_kinds.specs.Entity.{entity_cmp};
     ghost use Rattle.scene_kinds.specs.Map as map;
     ghost use Rattle.scene_resources.specs.Resources.{name_cmp};
-    ghost use Rattle.scene_model.specs.World.{World as Whole};
+    ghost use Rattle.scene_world.specs.Room.{Housed};
 
-    ghost Value = { Whole };
+    ghost Value = { Housed };
 
-    ghost coded = { Prim.hlevel (codes, shape.the_row.coded, map.code {R = nat_cmp} coded_ℕ (coded× row.the_row.coded (coded_list row.the_row.coded)), map.code {R = entity_cmp} entity.the_row.coded (coded× entity.the_row.coded (coded_list entity.the_row.coded)), map.code {R = name_cmp} (coded_list coded_ℕ) cell.the_row.coded) };
+    ghost coded = { Prim.hlevel (codes, shape.the_row.coded, map.code {R = nat_cmp} coded_ℕ (coded× row.the_row.coded (coded_list row.the_row.coded)), map.code {R = nat_cmp} coded_ℕ coded_ℕ, coded_list coded_ℕ, coded_list (coded_list coded_ℕ), map.code {R = entity_cmp} entity.the_row.coded (coded× entity.the_row.coded (coded_list entity.the_row.coded)), map.code {R = name_cmp} (coded_list coded_ℕ) cell.the_row.coded) };
 
+    ghost use Rattle.scene_world.specs.Room.{room_of};
     ghost use Rattle.scene_world.specs.Stored.{world_of};
     ghost use Rattle.scene_model.specs.Valid.{IsValid};
 
-    ghost view = { λ w. world_of w.schema w.slots w.tick w.tables.tables w.links.forest w.resources };
+    ghost view = { λ w. record { world = world_of w.schema w.slots w.tick w.tables.tables w.links.forest w.resources; room = room_of w.slots w.tables w.links w.resources } };
 
     ghost invariant = { λ w. IsValid (world_of w.schema w.slots w.tick w.tables.tables w.links.forest w.resources) };
 }
@@ -76,7 +79,7 @@ impl World {
     pub fn new(alloc: Global, schema: Schema, limit: u32) -> Self
         requires least { 1 ≤ limit }
         requires most { limit ≤ 1048576 }
-        ensures { result ≡ new_world schema limit }
+        ensures { result.world ≡ new_world schema limit }
     {
         prove!(schema.len() <= 64);
         World {
@@ -90,9 +93,19 @@ impl World {
         }
     }
 
+    /// A law of every value: its room holds its world. It does nothing.
+    pub fn room_holds(&self)
+        ensures { Holds self.now.room self.now.world }
+    {
+        let _count = self.slots.len();
+        self.tables.room_holds();
+        self.links.room_holds();
+        self.resources.room_holds();
+    }
+
     /// The tick of the last frame; 0 in a new world.
     pub fn tick(&self) -> u64
-        ensures { result ≡ self.now.tick }
+        ensures { result ≡ self.now.world.tick }
     {
         self.tick
     }
@@ -101,7 +114,8 @@ impl World {
     ///
     /// Refused: `TickFull` where the tick is the greatest of 64 bits; then the world is as it was.
     pub fn raise_tick(&mut self) -> Result<(), Refusal>
-        ensures { Gives result self.old self.new (raise_tick self.old) }
+        ensures answer { Gives result self.old.world self.new.world (raise_tick self.old.world) }
+        ensures wide { IsWider self.old.room self.new.room }
     {
         if self.tick == u64::MAX {
             return Err(Refusal::from(Fault::TickFull));
@@ -112,51 +126,51 @@ impl World {
 
     /// The kinds, with their names and shapes.
     pub fn schema(&self) -> &Schema
-        ensures { result.now ≡ self.now.schema }
+        ensures { result.now ≡ self.now.world.schema }
     {
         &self.schema
     }
 
     /// The generations by index, and the free list.
     pub fn slots(&self) -> &Slots
-        ensures { result.now.state ≡ self.now.slots }
+        ensures { result.now.state ≡ self.now.world.slots }
     {
         &self.slots
     }
 
     /// The parents and children.
     pub fn links(&self) -> &Links
-        ensures { result.now.forest ≡ self.now.children }
+        ensures { result.now.forest ≡ self.now.world.children }
     {
         &self.links
     }
 
     /// The resources.
     pub fn resources(&self) -> &Resources
-        ensures { result.now.cells ≡ self.now.resources }
+        ensures { result.now.cells ≡ self.now.world.resources }
     {
         &self.resources
     }
 
     /// Where the row of an entity stands. Each call that looks for an entity asks here.
     fn home_of(&self, entity: Entity) -> Option<Home>
-        ensures home { result ≡ home_of self.now entity }
-        ensures row { IfSome result (IsHomeOf self.now entity) }
-        ensures valid { IsValid self.now }
+        ensures home { result ≡ home_of self.now.world entity }
+        ensures row { IfSome result (IsHomeOf self.now.world entity) }
+        ensures valid { IsValid self.now.world }
     {
         self.tables.find(entity)
     }
 
     /// Whether an entity is alive: it has a row (docs/MODEL.md, "The rule of archetypes").
     pub fn is_alive(&self, entity: Entity) -> bool
-        ensures { result ≡ is_live self.now entity }
+        ensures { result ≡ is_live self.now.world entity }
     {
         self.home_of(entity).is_some()
     }
 
     /// The kind set of a live entity, in which kind k is bit k; else `None`.
     pub fn mask_of(&self, entity: Entity) -> Option<u64>
-        ensures { result ≡ mask_at self.now entity }
+        ensures { result ≡ mask_at self.now.world entity }
     {
         let home = self.home_of(entity)?;
         Some(home.mask)
@@ -167,7 +181,7 @@ impl World {
     /// Refused, in this order: `NoSuchEntity` where the entity isn't alive; `NoSuchKind`; `NotPresent` where the
     /// entity doesn't have the kind. It takes no memory.
     pub fn get(&self, entity: Entity, kind: u8) -> Result<CellRef<'_>, Refusal>
-        ensures { MatchResult result (λ r. component_of self.now entity kind ≡ Ok (shown r)) (λ r. component_of self.now entity kind ≡ Err r) }
+        ensures { MatchResult result (λ r. component_of self.now.world entity kind ≡ Ok (shown r)) (λ r. component_of self.now.world entity kind ≡ Err r) }
     {
         let Some(home) = self.home_of(entity) else {
             return Err(Refusal::from(Fault::NoSuchEntity));
@@ -183,7 +197,7 @@ impl World {
 
     /// The place of a live entity's row in its table, from 0; else `None`.
     pub fn place_of(&self, entity: Entity) -> Option<u32>
-        ensures { result ≡ place_at self.now entity }
+        ensures { result ≡ place_at self.now.world entity }
     {
         let home = self.home_of(entity)?;
         Some(home.place as u32)
@@ -191,7 +205,7 @@ impl World {
 
     /// The table of a kind set, in which kind k is bit k, or `None` where it has no rows.
     pub fn rows_of(&self, mask: u64) -> Option<&Table>
-        ensures rows { option_map (λ table. table.now.rows) result ≡ rows_of self.now mask }
+        ensures rows { option_map (λ table. table.now.rows) result ≡ rows_of self.now.world mask }
         ensures mask { IfSome result (λ table. table.now.mask ≡ mask) }
     {
         self.tables.table(mask)
@@ -200,7 +214,7 @@ impl World {
     /// The kind sets that have rows, ascending, or an error where no memory was found. It costs the number of
     /// kind sets times its logarithm.
     pub fn tables(&self) -> Result<Vec<u64>, AllocError>
-        ensures { IfOk result (λ sets. sets.items ≡ kind_sets self.now) }
+        ensures { IfOk result (λ sets. sets.items ≡ kind_sets self.now.world) }
     {
         self.tables.kind_sets()
     }
@@ -208,15 +222,15 @@ impl World {
     /// The tables that have rows, ascending by kind set, or an error where no memory was found: a pass over them
     /// looks no table up. It costs the number of kind sets times its logarithm.
     pub fn tables_in_order(&self) -> Result<Vec<&Table>, AllocError>
-        ensures masks { IfOk result (λ tables. each (λ t. t.now.mask) tables.items ≡ kind_sets self.now) }
-        ensures rows { IfOk result (λ tables. each (λ t. t.now.rows) tables.items ≡ each (rows_at self.now.tables) (kind_sets self.now)) }
+        ensures masks { IfOk result (λ tables. each (λ t. t.now.mask) tables.items ≡ kind_sets self.now.world) }
+        ensures rows { IfOk result (λ tables. each (λ t. t.now.rows) tables.items ≡ each (rows_at self.now.world.tables) (kind_sets self.now.world)) }
     {
         self.tables.in_order()
     }
 
     /// An equal world, or an error where no memory was found. It costs a copy of the whole world.
     pub fn try_clone(&self) -> Result<World, AllocError>
-        ensures { IfOk result (λ copy. copy ≡ self.now) }
+        ensures { IfOk result (λ copy. copy.world ≡ self.now.world) }
     {
         let schema = self.schema.try_clone()?;
         let slots = self.slots.try_clone()?;

@@ -2,6 +2,7 @@
 ghost use Rattle.std.specs.Prelude.{◌≡◌};
 ghost use Rattle.scene_kinds.specs.Answers.{Gives};
 ghost use Rattle.scene_model.specs.Commands.{despawn};
+ghost use Rattle.scene_world.specs.Room.{IsWider};
 
 use crate::world::World;
 use scene_kinds::{Entity, Fault, Refusal};
@@ -15,7 +16,8 @@ impl World {
     /// Refused, in this order: `NoSuchEntity` where the entity isn't alive; `HasChildren`. After a refusal the
     /// world is as it was.
     pub fn despawn(&mut self, entity: Entity) -> Result<(), Refusal>
-        ensures { Gives result self.old self.new (despawn self.old entity) }
+        ensures answer { Gives result self.old.world self.new.world (despawn self.old.world entity) }
+        ensures wide { IsWider self.old.room self.new.room }
     {
         let Some(home) = self.home_of(entity) else {
             return Err(Refusal::from(Fault::NoSuchEntity));

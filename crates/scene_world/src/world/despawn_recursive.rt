@@ -1,6 +1,7 @@
 //! Despawning an entity with all below it.
 ghost use Rattle.scene_kinds.specs.Answers.{Answers};
 ghost use Rattle.scene_model.specs.Commands.{despawn_recursive};
+ghost use Rattle.scene_world.specs.Room.{IsWider};
 
 use crate::world::World;
 use scene_kinds::{Entity, Fault, Refusal};
@@ -13,7 +14,8 @@ impl World {
     /// Refused, in this order: `NoSuchEntity` where the entity isn't alive; `NoMemory` where the order finds no
     /// memory. After a refusal the world is as it was.
     pub fn despawn_recursive(&mut self, entity: Entity) -> Result<(), Refusal>
-        ensures { Answers result self.old self.new (despawn_recursive self.old entity) }
+        ensures answer { Answers result self.old.world self.new.world (despawn_recursive self.old.world entity) }
+        ensures wide { IsWider self.old.room self.new.room }
     {
         if self.home_of(entity).is_none() {
             return Err(Refusal::from(Fault::NoSuchEntity));

@@ -2,6 +2,7 @@
 ghost use Rattle.std.specs.Prelude.{◌≡◌};
 ghost use Rattle.scene_kinds.specs.Answers.{Answers};
 ghost use Rattle.scene_model.specs.Commands.{insert};
+ghost use Rattle.scene_world.specs.Room.{IsWider};
 
 use crate::given::insert_fault;
 use crate::moves::insert_at;
@@ -19,7 +20,8 @@ impl World {
     /// Refused, in this order: `NoSuchEntity` where the entity isn't alive; `NoSuchKind`; `WrongShape`;
     /// `NoMemory`. After a refusal the world is as it was, and the value is dropped.
     pub fn insert(&mut self, entity: Entity, kind: u8, value: Value) -> Result<(), Refusal>
-        ensures { Answers result self.old self.new (insert self.old entity kind value) }
+        ensures answer { Answers result self.old.world self.new.world (insert self.old.world entity kind value) }
+        ensures wide { IsWider self.old.room self.new.room }
     {
         let Some(home) = self.home_of(entity) else {
             return Err(Refusal::from(Fault::NoSuchEntity));

@@ -2,6 +2,7 @@
 ghost use Rattle.std.specs.Prelude.{◌≡◌};
 ghost use Rattle.scene_kinds.specs.Answers.{Answers};
 ghost use Rattle.scene_model.specs.Commands.{put_resource};
+ghost use Rattle.scene_world.specs.Room.{IsWider};
 
 use crate::world::World;
 use scene_kinds::{Fault, Refusal, Value, good_name};
@@ -14,7 +15,8 @@ impl World {
     /// Refused, in this order: `BadName` where the name isn't good ("The rule of names"); `NoMemory`. After a
     /// refusal the world is as it was, and the value is dropped.
     pub fn put_resource(&mut self, name: &str, value: Value) -> Result<(), Refusal>
-        ensures { Answers result self.old self.new (put_resource self.old name.now value) }
+        ensures answer { Answers result self.old.world self.new.world (put_resource self.old.world name.now value) }
+        ensures wide { IsWider self.old.room self.new.room }
     {
         if !good_name(name) {
             return Err(Refusal::from(Fault::BadName));

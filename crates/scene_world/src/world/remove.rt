@@ -2,6 +2,7 @@
 ghost use Rattle.std.specs.Prelude.{◌≡◌};
 ghost use Rattle.scene_kinds.specs.Answers.{Answers};
 ghost use Rattle.scene_model.specs.Commands.{remove};
+ghost use Rattle.scene_world.specs.Room.{IsWider};
 
 use crate::given::is_unknown;
 use crate::moves::remove_at;
@@ -16,7 +17,8 @@ impl World {
     /// Refused, in this order: `NoSuchEntity` where the entity isn't alive; `NoSuchKind`; `NotPresent` where the
     /// entity doesn't have the kind; `NoMemory`. After a refusal the world is as it was.
     pub fn remove(&mut self, entity: Entity, kind: u8) -> Result<(), Refusal>
-        ensures { Answers result self.old self.new (remove self.old entity kind) }
+        ensures answer { Answers result self.old.world self.new.world (remove self.old.world entity kind) }
+        ensures wide { IsWider self.old.room self.new.room }
     {
         let Some(home) = self.home_of(entity) else {
             return Err(Refusal::from(Fault::NoSuchEntity));

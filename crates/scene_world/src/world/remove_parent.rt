@@ -2,6 +2,7 @@
 ghost use Rattle.std.specs.Prelude.{◌≡◌};
 ghost use Rattle.scene_kinds.specs.Answers.{Gives};
 ghost use Rattle.scene_model.specs.Commands.{remove_parent};
+ghost use Rattle.scene_world.specs.Room.{IsWider};
 
 use crate::world::World;
 use scene_kinds::{Entity, Fault, Refusal};
@@ -14,7 +15,8 @@ impl World {
     /// Refused, in this order: `NoSuchEntity` where the entity isn't alive; `NoParent` where it has no parent.
     /// After a refusal the world is as it was.
     pub fn remove_parent(&mut self, child: Entity) -> Result<(), Refusal>
-        ensures { Gives result self.old self.new (remove_parent self.old child) }
+        ensures answer { Gives result self.old.world self.new.world (remove_parent self.old.world child) }
+        ensures wide { IsWider self.old.room self.new.room }
     {
         if !self.is_alive(child) {
             return Err(Refusal::from(Fault::NoSuchEntity));

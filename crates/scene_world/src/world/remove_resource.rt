@@ -2,20 +2,29 @@
 ghost use Rattle.std.specs.Prelude.{◌≡◌};
 ghost use Rattle.scene_kinds.specs.Answers.{Gives};
 ghost use Rattle.scene_model.specs.Commands.{remove_resource};
+ghost use Rattle.scene_world.specs.Room.{IsWider};
 
 use crate::world::World;
 use scene_kinds::Refusal;
 
 impl World {
-    /// Removes the resource of a name (docs/MODEL.md, "The rule of resources"). It takes no memory.
+    /// Removes the resource of a name (docs/MODEL.md, "The rule of resources"). It takes no memory. The name keeps its
+    /// room, so that the resource can come back without memory, until `forget_resource`.
     ///
     /// Refused: `NoSuchResource` where there is none of that name, as where the name isn't good. After a refusal
     /// the world is as it was.
     pub fn remove_resource(&mut self, name: &str) -> Result<(), Refusal>
-        ensures { Gives result self.old self.new (remove_resource self.old name.now) }
+        ensures answer { Gives result self.old.world self.new.world (remove_resource self.old.world name.now) }
+        ensures wide { IsWider self.old.room self.new.room }
     {
         let _cell = self.resources.take(name)?;
-        self.resources.forget(name);
         Ok(())
+    }
+
+    /// Gives back the room of a resource's name where there is no resource of it any more. The world stays as it is.
+    pub fn forget_resource(&mut self, name: &str)
+        ensures { self.new.world ≡ self.old.world }
+    {
+        self.resources.forget(name);
     }
 }

@@ -2,6 +2,7 @@
 ghost use Rattle.std.specs.Prelude.{◌≡◌};
 ghost use Rattle.scene_kinds.specs.Answers.{Answers};
 ghost use Rattle.scene_model.specs.Commands.{set_parent};
+ghost use Rattle.scene_world.specs.Room.{IsWider};
 
 use crate::world::World;
 use scene_kinds::{Entity, Fault, Refusal};
@@ -16,7 +17,8 @@ impl World {
     /// are one entity; `Cycle` where the child is an ancestor of `parent`; `NoMemory`. After a refusal the world is
     /// as it was.
     pub fn set_parent(&mut self, child: Entity, parent: Entity) -> Result<(), Refusal>
-        ensures { Answers result self.old self.new (set_parent self.old child parent) }
+        ensures answer { Answers result self.old.world self.new.world (set_parent self.old.world child parent) }
+        ensures wide { IsWider self.old.room self.new.room }
     {
         if !(self.is_alive(child) && self.is_alive(parent)) {
             return Err(Refusal::from(Fault::NoSuchEntity));

@@ -9,6 +9,8 @@ ghost use Rattle.scene_table.specs.Tables.{with_row};
 ghost use Rattle.scene_table.specs.Tables.{NoneOf};
 ghost use Rattle.scene_alloc.specs.Slots.{SlotState};
 ghost use Rattle.scene_kinds.specs.declared.entity.Entity.{Entity};
+ghost use Rattle.scene_world.specs.Room.{IsWider as IsWiderRoom};
+ghost use Rattle.scene_archetypes.specs.KindTables.{IsWider};
 
 use scene_archetypes::Archetypes;
 use crate::given::{new_cells, spawn_fault};
@@ -32,6 +34,9 @@ fn spawn_row(
     ensures rows { IfOk result (λ e. tables.new.tables ≡ with_row tables.old.tables (record { entity = e; cells = cells })) }
     ensures slots { OnErr result (slots.new.state ≡ slots.old.state) }
     ensures seen { OnErr result (tables.new.tables ≡ tables.old.tables) }
+    ensures wide { IsWider tables.old.rooms tables.new.rooms }
+    ensures homes { tables.old.homes ≤ tables.new.homes }
+    ensures capacity { slots.old.capacity ≤ slots.new.capacity }
     ensures refused { IfErr result (λ r. r ≢ refusal_of NoMemory → take_of slots.old.state ≡ Err r) }
 {
     tables.reserve(mask, slots.len() + 1)?;
@@ -51,7 +56,8 @@ impl World {
     /// slots are as many as the limit; `NoMemory`. After a refusal the world is as it was, and the components
     /// are dropped.
     pub fn spawn(&mut self, cells: Vec<(u8, Value)>) -> Result<Entity, Refusal>
-        ensures { Answers result self.old self.new (spawn self.old cells.items) }
+        ensures answer { Answers result self.old.world self.new.world (spawn self.old.world cells.items) }
+        ensures wide { IsWiderRoom self.old.room self.new.room }
     {
         if let Some(fault) = spawn_fault(&self.schema, cells.as_slice()) {
             return Err(Refusal::from(fault));

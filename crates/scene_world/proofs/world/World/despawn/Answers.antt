@@ -9,25 +9,26 @@ use Rattle.scene_world.specs.Stored.{world_of}
 use Rattle.scene_model.specs.Valid.{IsValid}
 use Rattle.scene_model.proofs.DespawnKeeps.{can_release, gone_valid, childless, unlinked_cut}
 use Rattle.scene_model.proofs.Found.{stands_in}
+use Rattle.scene_world.proofs.Room.{seen_world}
 use Rattle.scene_world.proofs.world.World.despawn.Goals as goal
 
 pub drop_row-requires : goal.drop_row-requires
 drop_row-requires c =
     let w = c.self.inside in
-    stands_in (world_of w.schema w.slots w.tick w.tables.tables w.links.forest w.resources) c.args.entity c.in-Some.home (subst (λ (v : World). IsHomeOf v c.args.entity c.in-Some.home) (sym c.self.view_is) c.in-Some.ensures.row)
+    stands_in (world_of w.schema w.slots w.tick w.tables.tables w.links.forest w.resources) c.args.entity c.in-Some.home (subst (λ (v : World). IsHomeOf v c.args.entity c.in-Some.home) (sym (seen_world c.self.view_is)) c.in-Some.ensures.row)
 
 pub release-retired-requires : goal.release-retired-requires
 release-retired-requires c =
     let w = c.self.inside in
     let old : World = world_of w.schema w.slots w.tick w.tables.tables w.links.forest w.resources in
-    let home : IsHomeOf old c.args.entity c.in-Some.home = subst (λ (v : World). IsHomeOf v c.args.entity c.in-Some.home) (sym c.self.view_is) c.in-Some.ensures.row in
+    let home : IsHomeOf old c.args.entity c.in-Some.home = subst (λ (v : World). IsHomeOf v c.args.entity c.in-Some.home) (sym (seen_world c.self.view_is)) c.in-Some.ensures.row in
     subst (CanRelease w.slots.state) home.same (can_release old c.in-Some.home home.row c.self.invariant home.there)
 
 pub invariant_of-self : goal.invariant_of-self
 invariant_of-self c =
     let w = c.self.inside in
     let old : World = world_of w.schema w.slots w.tick w.tables.tables w.links.forest w.resources in
-    let home : IsHomeOf old c.args.entity c.in-Some.home = subst (λ (v : World). IsHomeOf v c.args.entity c.in-Some.home) (sym c.self.view_is) c.in-Some.ensures.row in
+    let home : IsHomeOf old c.args.entity c.in-Some.home = subst (λ (v : World). IsHomeOf v c.args.entity c.in-Some.home) (sym (seen_world c.self.view_is)) c.in-Some.ensures.row in
     let alone : is_some (map.get w.links.forest c.args.entity) ≡ false = childless w.links.forest c.args.entity
     (ap (λ (es : List Entity). length es == 0) (sym c.children_of.ensures.value) ∙ sym c.is_empty.ensures ∙ c.if-not-is_empty.false) in
     let left : IsValid (after_despawn old c.in-Some.home c.args.entity) = subst (λ (e : Entity). IsValid (after_despawn old c.in-Some.home e)) home.same

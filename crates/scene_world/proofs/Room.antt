@@ -1,0 +1,53 @@
+-- The laws of room.
+use Rattle.std.proofs.Common.{◌≡◌, ◌≤◌, ap, subst, arith}
+use Rattle.scene_model.specs.World.{World}
+use Rattle.scene_archetypes.specs.Archetypes.{ArchetypesState}
+use Rattle.scene_links.proofs.LinkLaws.{holds_wider as links_wider, wider_self as links_self, wider_more as links_more}
+use Rattle.scene_resources.proofs.ResourceLaws.{wider_room_holds, wider_of_wider}
+use Rattle.scene_alloc.specs.Slots.{StoredSlots}
+use Rattle.scene_links.specs.Room.{LinksState}
+use Rattle.scene_resources.specs.Resources.{StoredResources}
+use Rattle.scene_archetypes.specs.KindTables.{IsWider as IsWiderForRows}
+use Rattle.scene_world.specs.Room.{Housed, Room, Holds, IsWider, room_of}
+
+-- the world of what contracts see, and its room
+pub seen_world : {a b : Housed} → a ≡ b → a.world ≡ b.world
+seen_world e = ap (λ (h : Housed). h.world) e
+
+pub seen_room : {a b : Housed} → a ≡ b → a.room ≡ b.room
+seen_room e = ap (λ (h : Housed). h.room) e
+
+-- wider room holds what narrower room held
+pub holds_wider : (old new : Room) (w : World) → IsWider old new → Holds old w → Holds new w
+holds_wider old new w g h = record {
+  slots = omega (arith, g.slots, h.slots);
+  rows = record { rows = λ mask. omega (arith, h.rows.rows mask, g.rows mask); homes = λ home row at. omega (arith, h.rows.homes home row at, g.homes) };
+  links = links_wider old.lists new.lists w.children g.links h.links;
+  names = wider_room_holds old.names new.names w.resources g.names h.names;
+}
+
+pub wider_self : (room : Room) → IsWider room room
+wider_self room = record { slots = omega arith; rows = λ mask. omega arith; homes = omega arith; links = links_self room.lists; names = record { each = λ name kept. kept } }
+
+pub wider_wider : (a b c : Room) → IsWider a b → IsWider b c → IsWider a c
+wider_wider a b c g h = record {
+  slots = omega (arith, g.slots, h.slots);
+  rows = λ mask. omega (arith, g.rows mask, h.rows mask);
+  homes = omega (arith, g.homes, h.homes);
+  links = links_more a.lists b.lists c.lists g.links h.links;
+  names = wider_of_wider a.names b.names c.names g.names h.names;
+}
+
+-- ---- a part of it grew
+
+-- that of the tables
+pub wide_tables : (slots : StoredSlots) (old new : ArchetypesState) (links : LinksState) (resources : StoredResources) (room : Room) → room_of slots old links resources ≡ room → IsWiderForRows old.rooms new.rooms → old.homes ≤ new.homes
+    → IsWider room (room_of slots new links resources)
+wide_tables slots old new links resources room e rows homes = subst (λ r. IsWider r (room_of slots new links resources)) e
+    (record { slots = omega arith; rows = rows; homes = homes; links = links_self links.room; names = record { each = λ name kept. kept } })
+
+-- that of the slots and the tables
+pub wide_slots : (before after : StoredSlots) (old new : ArchetypesState) (links : LinksState) (resources : StoredResources) (room : Room) → room_of before old links resources ≡ room → before.capacity ≤ after.capacity
+    → IsWiderForRows old.rooms new.rooms → old.homes ≤ new.homes → IsWider room (room_of after new links resources)
+wide_slots before after old new links resources room e slots rows homes = subst (λ r. IsWider r (room_of after new links resources)) e
+    (record { slots = slots; rows = rows; homes = homes; links = links_self links.room; names = record { each = λ name kept. kept } })
