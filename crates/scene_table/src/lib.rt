@@ -15,8 +15,6 @@ mod columns;
 mod entities;
 mod rows;
 mod table;
-#[cfg(test)]
-mod tests;
 
 pub use column::ColumnRef;
 pub use rows::{put_back_comes_back, swap_out_comes_back};

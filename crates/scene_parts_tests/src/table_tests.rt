@@ -2,8 +2,8 @@
 ghost use Rattle.std.specs.Prelude.{◌≡◌, length, IfOk};
 ghost use Rattle.scene_kinds.specs.Cells.{HasKinds};
 
-use crate::{ColumnRef, Table};
 use scene_kinds::{Cell, Cells, Entity, Row, Value};
+use scene_table::{ColumnRef, Table};
 use std::alloc::{AllocError, Global};
 use std::test::Fail;
 

@@ -2,7 +2,7 @@
 ghost use Rattle.std.specs.Prelude.{◌≡◌, ◌∷◌, [], IfOk};
 ghost use Rattle.scene_alloc.specs.Slots.{slots_of};
 
-use crate::Slots;
+use scene_alloc::Slots;
 use scene_kinds::{Entity, Fault, Refusal};
 use std::alloc::{AllocError, Global};
 use std::test::Fail;

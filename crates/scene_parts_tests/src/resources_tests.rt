@@ -1,7 +1,7 @@
 //! What no clause says: that a call which allocates finds memory; and cells, ticks and orders of names that were
 //! worked out by hand.
-use crate::Resources;
 use scene_kinds::{Cell, Fault, Refusal, Value};
+use scene_resources::Resources;
 use std::test::Fail;
 
 /// The number of a cell, with its ticks.

@@ -2,7 +2,7 @@ use Rattle.std.proofs.Common.{◌∷◌, [], refl, sym, subst₂, arith}
 use Rattle.std.specs.List.{IsDistinct}
 use Rattle.scene_alloc.specs.Slots.{IsSlots, slots_of}
 use Rattle.scene_alloc.proofs.Written.{IsSlots-written}
-use Rattle.scene_alloc.proofs.tests.two_free.Goals as goal
+use Rattle.scene_parts_tests.proofs.slots_tests.two_free.Goals as goal
 
 written : IsSlots (slots_of 4 (2 ∷ 1 ∷ 7 ∷ []) (0 ∷ 2 ∷ []))
 unfolding IsDistinct
