@@ -8,18 +8,18 @@ use Rattle.scene_kinds.specs.Answers.{Outcome}
 use Rattle.scene_kinds.specs.Cells.{cell_of}
 use Rattle.scene_alloc.specs.Slots.{retires}
 use Rattle.scene_links.specs.Forest.{link_in, post}
-use Rattle.scene_world.specs.World.{World, is_live}
-use Rattle.scene_world.specs.Commands.{new_cells, spawn, despawn, despawn_recursive, despawn_recursive_if_alive, insert, remove, set_parent, remove_parent, put_resource, remove_resource}
-use Rattle.scene_world.specs.CommandRaw.{Inserts}
-use Rattle.scene_world.specs.Perform.{Spawn, Despawn, DespawnRecursive, DespawnRecursiveIfAlive, Insert, Remove, SetParent, RemoveParent, PutResource, RemoveResource, answering}
-use Rattle.scene_world.specs.Raw.{cells_of}
-use Rattle.scene_world.specs.RawLists.{CutNote, CanCutNoted, cut_noted, MayAll, after_all}
-use Rattle.scene_world.specs.Valid.{IsValid}
-use Rattle.scene_world.proofs.ListBack.{recursive_cuts}
-use Rattle.scene_world.proofs.Outcomes.{not_ok, same_world}
-use Rattle.scene_world.proofs.PartCommands.{set_parent_sets_link, remove_parent_sets_link, put_sets_resource, remove_sets_resource}
-use Rattle.scene_world.proofs.RowCommands.{spawn_puts, despawn_cuts, insert_shifts_or_sets, remove_shifts}
-use Rattle.scene_world.proofs.RowOf.{has_cell}
+use Rattle.scene_model.specs.World.{World, is_live}
+use Rattle.scene_model.specs.Commands.{new_cells, spawn, despawn, despawn_recursive, despawn_recursive_if_alive, insert, remove, set_parent, remove_parent, put_resource, remove_resource}
+use Rattle.scene_model.specs.CommandRaw.{Inserts}
+use Rattle.scene_model.specs.Perform.{Spawn, Despawn, DespawnRecursive, DespawnRecursiveIfAlive, Insert, Remove, SetParent, RemoveParent, PutResource, RemoveResource, answering}
+use Rattle.scene_model.specs.Raw.{cells_of}
+use Rattle.scene_model.specs.RawLists.{CutNote, CanCutNoted, cut_noted, MayAll, after_all}
+use Rattle.scene_model.specs.Valid.{IsValid}
+use Rattle.scene_model.proofs.ListBack.{recursive_cuts}
+use Rattle.scene_model.proofs.Outcomes.{not_ok, same_world}
+use Rattle.scene_model.proofs.PartCommands.{set_parent_sets_link, remove_parent_sets_link, put_sets_resource, remove_sets_resource}
+use Rattle.scene_model.proofs.RowCommands.{spawn_puts, despawn_cuts, insert_shifts_or_sets, remove_shifts}
+use Rattle.scene_model.proofs.RowOf.{has_cell}
 use Rattle.scene_journal.specs.declared.delta.Delta.{Delta}
 use Rattle.scene_journal.specs.declared.delta.Delta.TheVariants.{Despawned, Shifted}
 use Rattle.scene_journal.specs.Deltas.{fwd, FitsOn}

@@ -7,11 +7,11 @@ use Rattle.scene_kinds.specs.declared.cells.Row.{Row}
 use Rattle.scene_kinds.specs.Cells.{cell_of}
 use Rattle.scene_alloc.specs.Slots.{take_of}
 use Rattle.scene_links.specs.Forest.{post}
-use Rattle.scene_world.specs.declared.home.Home.{Home}
-use Rattle.scene_world.specs.World.{World, is_live, row_of}
-use Rattle.scene_world.specs.Commands.{new_cells}
-use Rattle.scene_world.specs.Perform.{Spawn, Despawn, DespawnRecursive, DespawnRecursiveIfAlive, Insert, Remove, SetParent, RemoveParent, PutResource, RemoveResource}
-use Rattle.scene_world.specs.Raw.{taken_entity, cut_row}
+use Rattle.scene_table.specs.declared.home.Home.{Home}
+use Rattle.scene_model.specs.World.{World, is_live, row_of}
+use Rattle.scene_model.specs.Commands.{new_cells}
+use Rattle.scene_model.specs.Perform.{Spawn, Despawn, DespawnRecursive, DespawnRecursiveIfAlive, Insert, Remove, SetParent, RemoveParent, PutResource, RemoveResource}
+use Rattle.scene_model.specs.Raw.{taken_entity, cut_row}
 use Rattle.scene_journal.specs.declared.delta.Delta.{Delta}
 use Rattle.scene_journal.specs.Notes.{of_row, of_cell, spawned, despawned, despawned_each}
 use Rattle.scene_journal.specs.CommandLaws.{descendants, CommandsMakeFewDeltas}

@@ -1,16 +1,16 @@
 -- Deltas and their lists take each other back, and keep the tick.
 use Rattle.std.proofs.Common.{◌≡◌, List, [], ◌∷◌, refl, ◌∙◌, Option, Some, None}
 use Rattle.scene_kinds.specs.declared.cells.Row.{Row}
-use Rattle.scene_world.specs.declared.home.Home.{Home}
-use Rattle.scene_world.specs.World.{World, row_of}
-use Rattle.scene_world.specs.Raw.{by_row}
-use Rattle.scene_world.proofs.CellBack.{cells_come_back}
-use Rattle.scene_world.proofs.CutBack.{cut_rows_come_back}
-use Rattle.scene_world.proofs.LinkBack.{links_come_back}
-use Rattle.scene_world.proofs.ListBack.{lists_come_back}
-use Rattle.scene_world.proofs.PutBack.{rows_come_back}
-use Rattle.scene_world.proofs.ResourceBack.{resources_come_back}
-use Rattle.scene_world.proofs.ShiftBack.{shifted_rows_come_back}
+use Rattle.scene_table.specs.declared.home.Home.{Home}
+use Rattle.scene_model.specs.World.{World, row_of}
+use Rattle.scene_model.specs.Raw.{by_row}
+use Rattle.scene_model.proofs.CellBack.{cells_come_back}
+use Rattle.scene_model.proofs.CutBack.{cut_rows_come_back}
+use Rattle.scene_model.proofs.LinkBack.{links_come_back}
+use Rattle.scene_model.proofs.ListBack.{lists_come_back}
+use Rattle.scene_model.proofs.PutBack.{rows_come_back}
+use Rattle.scene_model.proofs.ResourceBack.{resources_come_back}
+use Rattle.scene_model.proofs.ShiftBack.{shifted_rows_come_back}
 use Rattle.scene_journal.specs.declared.delta.Delta.{Delta}
 use Rattle.scene_journal.specs.declared.delta.Delta.TheVariants.{Spawned, Despawned, Shifted, CellSet, Linked, ResourceSet}
 use Rattle.scene_journal.specs.Deltas.{fwd, back}

@@ -6,18 +6,18 @@ use Rattle.std.proofs.lemmas.List.Sums.{sum_by-append, sum_by-cons}
 use Rattle.scene_kinds.specs.declared.entity.Entity.{Entity}
 use Rattle.scene_kinds.specs.declared.refusal.Refusal.{Refusal}
 use Rattle.scene_kinds.specs.Answers.{Outcome}
-use Rattle.scene_world.specs.World.{World}
-use Rattle.scene_world.specs.Commands.{and_then, raise_tick}
-use Rattle.scene_world.specs.Frame.{all_or_refused, queue, queues_from}
-use Rattle.scene_world.specs.Laws.{AreInRange, QueuesAreInRange}
-use Rattle.scene_world.specs.Perform.{Command, perform, are_in_range}
-use Rattle.scene_world.specs.Queue.{Request, reached, play}
+use Rattle.scene_model.specs.World.{World}
+use Rattle.scene_model.specs.Commands.{and_then, raise_tick}
+use Rattle.scene_model.specs.Frame.{all_or_refused, queue, queues_from}
+use Rattle.scene_model.specs.Laws.{AreInRange, QueuesAreInRange}
+use Rattle.scene_model.specs.Perform.{Command, perform, are_in_range}
+use Rattle.scene_model.specs.Queue.{Request, reached, play}
 use Rattle.scene_world.specs.Stage.{Staged, noting, act}
-use Rattle.scene_world.specs.Valid.{IsValid}
-use Rattle.scene_world.proofs.CommandKeeps.{commands_keep}
-use Rattle.scene_world.proofs.MoveKeeps.{raise_keeps}
-use Rattle.scene_world.proofs.PartCommands.{raise_sets_tick}
-use Rattle.scene_world.proofs.Outcomes.{not_ok, same_world}
+use Rattle.scene_model.specs.Valid.{IsValid}
+use Rattle.scene_model.proofs.CommandKeeps.{commands_keep}
+use Rattle.scene_model.proofs.MoveKeeps.{raise_keeps}
+use Rattle.scene_model.proofs.PartCommands.{raise_sets_tick}
+use Rattle.scene_model.proofs.Outcomes.{not_ok, same_world}
 use Rattle.scene_journal.specs.declared.delta.Delta.{Delta}
 use Rattle.scene_journal.specs.Deltas.{fwd}
 use Rattle.scene_journal.specs.Records.{raised}

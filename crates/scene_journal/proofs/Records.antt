@@ -3,13 +3,13 @@ use Rattle.std.proofs.Common.{◌≡◌, ◌+◌, ◌<◌, false, refl, ap, subs
 use Rattle.std.proofs.lemmas.Bool.Decides.{nat_tests}
 use Rattle.scene_kinds.specs.declared.fault.Fault.TheVariants.{TickFull}
 use Rattle.scene_kinds.specs.Answers.{refuse}
-use Rattle.scene_world.specs.World.{World}
-use Rattle.scene_world.specs.Commands.{highest_tick, raise_tick}
-use Rattle.scene_world.specs.Raw.{set_tick}
-use Rattle.scene_world.specs.Can.{CanSetTick}
-use Rattle.scene_world.specs.Valid.{IsValid}
-use Rattle.scene_world.proofs.PartCommands.{raise_sets_tick}
-use Rattle.scene_world.proofs.ResourceBack.{ticks_come_back}
+use Rattle.scene_model.specs.World.{World}
+use Rattle.scene_model.specs.Commands.{highest_tick, raise_tick}
+use Rattle.scene_model.specs.Raw.{set_tick}
+use Rattle.scene_model.specs.Can.{CanSetTick}
+use Rattle.scene_model.specs.Valid.{IsValid}
+use Rattle.scene_model.proofs.PartCommands.{raise_sets_tick}
+use Rattle.scene_model.proofs.ResourceBack.{ticks_come_back}
 use Rattle.scene_journal.specs.Records.{Record, fwd_all, back_all, AllFitOn, raised, redone, undone, RecordFitsOn, RecordFitsBack}
 use Rattle.scene_journal.specs.Laws.{RecordsComeBack}
 use Rattle.scene_journal.proofs.Deltas.{delta_lists_come_back, fwd_all_keeps_tick, back_all_keeps_tick}

@@ -3,9 +3,9 @@ use Rattle.std.specs.Prelude.{◌≡◌, ℕ, ◌+◌, ◌≤◌, List, [], ◌�
 use Rattle.std.specs.List.{flat_map}
 use Rattle.scene_kinds.specs.declared.entity.Entity.{Entity}
 use Rattle.scene_links.specs.Forest.{Forest, children_of, post_in}
-use Rattle.scene_world.specs.World.{World, is_live}
-use Rattle.scene_world.specs.Valid.{IsValid}
-use Rattle.scene_world.specs.Perform.{Command, DespawnRecursive, DespawnRecursiveIfAlive, perform, are_in_range}
+use Rattle.scene_model.specs.World.{World, is_live}
+use Rattle.scene_model.specs.Valid.{IsValid}
+use Rattle.scene_model.specs.Perform.{Command, DespawnRecursive, DespawnRecursiveIfAlive, perform, are_in_range}
 use Rattle.scene_world.specs.Stage.{Note}
 use Rattle.scene_journal.specs.declared.delta.Delta.{Delta}
 use Rattle.scene_journal.specs.Records.{fwd_all, AllFitOn}

@@ -1,7 +1,7 @@
 -- What each delta does to a world, and what taking it back does; and on which worlds it fits.
-use Rattle.scene_world.specs.World.{World}
-use Rattle.scene_world.specs.Raw.{put_row, drop_last, cut_row, uncut_row, shift_row, unshift_row, set_cell, set_link, set_resource}
-use Rattle.scene_world.specs.Can.{CanPut, CanDrop, CanCut, CanUncut, CanShift, CanUnshift, CanSetCell, CanSetLink, CanSetResource}
+use Rattle.scene_model.specs.World.{World}
+use Rattle.scene_model.specs.Raw.{put_row, drop_last, cut_row, uncut_row, shift_row, unshift_row, set_cell, set_link, set_resource}
+use Rattle.scene_model.specs.Can.{CanPut, CanDrop, CanCut, CanUncut, CanShift, CanUnshift, CanSetCell, CanSetLink, CanSetResource}
 use Rattle.scene_journal.specs.declared.delta.Delta.{Delta}
 use Rattle.scene_journal.specs.declared.delta.Delta.TheVariants.{Spawned, Despawned, Shifted, CellSet, Linked, ResourceSet}
 

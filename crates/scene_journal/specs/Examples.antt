@@ -3,10 +3,10 @@ use Rattle.std.specs.Prelude.{◌≡◌, ℕ, List, [], ◌∷◌, true, false, 
 use Rattle.scene_kinds.specs.declared.entity.Entity.{Entity}
 use Rattle.scene_kinds.specs.declared.cell.Cell.{Cell}
 use Rattle.scene_kinds.specs.declared.value.Value.TheVariants as value
-use Rattle.scene_world.specs.World.{World, new_world}
-use Rattle.scene_world.specs.Perform.{DespawnRecursive, SetParent}
-use Rattle.scene_world.specs.Queue.{Request, known}
-use Rattle.scene_world.specs.ExampleWords.{ent, cell, int, schema, spawn_int, spawn_tag, local, world, int_row}
+use Rattle.scene_model.specs.World.{World, new_world}
+use Rattle.scene_model.specs.Perform.{DespawnRecursive, SetParent}
+use Rattle.scene_model.specs.Queue.{Request, known}
+use Rattle.scene_model.specs.ExampleWords.{ent, cell, int, schema, spawn_int, spawn_tag, local, world, int_row}
 use Rattle.scene_journal.specs.declared.delta.Delta.{Delta}
 use Rattle.scene_journal.specs.declared.delta.Delta.TheVariants.{Spawned, Despawned, Linked}
 use Rattle.scene_journal.specs.Deltas.{FitsOn, FitsBack}

@@ -1,12 +1,12 @@
 -- The record of a frame: what its commands note, one after another.
 use Rattle.std.specs.Prelude.{◌≡◌, ℕ, ◌+◌, ◌≤◌, List, [], ◌∷◌, length, sum, sum_by, Ok}
 use Rattle.scene_kinds.specs.declared.entity.Entity.{Entity}
-use Rattle.scene_world.specs.World.{World}
-use Rattle.scene_world.specs.Frame.{frame}
-use Rattle.scene_world.specs.Laws.{QueuesAreInRange}
-use Rattle.scene_world.specs.Queue.{Request, play}
+use Rattle.scene_model.specs.World.{World}
+use Rattle.scene_model.specs.Frame.{frame}
+use Rattle.scene_model.specs.Laws.{QueuesAreInRange}
+use Rattle.scene_model.specs.Queue.{Request, play}
 use Rattle.scene_world.specs.Stage.{Staged, Note, act}
-use Rattle.scene_world.specs.Valid.{IsValid}
+use Rattle.scene_model.specs.Valid.{IsValid}
 use Rattle.scene_journal.specs.Records.{Record, record_of, raised, redone, RecordFitsOn}
 use Rattle.scene_journal.specs.Notes.{deltas_of}
 use Rattle.scene_journal.specs.CommandLaws.{along}

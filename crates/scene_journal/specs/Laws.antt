@@ -1,7 +1,7 @@
 -- Laws of deltas and of records: where one fits on a valid world, the world after it is valid, it fits back there, and taking it back
 -- gives the very world from before; and the other way round.
-use Rattle.scene_world.specs.RawLaws.{TakeEachOtherBack}
-use Rattle.scene_world.specs.RawLists.{ListsComeBack}
+use Rattle.scene_model.specs.RawLaws.{TakeEachOtherBack}
+use Rattle.scene_model.specs.RawLists.{ListsComeBack}
 use Rattle.scene_journal.specs.declared.delta.Delta.{Delta}
 use Rattle.scene_journal.specs.Deltas.{fwd, back, FitsOn, FitsBack}
 use Rattle.scene_journal.specs.Records.{Record, redone, undone, RecordFitsOn, RecordFitsBack}

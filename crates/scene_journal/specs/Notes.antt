@@ -8,12 +8,12 @@ use Rattle.scene_kinds.specs.Cells.{new_cell, put_over, cell_of}
 use Rattle.scene_alloc.specs.Slots.{takes_new_slot, retires, take_of}
 use Rattle.scene_links.specs.Forest.{link_in, post}
 use Rattle.scene_resources.specs.Resources.{cell_of as resource_of}
-use Rattle.scene_world.specs.declared.home.Home.{Home}
-use Rattle.scene_world.specs.World.{World, is_live, row_of}
-use Rattle.scene_world.specs.Commands.{new_cells}
-use Rattle.scene_world.specs.CommandRaw.{last_link}
-use Rattle.scene_world.specs.Perform.{Spawn, Despawn, DespawnRecursive, DespawnRecursiveIfAlive, Insert, Remove, SetParent, RemoveParent, PutResource, RemoveResource}
-use Rattle.scene_world.specs.Raw.{taken_entity, cut_row}
+use Rattle.scene_table.specs.declared.home.Home.{Home}
+use Rattle.scene_model.specs.World.{World, is_live, row_of}
+use Rattle.scene_model.specs.Commands.{new_cells}
+use Rattle.scene_model.specs.CommandRaw.{last_link}
+use Rattle.scene_model.specs.Perform.{Spawn, Despawn, DespawnRecursive, DespawnRecursiveIfAlive, Insert, Remove, SetParent, RemoveParent, PutResource, RemoveResource}
+use Rattle.scene_model.specs.Raw.{taken_entity, cut_row}
 use Rattle.scene_world.specs.Stage.{Note}
 use Rattle.scene_journal.specs.declared.delta.Delta.{Delta}
 use Rattle.scene_journal.specs.declared.delta.Delta.TheVariants.{Spawned, Despawned, Shifted, CellSet, Linked, ResourceSet}

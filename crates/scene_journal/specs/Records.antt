@@ -1,10 +1,10 @@
 -- Records of frames: what redoing and undoing one does to a world, and on which worlds it fits.
 use Rattle.std.specs.Prelude.{◌≡◌, ℕ, ◌+◌, ◌<◌, List}
-use Rattle.scene_world.specs.World.{World}
-use Rattle.scene_world.specs.Commands.{highest_tick}
-use Rattle.scene_world.specs.Raw.{set_tick}
-use Rattle.scene_world.specs.Can.{CanSetTick}
-use Rattle.scene_world.specs.RawLists.{MayAll, MayUndoAll, after_all, before_all}
+use Rattle.scene_model.specs.World.{World}
+use Rattle.scene_model.specs.Commands.{highest_tick}
+use Rattle.scene_model.specs.Raw.{set_tick}
+use Rattle.scene_model.specs.Can.{CanSetTick}
+use Rattle.scene_model.specs.RawLists.{MayAll, MayUndoAll, after_all, before_all}
 use Rattle.scene_journal.specs.declared.delta.Delta.{Delta}
 use Rattle.scene_journal.specs.Deltas.{fwd, back, FitsOn, FitsBack}
 
