@@ -1,59 +1,44 @@
-//! What no clause says: that a call which allocates finds memory; and cells, ticks and orders of names that were
-//! worked out by hand.
-use scene_kinds::{Cell, Fault, Refusal, Value};
+//! What no clause says and no script reaches: that the calls which keep a name, forget it or give an old cell back find
+//! memory where they need it, and do what was worked out by hand.
+use scene_kinds::{Cell, Value};
 use scene_resources::Resources;
 use std::test::Fail;
 
-/// The number of a cell, with its ticks.
-fn seen(cell: Option<&Cell>) -> Option<(i64, u64, u64)> {
-    let cell = cell?;
-    match cell.value {
-        Value::Int(number) => Some((number, cell.added, cell.changed)),
-        _ => None,
+/// Whether a cell has this number and these ticks.
+fn is_number(cell: Option<&Cell>, number: i64, added: u64, changed: u64) -> bool {
+    let Some(cell) = cell else { return false };
+    matches!(cell.value, Value::Int(found) if found == number)
+        && cell.added == added
+        && cell.changed == changed
+}
+
+/// Puts a number at a name; whether there was memory, and no cell before.
+fn put_new(resources: &mut Resources, name: &str, number: i64, tick: u64) -> bool {
+    matches!(resources.put(name, Value::Int(number), tick), Ok(None))
+}
+
+/// Puts an 8 over `left` at tick 2, and gives the old cell back; whether there was memory, and the 8 between.
+fn put_and_give_back(resources: &mut Resources) -> bool {
+    match resources.put("left", Value::Int(8), 2) {
+        Ok(old) => {
+            is_number(resources.get("left"), 8, 1, 2) && resources.restore("left", old).is_ok()
+        }
+        Err(_) => false,
     }
 }
 
-#[test]
-fn a_put_keeps_the_tick_of_the_first(rt: HostRuntime) -> Result<(), Fail> {
-    let mut resources = Resources::new(rt.alloc());
-    assert!(rt; resources.put("left", Value::Int(7), 1)?.is_none());
-    assert_eq!(rt; seen(resources.get("left")), Some((7, 1, 1)));
-    let old = resources.put("left", Value::Int(8), 2)?;
-    assert_eq!(rt; seen(old.as_ref()), Some((7, 1, 1)));
-    assert_eq!(rt; seen(resources.get("left")), Some((8, 1, 2)));
-    assert!(rt; resources.put("left", Value::Tag, 3)?.is_some());
-    let tag = resources.get("left").ok_or("there")?;
-    assert!(rt; matches!(tag.value, Value::Tag));
-    assert_eq!(rt; (tag.added, tag.changed), (1, 3));
-    Ok(())
-}
-
-#[test]
-fn a_cell_is_taken_once(rt: HostRuntime) -> Result<(), Fail> {
-    let mut resources = Resources::new(rt.alloc());
-    resources.put("left", Value::Int(7), 1)?;
-    let taken = resources.take("left")?;
-    assert_eq!(rt; seen(Some(&taken)), Some((7, 1, 1)));
-    assert!(rt; resources.names()?.is_empty());
-    let refused = Refusal {
-        fault: Fault::NoSuchResource,
-        place: None,
-    };
-    assert_eq!(rt; resources.take("left").err(), Some(refused));
-    Ok(())
+/// Drops the cell of a name; whether there was one.
+fn drop_cell(resources: &mut Resources, name: &str) -> bool {
+    resources.take(name).is_ok()
 }
 
 #[test]
 fn cells_come_back(rt: HostRuntime) -> Result<(), Fail> {
     let mut resources = Resources::new(rt.alloc());
-    let none = resources.put("left", Value::Int(7), 1)?;
-    let old = resources.put("left", Value::Int(8), 2)?;
-    resources.restore("left", old)?;
-    assert_eq!(rt; seen(resources.get("left")), Some((7, 1, 1)));
-    let taken = resources.take("left")?;
-    resources.restore("left", Some(taken))?;
-    assert_eq!(rt; seen(resources.get("left")), Some((7, 1, 1)));
-    resources.restore("left", none)?;
+    assert!(rt; put_new(&mut resources, "left", 7, 1));
+    assert!(rt; put_and_give_back(&mut resources));
+    assert!(rt; is_number(resources.get("left"), 7, 1, 1));
+    assert!(rt; resources.restore("left", None).is_ok());
     assert!(rt; resources.get("left").is_none());
     Ok(())
 }
@@ -63,57 +48,26 @@ fn a_kept_name_takes_a_cell_without_memory(rt: HostRuntime) -> Result<(), Fail> 
     let mut resources = Resources::new(rt.alloc());
     resources.reserve("left")?;
     assert!(rt; resources.get("left").is_none());
-    assert!(rt; resources.names()?.is_empty());
     assert!(rt; resources.put_reserved("left", Value::Int(7), 1).is_none());
     let taken = resources.take("left")?;
     assert!(rt; resources.restore_reserved("left", Some(taken)).is_none());
-    assert_eq!(rt; seen(resources.get("left")), Some((7, 1, 1)));
+    assert!(rt; is_number(resources.get("left"), 7, 1, 1));
     Ok(())
 }
 
 #[test]
 fn what_forgets_names_leaves_the_cells(rt: HostRuntime) -> Result<(), Fail> {
     let mut resources = Resources::new(rt.alloc());
-    resources.put("left", Value::Int(7), 1)?;
-    resources.put("gold", Value::Int(3), 2)?;
-    let _taken = resources.take("gold")?;
+    assert!(rt; put_new(&mut resources, "left", 7, 1));
+    assert!(rt; put_new(&mut resources, "gold", 3, 2));
+    assert!(rt; drop_cell(&mut resources, "gold"));
     resources.trim();
-    assert_eq!(rt; seen(resources.get("left")), Some((7, 1, 1)));
-    let names = resources.names()?;
-    assert_eq!(rt; names.len(), 1);
-    resources.put("gold", Value::Int(4), 3)?;
-    assert_eq!(rt; seen(resources.get("gold")), Some((4, 3, 3)));
+    assert!(rt; is_number(resources.get("left"), 7, 1, 1));
+    assert!(rt; put_new(&mut resources, "gold", 4, 3));
     resources.forget("gold");
-    let _taken = resources.take("gold")?;
+    assert!(rt; is_number(resources.get("gold"), 4, 3, 3));
+    assert!(rt; drop_cell(&mut resources, "gold"));
     resources.forget("gold");
     assert!(rt; resources.get("gold").is_none());
-    Ok(())
-}
-
-#[test]
-fn names_ascend_by_their_bytes(rt: HostRuntime) -> Result<(), Fail> {
-    let mut resources = Resources::new(rt.alloc());
-    for name in ["b", "ab", "a", "Z", "b"] {
-        resources.put(name, Value::Tag, 1)?;
-    }
-    let names = resources.names()?;
-    let ascending = ["Z", "a", "ab", "b"];
-    assert_eq!(rt; names.len(), ascending.len());
-    for (name, wanted) in names.iter().zip(ascending) {
-        assert_eq!(rt; name.as_str(), wanted);
-    }
-    Ok(())
-}
-
-#[test]
-fn a_copy_stays(rt: HostRuntime) -> Result<(), Fail> {
-    let mut resources = Resources::new(rt.alloc());
-    resources.put("left", Value::Int(7), 1)?;
-    let copy = resources.try_clone()?;
-    resources.put("left", Value::Int(8), 2)?;
-    resources.put("gold", Value::Int(3), 2)?;
-    assert_eq!(rt; seen(copy.get("left")), Some((7, 1, 1)));
-    assert!(rt; copy.get("gold").is_none());
-    assert_eq!(rt; seen(resources.get("gold")), Some((3, 2, 2)));
     Ok(())
 }
