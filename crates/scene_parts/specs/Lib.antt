@@ -1,3 +1,4 @@
 pub mod Parts
 pub mod Rules
+pub mod Laws
 pub mod Examples

@@ -1,5 +1,5 @@
 -- The parts of which a world is built, as lists, and the world that they make.
-use Rattle.std.specs.Prelude.{◌≡◌, ◌≢◌, ℕ, ◌≤◌, List, [], ◌∷◌, true, All, map as each}
+use Rattle.std.specs.Prelude.{◌≡◌, ℕ, ◌≤◌, Bool, true, false, List, [], ◌∷◌, All, map as each}
 use Rattle.std.specs.List.{IsDistinct, list_all}
 use Rattle.std.specs.declared.cmp.Ordering.{Ordering}
 use Rattle.std.specs.Ordering.{nat_cmp, eq_by_cmp}
@@ -33,6 +33,15 @@ abbrev pub slots_in : Parts → SlotState
 slots_in p = slots_of p.limit p.generations p.free
 
 -- ---- the world of parts
+
+-- the keys of a list
+abbrev pub keys : {K X : Type 0} → List (K × X) → List K
+keys es = each (λ e. e.0) es
+
+-- a list has an element
+abbrev pub has_some : {X : Type 0} → List X → Bool
+has_some [] = false
+has_some (x ∷ xs) = true
 
 module _ {K X : Type 0} {R : K → K → Ordering} where
   -- a list of keys with their lists as a map: the first of a key that stands twice counts
@@ -81,8 +90,8 @@ parts_of w = record {
 
 -- a list has each key of a map once, with its list, and no other
 pub record IsListing {K X : Type 0} {R : K → K → Ordering} (o : IsTotalOrder R) (es : List (K × List X)) (m : map.Map R (X × List X)) : Type 0 where
-  pub once : IsDistinct (eq_by_cmp R) (each (λ e. e.0) es)
-  pub some : All (λ e. e.1 ≢ []) es
+  pub once : IsDistinct (eq_by_cmp R) (keys es)
+  pub some : list_all (λ e. has_some e.1) es ≡ true
   pub same : map_of o es ≡ m
 
 -- parts are those of a world: each table, each list of children and each resource stands once
@@ -92,7 +101,7 @@ pub record ArePartsOf (p : Parts) (w : World) : Type 0 where
   pub tick : p.tick ≡ w.tick
   pub tables : IsListing nat_cmp_total p.tables w.tables
   pub children : IsListing entity_cmp_total p.children w.children
-  pub names : IsDistinct (eq_by_cmp name_cmp) (each (λ r. r.0) p.resources)
+  pub names : IsDistinct (eq_by_cmp name_cmp) (keys p.resources)
   pub resources : resources_of p.resources ≡ w.resources
 
 -- ---- what the types of the program hold

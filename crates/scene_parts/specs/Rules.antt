@@ -1,9 +1,8 @@
 -- The ten rules of a valid world (docs/MODEL.md, "A valid world"), as tests of parts, and the first one that parts break.
 use Rattle.std.specs.Prelude.{ℕ, suc, zero, List, [], ◌∷◌, Bool, true, false, not, ◌&&◌, ◌||◌, Option, Some, None, is_some, nat_eq, nat_lt, nat_le, length, slice_get, slice_index, map as each, if◌then◌else◌}
 use Rattle.std.specs.List.{list_all, list_any, flat_map, range_with_len}
-use Rattle.std.specs.Ordering.{nat_cmp}
+use Rattle.std.specs.Ordering.{nat_cmp, eq_by_cmp}
 use Rattle.std.specs.FinMap.Entries.{is_sorted}
-use Rattle.std.specs.Str.{bytes_eq}
 use Rattle.scene_kinds.specs.declared.entity.Entity.{Entity}
 use Rattle.scene_kinds.specs.declared.cells.Row.{Row}
 use Rattle.scene_kinds.specs.Cells.{mask_of}
@@ -11,18 +10,14 @@ use Rattle.scene_kinds.specs.Entity.{is_same}
 use Rattle.scene_kinds.specs.Schema.{Kinds, fits_kind, is_good_name}
 use Rattle.scene_alloc.specs.Slots.{is_free, most_slots}
 use Rattle.scene_links.specs.Forest.{Forest, parent_of, parents}
+use Rattle.scene_resources.specs.Resources.{name_cmp}
 use Rattle.scene_world.specs.Valid.{is_retired, is_timely}
-use Rattle.scene_parts.specs.Parts.{Parts, slots_in, forest_of}
+use Rattle.scene_parts.specs.Parts.{Parts, keys, has_some, slots_in, forest_of}
 
 -- no element of a list is told the same as one after it
 abbrev pub are_distinct : {X : Type 0} → (X → X → Bool) → List X → Bool
 are_distinct same [] = true
 are_distinct same (x ∷ xs) = list_all (λ y. not (same x y)) xs && are_distinct same xs
-
--- a list has an element
-abbrev pub has_some : {X : Type 0} → List X → Bool
-has_some [] = false
-has_some (x ∷ xs) = true
 
 -- the lists of keys, one after another
 abbrev pub flat : {K X : Type 0} → List (K × List X) → List X
@@ -85,7 +80,7 @@ is_row_of schema mask r =
 -- 7. Kind sets are distinct, each table has a row, and each row has just its table's kinds, all in the schema.
 abbrev pub tables_are_sound : Parts → Bool
 tables_are_sound p =
-    are_distinct nat_eq (each (λ t. t.0) p.tables)
+    are_distinct (eq_by_cmp nat_cmp) (keys p.tables)
     && list_all (λ t. has_some t.1 && list_all (is_row_of p.schema t.0) t.1) p.tables
 
 -- the walk up from an entity ends within so many steps
@@ -109,12 +104,12 @@ walks_end f = list_all (ends_in (length f.entries) f) (parents f)
 -- entity is its own ancestor.
 abbrev pub links_are_sound : Parts → Bool
 links_are_sound p =
-    list_all (is_list_of (rows_in p)) p.children && are_distinct is_same (each (λ l. l.0) p.children)
+    list_all (is_list_of (rows_in p)) p.children && are_distinct is_same (keys p.children)
     && are_distinct is_same (flat p.children) && walks_end (forest_of p.children)
 
 -- 9. Resource names are good and distinct.
 abbrev pub names_are_sound : Parts → Bool
-names_are_sound p = list_all (λ r. is_good_name r.0) p.resources && are_distinct bytes_eq (each (λ r. r.0) p.resources)
+names_are_sound p = list_all (λ r. is_good_name r.0) p.resources && are_distinct (eq_by_cmp name_cmp) (keys p.resources)
 
 -- 10. Each cell of a row or a resource was added no later than changed, and changed no later than now.
 abbrev pub ticks_are_sound : Parts → Bool

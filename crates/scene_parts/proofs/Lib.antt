@@ -1,0 +1,3 @@
+pub mod Tests
+pub mod Listed
+pub mod Once
