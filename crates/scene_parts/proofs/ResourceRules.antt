@@ -18,7 +18,7 @@ abbrev pub Named : Type 0
 Named = List (List ℕ × Cell)
 
 -- the map of resources has what is found first
-get-resources_of : (rs : Named) (q : List ℕ) → map.get (resources_of rs) q ≡ find name_cmp q rs
+pub get-resources_of : (rs : Named) (q : List ℕ) → map.get (resources_of rs) q ≡ find name_cmp q rs
 get-resources_of [] q = refl
 get-resources_of (r ∷ rs) q = get-insert name_cmp_total (resources_of rs) r.0 r.1 q ∙ ap (cond (eq_by_cmp name_cmp q r.0) (Some r.1)) (get-resources_of rs q)
 
