@@ -6,4 +6,4 @@ pub mod SlotRules
 pub mod LinkRules
 pub mod ResourceRules
 pub mod WorldRules
-pub mod WorldParts
+pub mod OwnParts

@@ -1,5 +1,5 @@
 -- Lists of keys with lists, and the maps that they make: what is found under a key, facts of each element, and elements that differ.
-use Rattle.std.proofs.Common.{◌≡◌, ℕ, zero, suc, Bool, true, false, cond, T, List, [], ◌∷◌, ◌++◌, length, refl, ap, sym, subst, ◌∙◌, Some, None, map}
+use Rattle.std.proofs.Common.{◌≡◌, ℕ, Bool, true, false, cond, List, [], ◌∷◌, refl, ap, sym, subst, ◌∙◌, Some, None}
 use Rattle.std.specs.Prelude.{slice_get, ◌||◌, ◌&&◌}
 use Rattle.std.specs.declared.cmp.Ordering.{Ordering}
 use Rattle.std.specs.Ordering.{eq_by_cmp}
@@ -14,7 +14,7 @@ use Rattle.scene_kinds.proofs.Maps.{equal_keys, ties_itself}
 use Rattle.scene_kinds.proofs.Lists.{list_at-with_list}
 use Rattle.scene_parts.specs.Parts.{keys, map_of}
 use Rattle.scene_parts.specs.Rules.{flat}
-use Rattle.scene_parts.proofs.Tests.{and_is, all_is, all_of, all_append, all_before, all_behind, at_place, from_places, any_is, any_of}
+use Rattle.scene_parts.proofs.Tests.{and_is, all_is, all_of, at_place, from_places, any_is, any_of}
 
 module _ {K X : Type 0} (R : K → K → Ordering) where
   -- the list of the first key that ties

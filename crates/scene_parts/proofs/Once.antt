@@ -1,17 +1,17 @@
 -- Elements that differ over all lists: no two places, of whatever keys, have the same one.
-use Rattle.std.proofs.Common.{◌≡◌, ℕ, zero, suc, Bool, true, false, cond, List, [], ◌∷◌, ◌++◌, length, refl, ap, sym, subst, ◌∙◌, Some, None, map, arith}
-use Rattle.std.specs.Prelude.{slice_get, ◌||◌}
+use Rattle.std.proofs.Common.{◌≡◌, ℕ, zero, suc, true, false, cond, List, [], ◌∷◌, ◌++◌, refl, ap, sym, subst, ◌∙◌, Some, None, map, arith}
+use Rattle.std.specs.Prelude.{slice_get}
 use Rattle.std.specs.declared.cmp.Ordering.{Ordering}
 use Rattle.std.specs.Ordering.{eq_by_cmp}
 use Rattle.std.specs.Cmp.{IsTotalOrder}
 use Rattle.std.specs.FinMap.{IsAntisymmetric}
-use Rattle.std.specs.List.{list_any, AllByRecursion, IsDistinct}
+use Rattle.std.specs.List.{AllByRecursion, IsDistinct}
 use Rattle.std.proofs.lemmas.Bool.{false_from_ne_true}
 use Rattle.scene_kinds.proofs.Maps.{equal_keys, ties_itself}
 use Rattle.scene_parts.specs.Parts.{keys}
 use Rattle.scene_parts.specs.Rules.{flat}
-use Rattle.scene_parts.proofs.Tests.{all_append, all_before, all_behind, at_place, from_places, all_with}
-use Rattle.scene_parts.proofs.Listed.{listed_in, listed_nowhere, listed_first, listed_rest}
+use Rattle.scene_parts.proofs.Tests.{all_append, all_before, all_behind, at_place, from_places}
+use Rattle.scene_parts.proofs.Listed.{listed_in, listed_first, listed_rest}
 
 -- what the elements of a list are told by, at a place
 pub mapped_at : {X Y : Type 0} (f : X → Y) (xs : List X) (p : ℕ) (x : X) → slice_get xs p ≡ Some x → slice_get (map f xs) p ≡ Some (f x)
@@ -159,16 +159,16 @@ module _ {K X Y : Type 0} {R : K → K → Ordering} {S : Y → Y → Ordering} 
   listed_once [] d h = tt
   listed_once (e ∷ es) d h = subst (IsDistinct (eq_by_cmp S)) (sym (map-append_of f e.1 (flat es))) (distinct_append u same (map f e.1) (map f (flat es))
       (places_differ u same (map f e.1) (λ p q z a b.
-          let r = from_mapped f e.1 p z a in
-          let s = from_mapped f e.1 q z b in
-          (h e.0 e.0 p q r.0 s.0 (record { one = first p r.0 r.1.0; other = first q s.0 s.1.0 }) (r.1.1 ∙ sym s.1.1)).1))
+      let r = from_mapped f e.1 p z a in
+      let s = from_mapped f e.1 q z b in
+      (h e.0 e.0 p q r.0 s.0 (record { one = first p r.0 r.1.0; other = first q s.0 s.1.0 }) (r.1.1 ∙ sym s.1.1)).1))
       (listed_once es d.1 (λ k j p q x y at s. h k j p q x y (record { one = (listed_rest o exact e es k p x d at.one).1; other = (listed_rest o exact e es j q y d at.other).1 }) s))
       (λ p q z a b.
-          let r = from_mapped f e.1 p z a in
-          let s = flat_found es q z d.1 b in
-          let g = listed_rest o exact e es s.0 s.1.0 s.1.1.0 d s.1.1.1.0 in
-          let m = (h e.0 s.0 p s.1.0 r.0 s.1.1.0 (record { one = first p r.0 r.1.0; other = g.1 }) (r.1.1 ∙ sym s.1.1.1.1)).0 in
-          let t : true ≡ false = sym (ties_itself o e.0) ∙ ap (λ j. eq_by_cmp R j e.0) m ∙ g.0 in absurd (cc)))
+      let r = from_mapped f e.1 p z a in
+      let s = flat_found es q z d.1 b in
+      let g = listed_rest o exact e es s.0 s.1.0 s.1.1.0 d s.1.1.1.0 in
+      let m = (h e.0 s.0 p s.1.0 r.0 s.1.1.0 (record { one = first p r.0 r.1.0; other = g.1 }) (r.1.1 ∙ sym s.1.1.1.1)).0 in
+      let t : true ≡ false = sym (ties_itself o e.0) ∙ ap (λ j. eq_by_cmp R j e.0) m ∙ g.0 in absurd (cc)))
     where
       first : (i : ℕ) (x : X) → slice_get e.1 i ≡ Some x → slice_get (listed_in R (e ∷ es) e.0) i ≡ Some x
       first i x g = ap (λ xs. slice_get xs i) (listed_first o exact e es) ∙ g

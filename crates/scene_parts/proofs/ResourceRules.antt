@@ -1,6 +1,5 @@
 -- The resources of parts: facts of each.
-use Rattle.std.proofs.Common.{◌≡◌, ℕ, Bool, true, false, cond, List, [], ◌∷◌, refl, ap, sym, subst, ◌∙◌, Some, None}
-use Rattle.std.specs.Prelude.{◌&&◌}
+use Rattle.std.proofs.Common.{◌≡◌, ℕ, true, false, cond, List, [], ◌∷◌, refl, ap, sym, subst, ◌∙◌, Some, None}
 use Rattle.std.specs.Ordering.{eq_by_cmp}
 use Rattle.std.specs.FinMap.Entries.{find}
 use Rattle.std.specs.List.{list_all, AllByRecursion, IsDistinct}

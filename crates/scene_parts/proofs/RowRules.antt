@@ -9,12 +9,12 @@ use Rattle.std.specs.List.{list_all, AllByRecursion, IsDistinct}
 use Rattle.std.proofs.lemmas.Bool.{eqb-true, eq-eqb}
 use Rattle.scene_kinds.specs.declared.entity.Entity.{Entity}
 use Rattle.scene_kinds.specs.declared.cells.Row.{Row}
-use Rattle.scene_kinds.specs.Cells.{HasKinds, mask_of}
-use Rattle.scene_kinds.specs.Entity.{entity_cmp, entity_cmp_total, entity_cmp_exact, is_same}
+use Rattle.scene_kinds.specs.Cells.{mask_of}
+use Rattle.scene_kinds.specs.Entity.{entity_cmp_total, entity_cmp_exact, is_same}
 use Rattle.scene_kinds.specs.Schema.{Kinds, fits_kind}
 use Rattle.scene_links.proofs.Held.{same_is, same_self}
 use Rattle.scene_world.specs.declared.home.Home.{Home}
-use Rattle.scene_world.specs.World.{Tables, row_at, lives}
+use Rattle.scene_world.specs.World.{row_at, lives}
 use Rattle.scene_world.specs.Valid.{EachRow, StandsOnce, IsRowOf}
 use Rattle.scene_world.proofs.Homes.{here_live, live_here}
 use Rattle.scene_world.proofs.Rows.{same_home}
@@ -22,7 +22,7 @@ use Rattle.scene_parts.specs.Parts.{keys, has_some, tables_of}
 use Rattle.scene_parts.specs.Rules.{flat, has_row, has_generation, is_row_of}
 use Rattle.scene_parts.proofs.Tests.{and_is, and_of, same_tests, all_is, all_of, all_with}
 use Rattle.scene_parts.proofs.Listed.{EachIn, listed_in, list_at-map_of, each_listed, listed_each, any_listed, listed_any, flat_is, flat_of}
-use Rattle.scene_parts.proofs.Once.{ArePlaces, once_listed, listed_once}
+use Rattle.scene_parts.proofs.Once.{once_listed, listed_once}
 
 abbrev pub Listed : Type 0
 Listed = List (ℕ × List Row)
@@ -52,17 +52,17 @@ row_test t ts d each = flat_of t ts (row_each (λ m r. t r ≡ true) ts d each)
 pub has_row_lives : (ts : Listed) → AreApart ts → (e : Entity) → has_row (flat ts) e ≡ lives (tables_of ts) e
 has_row_lives ts d e = same_tests _ _
     (λ h.
-        let r = any_listed nat_cmp_total nat_cmp-IsAntisymmetric (λ (r : Row). is_same e r.entity) ts d h in
-        live_here (tables_of ts) e (record { mask = r.0; place = r.1.0 }) r.1.1.0 (at_rows ts (record { mask = r.0; place = r.1.0 }) ∙ r.1.1.1.0) (sym (same_is e r.1.1.0.entity r.1.1.1.1)))
+    let r = any_listed nat_cmp_total nat_cmp-IsAntisymmetric (λ (r : Row). is_same e r.entity) ts d h in
+    live_here (tables_of ts) e (record { mask = r.0; place = r.1.0 }) r.1.1.0 (at_rows ts (record { mask = r.0; place = r.1.0 }) ∙ r.1.1.1.0) (sym (same_is e r.1.1.0.entity r.1.1.1.1)))
     (λ l.
-        let g = here_live (tables_of ts) e l in
-        listed_any nat_cmp_total nat_cmp-IsAntisymmetric (λ (r : Row). is_same e r.entity) ts g.0.mask g.0.place g.1.row (sym (at_rows ts g.0) ∙ g.1.there) (ap (is_same e) g.1.same ∙ same_self e))
+    let g = here_live (tables_of ts) e l in
+    listed_any nat_cmp_total nat_cmp-IsAntisymmetric (λ (r : Row). is_same e r.entity) ts g.0.mask g.0.place g.1.row (sym (at_rows ts g.0) ∙ g.1.there) (ap (is_same e) g.1.same ∙ same_self e))
 
 -- entities that differ over all rows stand once, and the other way round
 pub stands_once : (ts : Listed) → IsDistinct is_same (map (λ (r : Row). r.entity) (flat ts)) → StandsOnce (tables_of ts)
 stands_once ts d a b r s p q e =
     let k = once_listed nat_cmp_total nat_cmp-IsAntisymmetric entity_cmp_total entity_cmp_exact (λ (r : Row). r.entity) ts d a.mask b.mask a.place b.place r s
-        (record { one = sym (at_rows ts a) ∙ p; other = sym (at_rows ts b) ∙ q }) e in same_home a b k.0 k.1
+    (record { one = sym (at_rows ts a) ∙ p; other = sym (at_rows ts b) ∙ q }) e in same_home a b k.0 k.1
 
 pub once_stands : (ts : Listed) → AreApart ts → StandsOnce (tables_of ts) → IsDistinct is_same (map (λ (r : Row). r.entity) (flat ts))
 once_stands ts d once = listed_once nat_cmp_total nat_cmp-IsAntisymmetric entity_cmp_total entity_cmp_exact (λ (r : Row). r.entity) ts d (λ k j p q x y at e.

@@ -1,10 +1,10 @@
 -- The slots of parts: their limit, generations and free list.
-use Rattle.std.proofs.Common.{◌≡◌, ℕ, ◌<◌, ◌≤◌, Bool, true, false, List, length, get_or, refl, ap, sym, subst, ◌∙◌}
-use Rattle.std.specs.Prelude.{◌&&◌, All, nat_eq, nat_le, nat_lt, not}
-use Rattle.std.specs.List.{list_all, IsDistinct}
+use Rattle.std.proofs.Common.{◌≡◌, true, length, get_or}
+use Rattle.std.specs.Prelude.{◌&&◌, nat_eq, nat_le, nat_lt, not}
+use Rattle.std.specs.List.{list_all}
 use Rattle.std.proofs.lemmas.Bool.{leb-true, le-leb, ltb-true, lt-ltb}
 use Rattle.std.proofs.lemmas.List.Sums.{AllPass-from_list_all, list_all-from_AllPass}
-use Rattle.scene_alloc.specs.Slots.{SlotState, IsSlots, most_slots, highest, is_free}
+use Rattle.scene_alloc.specs.Slots.{IsSlots, most_slots, is_free}
 use Rattle.scene_parts.specs.Parts.{Parts, AreInRange, slots_in}
 use Rattle.scene_parts.specs.Rules.{are_distinct, limit_holds, generations_begin, free_is_sound, rows_in}
 use Rattle.scene_parts.proofs.Tests.{and_is, and_of, distinct_is, distinct_of}

@@ -1,19 +1,18 @@
 -- The ten rules together: parts that break none make a valid world, and those of a valid world break none.
-use Rattle.std.proofs.Common.{◌≡◌, ℕ, ◌<◌, Bool, true, false, cond, not, List, length, refl, ap, sym, subst, ◌∙◌, Some, None, Option, map}
+use Rattle.std.proofs.Common.{◌≡◌, ℕ, Bool, true, false, cond, not, length, refl, ap, sym, subst, ◌∙◌, Some, None, Option, map}
 use Rattle.std.specs.Prelude.{◌&&◌, ◌||◌, slice_get, slice_index}
 use Rattle.std.specs.Ordering.{nat_cmp, eq_by_cmp}
-use Rattle.std.specs.Cmp.{nat_cmp_total}
-use Rattle.std.specs.List.{list_all, range_with_len, AllByRecursion, IsDistinct}
+use Rattle.std.specs.List.{list_all}
 use Rattle.scene_kinds.specs.declared.entity.Entity.{Entity}
 use Rattle.scene_kinds.specs.declared.cells.Row.{Row}
-use Rattle.scene_kinds.specs.Entity.{entity_cmp_total, is_same}
+use Rattle.scene_kinds.specs.Entity.{is_same}
 use Rattle.scene_kinds.specs.Schema.{is_good_name}
 use Rattle.scene_alloc.specs.Slots.{is_free}
 use Rattle.scene_resources.specs.Resources.{name_cmp}
 use Rattle.scene_world.specs.World.{World}
 use Rattle.scene_world.specs.Valid.{IsValid, RowsAreSound, IsRowOf, is_timely, is_retired}
-use Rattle.scene_parts.specs.Parts.{Parts, AreInRange, ArePartsOf, keys, has_some, slots_in, tables_of, forest_of, resources_of, world_of}
-use Rattle.scene_parts.specs.Rules.{flat, rows_in, are_distinct, has_row, is_current, is_accounted, is_row_of, is_list_of, walks_end, limit_holds, generations_begin, rows_are_current, entities_stand_once, free_is_sound, indices_are_accounted, tables_are_sound, links_are_sound, names_are_sound, ticks_are_sound, first_broken}
+use Rattle.scene_parts.specs.Parts.{Parts, AreInRange, ArePartsOf, keys, has_some, slots_in, tables_of, forest_of, world_of}
+use Rattle.scene_parts.specs.Rules.{flat, rows_in, are_distinct, is_current, is_accounted, is_row_of, is_list_of, walks_end, limit_holds, generations_begin, rows_are_current, entities_stand_once, free_is_sound, indices_are_accounted, tables_are_sound, links_are_sound, names_are_sound, ticks_are_sound, first_broken}
 use Rattle.scene_parts.proofs.Tests.{and_is, and_of, not_is, not_of, distinct_is, distinct_of, below_is, below_of}
 use Rattle.scene_parts.proofs.RowRules.{AreApart, test_row, row_test, each_row, row_each, has_row_lives, stands_once, once_stands, generation_is, generation_of, tables_fit, tables_some, fit_tables}
 use Rattle.scene_parts.proofs.SlotRules.{slots_are, limit_of, begin_of, free_of}

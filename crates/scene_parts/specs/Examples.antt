@@ -6,7 +6,6 @@ use Rattle.scene_kinds.specs.declared.cells.Row.{Row}
 use Rattle.scene_kinds.specs.declared.value.Value.TheVariants as value
 use Rattle.scene_kinds.specs.declared.shape.Shape.TheVariants as shape
 use Rattle.scene_kinds.specs.Map as map
-use Rattle.scene_world.specs.World.{World}
 use Rattle.scene_parts.specs.Parts.{Parts, world_of, parts_of}
 use Rattle.scene_parts.specs.Rules.{first_broken}
 

@@ -2,13 +2,13 @@
 use Rattle.std.specs.Prelude.{◌≡◌, ℕ, ◌≤◌, Bool, true, false, List, [], ◌∷◌, All, map as each}
 use Rattle.std.specs.List.{IsDistinct, list_all}
 use Rattle.std.specs.declared.cmp.Ordering.{Ordering}
-use Rattle.std.specs.Ordering.{nat_cmp, eq_by_cmp}
+use Rattle.std.specs.Ordering.{eq_by_cmp}
 use Rattle.std.specs.Cmp.{IsTotalOrder, nat_cmp_total}
 use Rattle.scene_kinds.specs.declared.entity.Entity.{Entity}
 use Rattle.scene_kinds.specs.declared.cell.Cell.{Cell}
 use Rattle.scene_kinds.specs.declared.cells.Row.{Row}
-use Rattle.scene_kinds.specs.Entity.{entity_cmp, entity_cmp_total}
-use Rattle.scene_kinds.specs.Lists.{whole, list_at, with_list}
+use Rattle.scene_kinds.specs.Entity.{entity_cmp_total}
+use Rattle.scene_kinds.specs.Lists.{whole, with_list}
 use Rattle.scene_kinds.specs.Map as map
 use Rattle.scene_kinds.specs.Ranges.{is_in_range}
 use Rattle.scene_kinds.specs.Schema.{Kinds, IsSchema}

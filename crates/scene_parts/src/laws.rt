@@ -2,9 +2,10 @@
 ghost use Rattle.scene_parts.specs.Examples.{SmallIsAWorld, BrokenSlots, BrokenRows, BrokenLinks, BrokenResources};
 ghost use Rattle.scene_parts.specs.Laws.{UnbrokenMakeWorlds, WorldsBreakNone, WorldsHaveParts};
 
-/// Laws: parts that break no rule are those of a valid world, and only those break none, in whatever order their
-/// lists stand; and each world has its parts, of which it is made again (docs/MODEL.md, "A valid world").
-pub fn parts_are_those_of_valid_worlds()
+/// Laws: parts whose numbers and texts are in the ranges of their types break no rule exactly where they are those of
+/// a valid world, in whatever order their lists stand; and each world has its parts, of which it is made again
+/// (docs/MODEL.md, "A valid world").
+pub fn unbroken_parts_are_those_of_valid_worlds()
     ensures sound { UnbrokenMakeWorlds }
     ensures complete { WorldsBreakNone }
     ensures own { WorldsHaveParts }

@@ -1,7 +1,7 @@
 use Rattle.scene_parts.proofs.WorldRules.{valid_is, parts_are, none_broken, world_is}
-use Rattle.scene_parts.proofs.WorldParts.{own_parts}
+use Rattle.scene_parts.proofs.OwnParts.{own_parts}
 use Rattle.scene_parts.specs.Parts.{parts_of}
-use Rattle.scene_parts.proofs.laws.parts_are_those_of_valid_worlds.Goals as goal
+use Rattle.scene_parts.proofs.laws.unbroken_parts_are_those_of_valid_worlds.Goals as goal
 
 pub returns : goal.returns
 returns c = record {

@@ -1,14 +1,13 @@
 -- The parts of a world make it: the entries of a map, as keys with lists, are a listing of it.
-use Rattle.std.proofs.Common.{◌≡◌, Bool, true, false, cond, T, List, [], ◌∷◌, refl, ap, sym, subst, ◌∙◌, Option, Some, None}
-use Rattle.std.specs.Prelude.{map as each, ◌&&◌}
+use Rattle.std.proofs.Common.{◌≡◌, true, false, cond, T, List, [], ◌∷◌, refl, ap, sym, subst, ◌∙◌, Some}
+use Rattle.std.specs.Prelude.{map as each}
 use Rattle.std.specs.declared.cmp.Ordering.{Ordering}
 use Rattle.std.specs.declared.cmp.Ordering.TheVariants.{Less, Equal, Greater}
-use Rattle.std.specs.Ordering.{eq_by_cmp, is_lt, is_eq, nat_cmp}
+use Rattle.std.specs.Ordering.{eq_by_cmp, is_lt, is_eq}
 use Rattle.std.specs.Cmp.{IsTotalOrder, nat_cmp_total}
 use Rattle.std.specs.FinMap.{IsAntisymmetric, nat_cmp-IsAntisymmetric}
 use Rattle.std.specs.FinMap.Entries.{find, is_sorted, below_all}
 use Rattle.std.specs.List.{list_all, AllByRecursion, IsDistinct}
-use Rattle.scene_kinds.specs.declared.cell.Cell.{Cell}
 use Rattle.scene_kinds.specs.Entity.{entity_cmp_total, entity_cmp_exact}
 use Rattle.scene_kinds.specs.Lists.{whole}
 use Rattle.scene_kinds.specs.Map as map
@@ -18,9 +17,8 @@ use Rattle.scene_kinds.proofs.Lists.{get-with_list}
 use Rattle.scene_kinds.proofs.Maps.{same_map}
 use Rattle.scene_resources.specs.Resources.{name_cmp, name_cmp_total, name_cmp_exact}
 use Rattle.scene_world.specs.World.{World}
-use Rattle.scene_parts.specs.Parts.{ArePartsOf, IsListing, keys, has_some, map_of, lists_of, resources_of, world_of, parts_of}
+use Rattle.scene_parts.specs.Parts.{ArePartsOf, IsListing, keys, has_some, map_of, lists_of, resources_of, parts_of}
 use Rattle.scene_parts.proofs.ResourceRules.{get-resources_of}
-use Rattle.scene_parts.proofs.WorldRules.{world_is}
 
 apart_of_less : (o : Ordering) → T (is_lt o) → is_eq o ≡ false
 apart_of_less Less h = refl
