@@ -10,9 +10,9 @@ use Rattle.scene_kinds.specs.Answers.{Outcome, refusal_of}
 use Rattle.scene_kinds.specs.Entity.{entity_text}
 use Rattle.scene_kinds.specs.Fault.{refusal_text}
 use Rattle.scene_kinds.specs.Schema.{Kinds, with_kind}
-use Rattle.scene_world.specs.World.{World, new_world, row_of}
-use Rattle.scene_world.specs.Machine.{Machine, opening}
-use Rattle.scene_world.specs.Frame.{Submit, Undo as UndoCall, Redo as RedoCall, Reply as Answer, step}
+use Rattle.scene_model.specs.World.{World, new_world, row_of}
+use Rattle.scene_model.specs.Machine.{Machine, opening}
+use Rattle.scene_model.specs.Frame.{Submit, Undo as UndoCall, Redo as RedoCall, Reply as Answer, step}
 use Rattle.scene_app.specs.Requests.{alone}
 use Rattle.scene_kinds.specs.declared.cells.Row.{Row}
 use Rattle.scene_pass.specs.Pass.{changed_since, added_since}

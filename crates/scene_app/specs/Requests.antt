@@ -6,9 +6,9 @@ use Rattle.scene_script.specs.declared.target.TargetWord.{TargetWord}
 use Rattle.scene_script.specs.declared.target.TargetWord.TheVariants as target
 use Rattle.scene_script.specs.declared.command.Command.{Command as Written}
 use Rattle.scene_script.specs.declared.command.Command.TheVariants as written
-use Rattle.scene_world.specs.Perform.{Command, Spawn, Despawn, DespawnRecursive, Insert, Remove, SetParent, RemoveParent, PutResource, RemoveResource}
-use Rattle.scene_world.specs.Queue.{Request, known}
-use Rattle.scene_world.specs.Frame.{Reply}
+use Rattle.scene_model.specs.Perform.{Command, Spawn, Despawn, DespawnRecursive, Insert, Remove, SetParent, RemoveParent, PutResource, RemoveResource}
+use Rattle.scene_model.specs.Queue.{Request, known}
+use Rattle.scene_model.specs.Frame.{Reply}
 
 -- the entity of a target, by those that its queue has spawned
 abbrev pub target_in : TargetWord → List Entity → Option Entity

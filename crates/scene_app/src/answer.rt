@@ -2,9 +2,9 @@
 ghost use Rattle.std.specs.Prelude.{◌≡◌, ◌≢◌, ◌++◌, OnOk, IfOk, Some, None, codes, string_bytes, option_map};
 ghost use Rattle.scene_kinds.specs.Answers.{refusal_of};
 ghost use Rattle.scene_kinds.specs.declared.fault.Fault.TheVariants.{NoMemory};
-ghost use Rattle.scene_world.specs.Frame.{Submit, Undo as UndoCall, Redo as RedoCall, step};
+ghost use Rattle.scene_model.specs.Frame.{Submit, Undo as UndoCall, Redo as RedoCall, step};
 ghost use Rattle.scene_app.specs.Requests.{alone, entities};
-ghost use Rattle.scene_world.specs.World.{row_of};
+ghost use Rattle.scene_model.specs.World.{row_of};
 ghost use Rattle.scene_app.specs.Play.{line_reply, said_reply, call_reply, made_text, refused_text, row_answer, undone_text, redone_text, mark_text, changed_text, added_text, cursor_of, with_cursor};
 ghost use Rattle.scene_app.specs.Steps.{Replies};
 

@@ -3,10 +3,10 @@ ghost use Rattle.std.specs.Prelude.{◌≡◌, ◌≢◌, [], Ok, Err, None, Mat
 ghost use Rattle.std.specs.Option.{ok_or};
 ghost use Rattle.scene_kinds.specs.Answers.{Answers, refusal_of};
 ghost use Rattle.scene_kinds.specs.declared.fault.Fault.TheVariants.{BadLocal, NoMemory};
-ghost use Rattle.scene_world.specs.Machine.{opening, undo, redo};
-ghost use Rattle.scene_world.specs.Perform.{perform};
-ghost use Rattle.scene_world.specs.Queue.{reached, refused_at, request};
-ghost use Rattle.scene_world.specs.Frame.{Submit, call, frame};
+ghost use Rattle.scene_model.specs.Machine.{opening, undo, redo};
+ghost use Rattle.scene_model.specs.Perform.{perform};
+ghost use Rattle.scene_model.specs.Queue.{reached, refused_at, request};
+ghost use Rattle.scene_model.specs.Frame.{Submit, call, frame};
 ghost use Rattle.scene_app.specs.Requests.{alone, entities, made, request_of, target_in};
 
 use scene_kinds::{Entity, Fault, Place, Refusal};
@@ -27,8 +27,8 @@ pub(crate) struct Saved {
 
 impl Model for Saved {
     ghost use mathlib.Core.List.{reverse};
-    ghost use Rattle.scene_world.specs.World.{World as Whole};
-    ghost use Rattle.scene_world.specs.Machine.{Machine};
+    ghost use Rattle.scene_model.specs.World.{World as Whole};
+    ghost use Rattle.scene_model.specs.Machine.{Machine};
 
     ghost Value = { Machine Whole };
 

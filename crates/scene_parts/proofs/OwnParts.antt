@@ -16,7 +16,7 @@ use Rattle.scene_kinds.proofs.Choices.{test_parts}
 use Rattle.scene_kinds.proofs.Lists.{get-with_list}
 use Rattle.scene_kinds.proofs.Maps.{same_map}
 use Rattle.scene_resources.specs.Resources.{name_cmp, name_cmp_total, name_cmp_exact}
-use Rattle.scene_world.specs.World.{World}
+use Rattle.scene_model.specs.World.{World}
 use Rattle.scene_parts.specs.Parts.{ArePartsOf, IsListing, keys, has_some, map_of, lists_of, resources_of, parts_of}
 use Rattle.scene_parts.proofs.ResourceRules.{get-resources_of}
 

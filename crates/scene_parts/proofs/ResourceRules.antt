@@ -9,7 +9,7 @@ use Rattle.scene_kinds.specs.Ranges.{is_in_range}
 use Rattle.scene_kinds.specs.Schema.{is_good_name}
 use Rattle.scene_kinds.proofs.Maps.{get-insert, equal_keys, ties_itself}
 use Rattle.scene_resources.specs.Resources.{name_cmp, name_cmp_total, name_cmp_exact}
-use Rattle.scene_world.specs.Valid.{ResourcesAreSound, IsResource, is_timely}
+use Rattle.scene_model.specs.Valid.{ResourcesAreSound, IsResource, is_timely}
 use Rattle.scene_parts.specs.Parts.{keys, resources_of}
 use Rattle.scene_parts.proofs.Tests.{all_is, all_of, all_with}
 

@@ -13,11 +13,11 @@ use Rattle.scene_kinds.specs.Cells.{mask_of}
 use Rattle.scene_kinds.specs.Entity.{entity_cmp_total, entity_cmp_exact, is_same}
 use Rattle.scene_kinds.specs.Schema.{Kinds, fits_kind}
 use Rattle.scene_links.proofs.Held.{same_is, same_self}
-use Rattle.scene_world.specs.declared.home.Home.{Home}
-use Rattle.scene_world.specs.World.{row_at, lives}
-use Rattle.scene_world.specs.Valid.{EachRow, StandsOnce, IsRowOf}
-use Rattle.scene_world.proofs.Homes.{here_live, live_here}
-use Rattle.scene_world.proofs.Rows.{same_home}
+use Rattle.scene_table.specs.declared.home.Home.{Home}
+use Rattle.scene_model.specs.World.{row_at, lives}
+use Rattle.scene_model.specs.Valid.{EachRow, StandsOnce, IsRowOf}
+use Rattle.scene_table.proofs.Homes.{here_live, live_here}
+use Rattle.scene_table.proofs.Standing.{same_home}
 use Rattle.scene_parts.specs.Parts.{keys, has_some, tables_of}
 use Rattle.scene_parts.specs.Rules.{flat, has_row, has_generation, is_row_of}
 use Rattle.scene_parts.proofs.Tests.{and_is, and_of, same_tests, all_is, all_of, all_with}

@@ -9,8 +9,8 @@ use Rattle.scene_kinds.specs.Entity.{is_same}
 use Rattle.scene_kinds.specs.Schema.{is_good_name}
 use Rattle.scene_alloc.specs.Slots.{is_free}
 use Rattle.scene_resources.specs.Resources.{name_cmp}
-use Rattle.scene_world.specs.World.{World}
-use Rattle.scene_world.specs.Valid.{IsValid, RowsAreSound, IsRowOf, is_timely, is_retired}
+use Rattle.scene_model.specs.World.{World}
+use Rattle.scene_model.specs.Valid.{IsValid, RowsAreSound, IsRowOf, is_timely, is_retired}
 use Rattle.scene_parts.specs.Parts.{Parts, AreInRange, ArePartsOf, keys, has_some, slots_in, tables_of, forest_of, world_of}
 use Rattle.scene_parts.specs.Rules.{flat, rows_in, are_distinct, is_current, is_accounted, is_row_of, is_list_of, walks_end, limit_holds, generations_begin, rows_are_current, entities_stand_once, free_is_sound, indices_are_accounted, tables_are_sound, links_are_sound, names_are_sound, ticks_are_sound, first_broken}
 use Rattle.scene_parts.proofs.Tests.{and_is, and_of, not_is, not_of, distinct_is, distinct_of, below_is, below_of}

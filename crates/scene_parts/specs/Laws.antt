@@ -1,7 +1,7 @@
 -- What the rules say of worlds.
 use Rattle.std.specs.Prelude.{◌≡◌, None}
-use Rattle.scene_world.specs.World.{World}
-use Rattle.scene_world.specs.Valid.{IsValid}
+use Rattle.scene_model.specs.World.{World}
+use Rattle.scene_model.specs.Valid.{IsValid}
 use Rattle.scene_parts.specs.Parts.{Parts, AreInRange, ArePartsOf, world_of, parts_of}
 use Rattle.scene_parts.specs.Rules.{first_broken}
 

@@ -15,7 +15,7 @@ use Rattle.scene_kinds.specs.Schema.{Kinds, IsSchema}
 use Rattle.scene_alloc.specs.Slots.{SlotState, highest, slots_of}
 use Rattle.scene_links.specs.Forest.{Forest}
 use Rattle.scene_resources.specs.Resources.{NamedCells, name_cmp, name_cmp_total}
-use Rattle.scene_world.specs.World.{World, Tables}
+use Rattle.scene_model.specs.World.{World, Tables}
 
 -- what a world is built from; unlike a world it may hold an empty table, a kind set or a name twice, or two parents of one entity
 pub record Parts : Type 0 where

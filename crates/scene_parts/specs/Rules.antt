@@ -11,7 +11,7 @@ use Rattle.scene_kinds.specs.Schema.{Kinds, fits_kind, is_good_name}
 use Rattle.scene_alloc.specs.Slots.{is_free, most_slots}
 use Rattle.scene_links.specs.Forest.{Forest, parent_of, parents}
 use Rattle.scene_resources.specs.Resources.{name_cmp}
-use Rattle.scene_world.specs.Valid.{is_retired, is_timely}
+use Rattle.scene_model.specs.Valid.{is_retired, is_timely}
 use Rattle.scene_parts.specs.Parts.{Parts, keys, has_some, slots_in, forest_of}
 
 -- no element of a list is told the same as one after it

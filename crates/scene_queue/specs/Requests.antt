@@ -5,8 +5,8 @@ use Rattle.scene_queue.specs.declared.target.Target.{Target}
 use Rattle.scene_queue.specs.declared.target.Target.TheVariants as target
 use Rattle.scene_queue.specs.declared.command.Command.{Command as Queued}
 use Rattle.scene_queue.specs.declared.command.Command.TheVariants as queued
-use Rattle.scene_world.specs.Perform.{Command, Spawn, Despawn, DespawnRecursive, DespawnRecursiveIfAlive, Insert, Remove, SetParent, RemoveParent, PutResource, RemoveResource}
-use Rattle.scene_world.specs.Queue.{Request, known}
+use Rattle.scene_model.specs.Perform.{Command, Spawn, Despawn, DespawnRecursive, DespawnRecursiveIfAlive, Insert, Remove, SetParent, RemoveParent, PutResource, RemoveResource}
+use Rattle.scene_model.specs.Queue.{Request, known}
 
 -- the entity of a target, by those that its queue has spawned
 abbrev pub target_in : Target → List Entity → Option Entity
