@@ -12,10 +12,10 @@ use Rattle.scene_kinds.specs.declared.cells.Row.{Row}
 use Rattle.scene_kinds.specs.Cells.{mask_of}
 use Rattle.scene_kinds.specs.Entity.{entity_cmp_total, entity_cmp_exact, is_same}
 use Rattle.scene_kinds.specs.Schema.{Kinds, fits_kind}
+use Rattle.scene_table.specs.Tables.{EachRow, StandsOnce, lives, row_at}
 use Rattle.scene_links.proofs.Held.{same_is, same_self}
 use Rattle.scene_table.specs.declared.home.Home.{Home}
-use Rattle.scene_model.specs.World.{row_at, lives}
-use Rattle.scene_model.specs.Valid.{EachRow, StandsOnce, IsRowOf}
+use Rattle.scene_model.specs.Valid.{IsRowOf}
 use Rattle.scene_table.proofs.Homes.{here_live, live_here}
 use Rattle.scene_table.proofs.Standing.{same_home}
 use Rattle.scene_parts.specs.Parts.{keys, has_some, tables_of}

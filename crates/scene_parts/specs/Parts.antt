@@ -12,10 +12,11 @@ use Rattle.scene_kinds.specs.Lists.{whole, with_list}
 use Rattle.scene_kinds.specs.Map as map
 use Rattle.scene_kinds.specs.Ranges.{is_in_range}
 use Rattle.scene_kinds.specs.Schema.{Kinds, IsSchema}
+use Rattle.scene_table.specs.Tables.{Tables}
 use Rattle.scene_alloc.specs.Slots.{SlotState, highest, slots_of}
 use Rattle.scene_links.specs.Forest.{Forest}
 use Rattle.scene_resources.specs.Resources.{NamedCells, name_cmp, name_cmp_total}
-use Rattle.scene_model.specs.World.{World, Tables}
+use Rattle.scene_model.specs.World.{World}
 
 -- what a world is built from; unlike a world it may hold an empty table, a kind set or a name twice, or two parents of one entity
 pub record Parts : Type 0 where
