@@ -93,7 +93,7 @@ fn answer_get(
     world: &World,
     entity: Entity,
 ) -> Result<(), AllocError>
-    ensures { OnOk result (string_bytes out.new ≡ string_bytes out.old ++ row_answer world.now.schema (option_map (λ p. p.1) (row_of world.now entity))) }
+    ensures { OnOk result (string_bytes out.new ≡ string_bytes out.old ++ row_answer world.now.world.schema (option_map (λ p. p.1) (row_of world.now.world entity))) }
 {
     match row_of(world, entity) {
         None => write_refused(out, Refusal::from(Fault::NoSuchEntity)),

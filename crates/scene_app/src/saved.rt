@@ -47,7 +47,7 @@ fn entity_of(target: TargetWord) -> Result<Entity, Refusal>
 
 /// Does the only command of its queue.
 fn do_command(world: &mut World, command: Command) -> Result<Option<Entity>, Refusal>
-    ensures { Answers result world.old world.new (request perform (request_of command) (reached world.old [])) }
+    ensures { Answers result world.old.world world.new.world (request perform (request_of command) (reached world.old.world [])) }
 {
     match command {
         Command::Spawn(cells) => {
@@ -90,7 +90,7 @@ fn placed(refusal: Refusal) -> Refusal
 
 /// Does a frame of one command on a world that is dropped where the frame is refused.
 fn do_frame(world: &mut World, command: Command) -> Result<Option<Entity>, Refusal>
-    ensures { MatchResult result (λ a. frame (alone command) world.old ≡ Ok (entities a, world.new)) (λ r. r ≢ refusal_of NoMemory → frame (alone command) world.old ≡ Err r) }
+    ensures { MatchResult result (λ a. frame (alone command) world.old.world ≡ Ok (entities a, world.new.world)) (λ r. r ≢ refusal_of NoMemory → frame (alone command) world.old.world ≡ Err r) }
 {
     world.raise_tick()?;
     match do_command(world, command) {
@@ -101,7 +101,7 @@ fn do_frame(world: &mut World, command: Command) -> Result<Option<Entity>, Refus
 
 /// The world after a frame of one command, with the entity that it spawned. It costs a copy of the world.
 fn framed(world: &World, command: Command) -> Result<(World, Option<Entity>), Refusal>
-    ensures { MatchResult result (λ p. frame (alone command) world.now ≡ Ok (entities p.1, p.0)) (λ r. r ≢ refusal_of NoMemory → frame (alone command) world.now ≡ Err r) }
+    ensures { MatchResult result (λ p. frame (alone command) world.now.world ≡ Ok (entities p.1, p.0)) (λ r. r ≢ refusal_of NoMemory → frame (alone command) world.now.world ≡ Err r) }
 {
     let mut next = world.try_clone()?;
     match do_frame(&mut next, command) {

@@ -143,7 +143,7 @@ fn write_rows_of(
     world: &World,
     mask: u64,
 ) -> Result<(), AllocError>
-    ensures { OnOk result (string_bytes out.new ≡ string_bytes out.old ++ rows_text world.now.schema (rows_at world.now.tables mask)) }
+    ensures { OnOk result (string_bytes out.new ≡ string_bytes out.old ++ rows_text world.now.world.schema (rows_at world.now.world.tables mask)) }
 {
     match world.rows_of(mask) {
         Some(table) => write_rows(alloc, out, world.schema(), table),
@@ -153,7 +153,7 @@ fn write_rows_of(
 
 /// Adds a table: the names of its kind set, and its rows.
 fn write_table(alloc: Global, out: &mut String, world: &World, mask: u64) -> Result<(), AllocError>
-    ensures { OnOk result (string_bytes out.new ≡ string_bytes out.old ++ table_text world.now.schema mask (rows_at world.now.tables mask)) }
+    ensures { OnOk result (string_bytes out.new ≡ string_bytes out.old ++ table_text world.now.world.schema mask (rows_at world.now.world.tables mask)) }
 {
     let names = names_of(alloc, world.schema(), mask)?;
     out.push_str("table ")?;
@@ -169,7 +169,7 @@ fn write_tables(
     world: &World,
     masks: &[u64],
 ) -> Result<(), AllocError>
-    ensures { OnOk result (string_bytes out.new ≡ string_bytes out.old ++ tables_text world.now masks.now) }
+    ensures { OnOk result (string_bytes out.new ≡ string_bytes out.old ++ tables_text world.now.world masks.now) }
 {
     'masks: for mask in masks {
         write_table(alloc, out, world, *mask)?;
@@ -208,7 +208,7 @@ fn write_links(out: &mut String, links: &Links, parents: &[Entity]) -> Result<()
 
 /// Adds the tick, the generations by index and the free list.
 fn write_head(out: &mut String, world: &World) -> Result<(), AllocError>
-    ensures { OnOk result (string_bytes out.new ≡ string_bytes out.old ++ head_text world.now) }
+    ensures { OnOk result (string_bytes out.new ≡ string_bytes out.old ++ head_text world.now.world) }
 {
     write!(out, "tick {}\ngens", world.tick())?;
     write_numbers(out, world.slots().generations())?;
@@ -219,7 +219,7 @@ fn write_head(out: &mut String, world: &World) -> Result<(), AllocError>
 
 /// Adds all tables, ascending by their kind sets.
 fn write_archetypes(alloc: Global, out: &mut String, world: &World) -> Result<(), AllocError>
-    ensures { OnOk result (string_bytes out.new ≡ string_bytes out.old ++ tables_text world.now (kind_sets world.now)) }
+    ensures { OnOk result (string_bytes out.new ≡ string_bytes out.old ++ tables_text world.now.world (kind_sets world.now.world)) }
 {
     let masks = world.tables()?;
     write_tables(alloc, out, world, masks.as_slice())
@@ -290,7 +290,7 @@ fn write_resources(alloc: Global, out: &mut String, resources: &Resources) -> Re
 /// kind set, ascending, the links of each entity with children, by index, and each resource, by the bytes of its
 /// name. It costs a walk over the world, and a look for each name.
 pub(crate) fn write_show(alloc: Global, out: &mut String, world: &World) -> Result<(), AllocError>
-    ensures { OnOk result (string_bytes out.new ≡ string_bytes out.old ++ show_text world.now) }
+    ensures { OnOk result (string_bytes out.new ≡ string_bytes out.old ++ show_text world.now.world) }
 {
     write_head(out, world)?;
     write_archetypes(alloc, out, world)?;
@@ -300,7 +300,7 @@ pub(crate) fn write_show(alloc: Global, out: &mut String, world: &World) -> Resu
 
 /// The table and the place of an entity's row, or `None` where it isn't alive.
 pub(crate) fn row_of(world: &World, entity: Entity) -> Option<(&Table, usize)>
-    ensures { option_map (λ at. slice_get at.0.now.rows at.1) result ≡ option_map (λ p. Some p.1) (row_of world.now entity) }
+    ensures { option_map (λ at. slice_get at.0.now.rows at.1) result ≡ option_map (λ p. Some p.1) (row_of world.now.world entity) }
 {
     let mask = world.mask_of(entity)?;
     let place = world.place_of(entity)?;

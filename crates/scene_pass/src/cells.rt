@@ -74,7 +74,7 @@ fn cells_since(
     filter: Filter,
     since: Since,
 ) -> Result<Vec<CellName>, AllocError>
-    ensures { IfOk result (λ names. names.items ≡ cells_where (is_since since) world.now filter) }
+    ensures { IfOk result (λ names. names.items ≡ cells_where (is_since since) world.now.world filter) }
 {
     let tables = matching_tables(world, filter)?;
     let mut names = Vec::new(alloc);
@@ -95,7 +95,7 @@ pub fn changed_since(
     filter: Filter,
     tick: u64,
 ) -> Result<Vec<CellName>, AllocError>
-    ensures { IfOk result (λ names. names.items ≡ changed_since world.now filter tick) }
+    ensures { IfOk result (λ names. names.items ≡ changed_since world.now.world filter tick) }
 {
     cells_since(alloc, world, filter, Since::Changed(tick))
 }
@@ -110,7 +110,7 @@ pub fn added_since(
     filter: Filter,
     tick: u64,
 ) -> Result<Vec<CellName>, AllocError>
-    ensures { IfOk result (λ names. names.items ≡ added_since world.now filter tick) }
+    ensures { IfOk result (λ names. names.items ≡ added_since world.now.world filter tick) }
 {
     cells_since(alloc, world, filter, Since::Added(tick))
 }

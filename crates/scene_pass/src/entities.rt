@@ -27,7 +27,7 @@ fn entities_of(alloc: Global, tables: &[&Table]) -> Result<Vec<Entity>, AllocErr
 /// An error only where no memory was found. It costs the number of kind sets times its logarithm, and the matching
 /// rows; the rows of other kind sets aren't read.
 pub fn matching(alloc: Global, world: &World, filter: Filter) -> Result<Vec<Entity>, AllocError>
-    ensures { IfOk result (λ entities. entities.items ≡ matching world.now filter) }
+    ensures { IfOk result (λ entities. entities.items ≡ matching world.now.world filter) }
 {
     let tables = matching_tables(world, filter)?;
     entities_of(alloc, tables.as_slice())

@@ -12,7 +12,7 @@ use std::alloc::AllocError;
 ///
 /// It costs the number of kind sets times its logarithm.
 pub(crate) fn matching_tables(world: &World, filter: Filter) -> Result<Vec<&Table>, AllocError>
-    ensures { IfOk result (λ tables. flat_map (λ table. table.now.rows) tables.items ≡ matching_rows world.now filter) }
+    ensures { IfOk result (λ tables. flat_map (λ table. table.now.rows) tables.items ≡ matching_rows world.now.world filter) }
 {
     let mut tables = world.tables_in_order()?;
     tables.retain(|table| filter.matches(table.mask()));

@@ -5,4 +5,4 @@ use Rattle.scene_pass.specs.Since.{is_since}
 use Rattle.scene_pass.proofs.cells.cells_since.Given as goal
 
 abbrev pub invariant-tables : goal.invariant-tables
-invariant-tables l = l.names.items ++ flat_map (names_in (is_since l.since)) (flat_map (λ t. t.now.rows) (drop l.table-index l.table-items)) ≡ cells_where (is_since l.since) l.world l.fn.filter
+invariant-tables l = l.names.items ++ flat_map (names_in (is_since l.since)) (flat_map (λ t. t.now.rows) (drop l.table-index l.table-items)) ≡ cells_where (is_since l.since) l.world.world l.fn.filter
