@@ -17,7 +17,7 @@ pub row_there : (t : Tables) (h : Home) → h.place < length (rows_at t h.mask) 
 row_there t h l = element_at (rows_at t h.mask) h.place l
 
 -- the cell of a kind at a place is that of the row there
-cell_in : (rows : List Row) (at kind : ℕ) (row : Row) → slice_get rows at ≡ Some row → cell_at rows at kind ≡ cell_of row.cells kind
+pub cell_in : (rows : List Row) (at kind : ℕ) (row : Row) → slice_get rows at ≡ Some row → cell_at rows at kind ≡ cell_of row.cells kind
 cell_in rows at kind row there = ap (λ (o : Option Row). option_flatten (option_map (λ (r : Row). cell_of r.cells kind) o)) there
 
 -- a kind that its row lacks, or has, is one that its kind set lacks, or has

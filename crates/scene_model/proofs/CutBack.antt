@@ -93,7 +93,7 @@ module _ (w : World) (e : Entity) (place : ℕ) (cells : List (ℕ × Cell)) (li
 -- ---- uncut
 
 -- no row has the index of a slot that comes back
-index_unused : (w : World) (e : Entity) (retired : Bool) → IsValid w → StandsNowhere e w.tables → CanUnrelease w.slots e retired → (g : Home) (r : Row) → row_at w.tables g ≡ Some r → r.entity.index ≡ e.index → ⊥
+pub index_unused : (w : World) (e : Entity) (retired : Bool) → IsValid w → StandsNowhere e w.tables → CanUnrelease w.slots e retired → (g : Home) (r : Row) → row_at w.tables g ≡ Some r → r.entity.index ≡ e.index → ⊥
 index_unused w e true v nowhere slot g r at same =
     let k : Some r.entity.generation ≡ Some e.generation = sym (v.rows.each g r at).current ∙ ap (slice_get w.slots.generations) same ∙ (slot.kept refl).current in
     let f : r.entity.generation ≡ e.generation = cc in
@@ -117,10 +117,10 @@ module _ (w : World) (e : Entity) (place : ℕ) (cells : List (ℕ × Cell)) (li
   abbrev tables_back : Tables
   tables_back = with_row_back w.tables place (row_for e cells)
 
-  uncut_nowhere : StandsNowhere e w.tables
+  pub uncut_nowhere : StandsNowhere e w.tables
   uncut_nowhere h r at same = let no : true ≡ false = sym (live_here w.tables e h r at same) ∙ can.dead in absurd cc
 
-  uncut_alone : (parent_of w.children e ≡ None) × (children_of w.children e ≡ [])
+  pub uncut_alone : (parent_of w.children e ≡ None) × (children_of w.children e ≡ [])
   uncut_alone = nowhere_unlinked w e v uncut_nowhere
 
   uncut_release : CanRelease slots_back e
@@ -133,7 +133,7 @@ module _ (w : World) (e : Entity) (place : ℕ) (cells : List (ℕ × Cell)) (li
   uncut_lives = live_here tables_back e (home_for cells place) (row_for e cells) uncut_there refl
 
   -- a parent that lives isn't the entity
-  uncut_other : (l : Entity × ℕ) → link ≡ Some l → e ≡ l.0 → ⊥
+  pub uncut_other : (l : Entity × ℕ) → link ≡ Some l → e ≡ l.0 → ⊥
   uncut_other l s same = let no : true ≡ false = sym (in_some (IsPlaceIn w w.children) link l can.room s).live ∙ ap (is_live w) (sym same) ∙ can.dead in absurd cc
 
   uncut_one : IsOneChange w e slots_back tables_back (with_link w.children e link)

@@ -21,6 +21,7 @@ pub mod Outcomes
 pub mod PartCommands
 pub mod Parts
 pub mod PutBack
+pub mod Relinks
 pub mod ResourceBack
 pub mod ResourceKeeps
 pub mod RowCommands

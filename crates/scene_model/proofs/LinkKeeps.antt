@@ -18,7 +18,7 @@ use Rattle.scene_model.proofs.Outcomes.{not_ok, same_world}
 use Rattle.scene_model.proofs.Parts.{asked, allowed, lifted_part, done_part}
 
 -- of the entities with one index at most one is alive
-one_live : (w : World) (a b : Entity) → IsValid w → is_live w a ≡ true → is_live w b ≡ true → a.index ≡ b.index → a ≡ b
+pub one_live : (w : World) (a b : Entity) → IsValid w → is_live w a ≡ true → is_live w b ≡ true → a.index ≡ b.index → a ≡ b
 one_live w a b v l m s =
     let x = here_live w.tables a l in
     let y = here_live w.tables b m in

@@ -35,7 +35,7 @@ use Rattle.scene_model.proofs.TakenSlots.{any_pushed, taken}
 -- ---- put
 
 -- the take that gave an entity
-took : (s : SlotState) (e : Entity) → taken_entity (take_of s) ≡ Some e → take_of s ≡ Ok (e, taken_slots s (take_of s))
+pub took : (s : SlotState) (e : Entity) → taken_entity (take_of s) ≡ Some e → take_of s ≡ Ok (e, taken_slots s (take_of s))
 took s e h = elim (take_of s) as (λ o. taken_entity o ≡ Some e → o ≡ Ok (e, taken_slots s o)) [
   | Ok p ↦ λ k. let same : p.0 ≡ e = cc in λ i. Ok (same i, p.1)
   | Err r ↦ λ k. absurd (let no : None ≡ Some e = k in cc)
@@ -95,14 +95,14 @@ module _ (w : World) (e : Entity) (cells : List (ℕ × Cell)) (fresh : Bool) (v
   abbrev left : World
   left = with_parts w (untake_of w.slots e fresh) (without_row w.tables home) w.children
 
-  drop_there : row_at w.tables home ≡ Some (row_for e cells)
+  pub drop_there : row_at w.tables home ≡ Some (row_for e cells)
   drop_there = last_row_there w.tables (row_for e cells) can.row
 
-  drop_is : drop_last w e fresh ≡ left
+  pub drop_is : drop_last w e fresh ≡ left
   drop_is = made_by_row w e home (row_for e cells) (λ h row. with_parts w (untake_of w.slots e fresh) (without_row w.tables h) w.children)
       (row_stands w e home (row_for e cells) v.rows.once drop_there refl)
 
-  drop_untakes : CanUntake w.slots e fresh
+  pub drop_untakes : CanUntake w.slots e fresh
   drop_untakes = let old = v.rows.each home (row_for e cells) drop_there in record { current = old.current; not_free = old.busy; newest = can.newest }
 
   -- no row that is left has its index

@@ -1,5 +1,5 @@
 -- The laws of room.
-use Rattle.std.proofs.Common.{◌≡◌, ◌≤◌, ap, subst, arith}
+use Rattle.std.proofs.Common.{◌≡◌, ◌≤◌, ap, sym, subst, arith}
 use Rattle.scene_model.specs.World.{World}
 use Rattle.scene_archetypes.specs.Archetypes.{ArchetypesState}
 use Rattle.scene_links.proofs.LinkLaws.{holds_wider as links_wider, wider_self as links_self, wider_more as links_more}
@@ -16,6 +16,10 @@ seen_world e = ap (λ (h : Housed). h.world) e
 
 pub seen_room : {a b : Housed} → a ≡ b → a.room ≡ b.room
 seen_room e = ap (λ (h : Housed). h.room) e
+
+-- what is held after a change, as the inside has it
+pub held_inside : {a b : Housed} → a ≡ b → (f : World → World) → Holds b.room (f b.world) → Holds a.room (f a.world)
+held_inside e f h = subst (λ (x : Housed). Holds x.room (f x.world)) (sym e) h
 
 -- wider room holds what narrower room held
 pub holds_wider : (old new : Room) (w : World) → IsWider old new → Holds old w → Holds new w

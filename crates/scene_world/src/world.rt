@@ -1,5 +1,5 @@
 //! The world: entities with their components, links and resources.
-ghost use Rattle.std.specs.Prelude.{◌≡◌, ◌≤◌, MatchResult, IfOk, IfSome, Ok, Err, option_map, map as each};
+ghost use Rattle.std.specs.Prelude.{◌≡◌, ◌≤◌, true, MatchResult, IfOk, IfSome, Ok, Err, option_map, map as each};
 ghost use Rattle.scene_kinds.specs.Answers.{Gives};
 ghost use Rattle.scene_kinds.specs.Cells.{shown};
 ghost use Rattle.scene_model.specs.World.{new_world, is_live, mask_at, home_of, component_of, place_at, rows_of, kind_sets};
@@ -9,14 +9,20 @@ ghost use Rattle.scene_model.specs.World.{IsHomeOf};
 ghost use Rattle.scene_model.specs.Valid.{IsValid};
 ghost use Rattle.scene_world.specs.Room.{Holds, IsWider};
 
+mod cut_row;
 mod despawn;
 mod despawn_recursive;
 mod insert;
 mod put_resource;
+mod put_row;
 mod remove;
 mod remove_parent;
 mod remove_resource;
+mod set_cell;
+mod set_link;
 mod set_parent;
+mod set_resource;
+mod set_tick;
 mod spawn;
 
 use scene_archetypes::Archetypes;
@@ -159,6 +165,18 @@ impl World {
         ensures valid { IsValid self.now.world }
     {
         self.tables.find(entity)
+    }
+
+    /// Where the row of a live entity stands.
+    fn home_of_live(&self, entity: Entity) -> Home
+        requires { is_live self.now.world entity ≡ true }
+        ensures row { IsHomeOf self.now.world entity result }
+        ensures valid { IsValid self.now.world }
+    {
+        match self.home_of(entity) {
+            Some(home) => home,
+            None => unreachable!(),
+        }
     }
 
     /// Whether an entity is alive: it has a row (docs/MODEL.md, "The rule of archetypes").

@@ -1,0 +1,27 @@
+//! Setting the link of an entity.
+ghost use Rattle.std.specs.Prelude.{◌≡◌};
+ghost use Rattle.scene_links.specs.Forest.{link_in};
+ghost use Rattle.scene_model.specs.Raw.{set_link};
+ghost use Rattle.scene_model.specs.Can.{CanSetLink};
+ghost use Rattle.scene_world.specs.Room.{Holds};
+
+use crate::world::World;
+use scene_kinds::Entity;
+
+impl World {
+    /// Takes a live entity out of its parent's list, if it stands in one, and puts it at a place of another's, or leaves
+    /// it without a parent (docs/MODEL.md, "Raw changes"). The place is that in the list without the entity. It takes no
+    /// memory, since the room must hold the world after it.
+    pub fn set_link_reserved(&mut self, entity: Entity, link: Option<(Entity, usize)>)
+        requires can { CanSetLink self.old.world entity (link_in self.old.world.children entity) link }
+        requires room { Holds self.old.room (set_link self.old.world entity link) }
+        ensures world { self.new.world ≡ set_link self.old.world entity link }
+        ensures room { self.new.room ≡ self.old.room }
+    {
+        let _before = self.links.leave(entity);
+        match link {
+            Some((parent, place)) => self.links.relink_reserved(entity, parent, place),
+            None => {}
+        }
+    }
+}
