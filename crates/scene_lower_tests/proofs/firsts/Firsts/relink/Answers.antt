@@ -2,8 +2,8 @@ use Rattle.std.proofs.Common.{ap, sym, subst}
 use Rattle.scene_kinds.specs.declared.entity.Entity.{Entity}
 use Rattle.scene_links.specs.Forest.{AllLinked}
 use Rattle.scene_links.proofs.LinkLaws.{all_joined_at}
-use Rattle.scene_links_tests.proofs.FirstLinks.{IsFirst}
-use Rattle.scene_links_tests.proofs.firsts.Firsts.relink.Goals as goal
+use Rattle.scene_lower_tests.proofs.FirstLinks.{IsFirst}
+use Rattle.scene_lower_tests.proofs.firsts.Firsts.relink.Goals as goal
 
 pub invariant_of-self-2 : goal.invariant_of-self-2
 invariant_of-self-2 c = subst (AllLinked IsFirst) (sym c.in_ok-relink.ensures.ok)

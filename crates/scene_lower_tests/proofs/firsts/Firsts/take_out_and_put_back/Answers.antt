@@ -3,8 +3,8 @@ use Rattle.scene_links.specs.Forest.{AllLinked}
 use Rattle.scene_links.specs.Room.{CanRelink, HasRoom}
 use Rattle.scene_links.proofs.LinkLaws.{unlinked_can_return}
 use Rattle.scene_links.proofs.Places.{joined_at-unlink}
-use Rattle.scene_links_tests.proofs.FirstLinks.{IsFirst}
-use Rattle.scene_links_tests.proofs.firsts.Firsts.take_out_and_put_back.Goals as goal
+use Rattle.scene_lower_tests.proofs.FirstLinks.{IsFirst}
+use Rattle.scene_lower_tests.proofs.firsts.Firsts.take_out_and_put_back.Goals as goal
 
 -- the way back is open
 way : (c : goal.After-relink_reserved-arg-1) → CanRelink c.unlink.new.self.forest c.first-child.result c.in-Ok.parent c.in-Ok.place × HasRoom c.self.inside.links.room c.unlink.new.self.forest c.first-child.result c.in-Ok.parent

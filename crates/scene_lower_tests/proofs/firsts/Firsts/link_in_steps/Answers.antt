@@ -2,8 +2,8 @@ use Rattle.std.proofs.Common.{◌∙◌, ap, sym, subst}
 use Rattle.scene_kinds.specs.declared.entity.Entity.{Entity}
 use Rattle.scene_links.specs.Forest.{AllLinked, cut, joined}
 use Rattle.scene_links.proofs.LinkLaws.{all_joined, linked-cut}
-use Rattle.scene_links_tests.proofs.FirstLinks.{IsFirst}
-use Rattle.scene_links_tests.proofs.firsts.Firsts.link_in_steps.Goals as goal
+use Rattle.scene_lower_tests.proofs.FirstLinks.{IsFirst}
+use Rattle.scene_lower_tests.proofs.firsts.Firsts.link_in_steps.Goals as goal
 
 pub invariant_of-self-2 : goal.invariant_of-self-2
 invariant_of-self-2 c =

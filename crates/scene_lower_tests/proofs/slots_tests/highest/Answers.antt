@@ -2,7 +2,7 @@ use Rattle.std.proofs.Common.{◌∷◌, [], sym, subst₂, arith}
 use Rattle.std.specs.List.{IsDistinct}
 use Rattle.scene_alloc.specs.Slots.{IsSlots, slots_of}
 use Rattle.scene_alloc.proofs.Written.{IsSlots-written}
-use Rattle.scene_alloc.proofs.tests.highest.Goals as goal
+use Rattle.scene_lower_tests.proofs.slots_tests.highest.Goals as goal
 
 written : IsSlots (slots_of 2 (4294967295 ∷ []) [])
 unfolding IsDistinct

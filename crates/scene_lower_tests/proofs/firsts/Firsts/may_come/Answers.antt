@@ -4,8 +4,8 @@ use Rattle.std.proofs.lemmas.List.{nil_from_length}
 use Rattle.scene_kinds.proofs.Choices.{none_of_false}
 use Rattle.scene_links.specs.Room.{LinksState, CanRelink}
 use Rattle.scene_links.proofs.Held.{same_parts}
-use Rattle.scene_links_tests.proofs.FirstLinks.{can_come}
-use Rattle.scene_links_tests.proofs.firsts.Firsts.may_come.Goals as goal
+use Rattle.scene_lower_tests.proofs.FirstLinks.{can_come}
+use Rattle.scene_lower_tests.proofs.firsts.Firsts.may_come.Goals as goal
 
 pub returns : goal.returns
 returns c within = subst (λ (s : LinksState). CanRelink s.forest c.args.child c.args.parent c.args.place) c.self.view_is

@@ -25,61 +25,6 @@ fn has_children(firsts: &Firsts, parent: u32, children: &[u32]) -> bool {
 }
 
 #[test]
-fn a_new_child_goes_last(rt: HostRuntime) -> Result<(), Fail> {
-    let mut firsts = linked(rt.alloc(), [(1, 0), (2, 1), (3, 0)].as_slice())?;
-    assert!(rt; !firsts.links().is_empty());
-    assert!(rt; has_children(&firsts, 0, &[1, 3]));
-    assert!(rt; firsts.links().parent_of(first(2)) == Some(first(1)));
-    assert!(rt; firsts.links().place_of(first(3)) == Some(1));
-    assert!(rt; firsts.links().place_of(first(0)) == None);
-    assert!(rt; firsts.link(1, 0) == Ok(()));
-    assert!(rt; has_children(&firsts, 0, &[3, 1]));
-    Ok(())
-}
-
-#[test]
-fn a_cycle_is_refused(rt: HostRuntime) -> Result<(), Fail> {
-    let mut firsts = linked(rt.alloc(), [(1, 0), (2, 1)].as_slice())?;
-    assert!(rt; firsts.link(0, 2) == Err(Refusal::from(Fault::Cycle)));
-    assert!(rt; firsts.link(0, 0) == Err(Refusal::from(Fault::SelfParent)));
-    assert!(rt; firsts.links().parent_of(first(0)) == None);
-    assert!(rt; firsts.link(2, 0) == Ok(()));
-    assert!(rt; has_children(&firsts, 0, &[1, 2]));
-    assert!(rt; has_children(&firsts, 1, &[]));
-    Ok(())
-}
-
-#[test]
-fn descendants_come_before_their_parents(rt: HostRuntime) -> Result<(), Fail> {
-    let firsts = linked(rt.alloc(), [(1, 0), (2, 1), (3, 0), (4, 1)].as_slice())?;
-    let order = firsts.links().post_order(first(0))?;
-    assert_eq!(rt;
-        order.as_slice(),
-        [first(2), first(4), first(1), first(3), first(0)].as_slice()
-    );
-    Ok(())
-}
-
-#[test]
-fn parents_ascend_without_emptied_lists(rt: HostRuntime) -> Result<(), Fail> {
-    let mut firsts = linked(rt.alloc(), [(1, 5), (2, 3), (4, 2)].as_slice())?;
-    assert!(rt; firsts.unlink(2) == Ok((first(3), 0)));
-    let parents = firsts.links().parents()?;
-    assert_eq!(rt; parents.as_slice(), [first(2), first(5)].as_slice());
-    Ok(())
-}
-
-#[test]
-fn a_copy_of_links_stays(rt: HostRuntime) -> Result<(), Fail> {
-    let mut firsts = linked(rt.alloc(), [(1, 0), (2, 0)].as_slice())?;
-    let copy = firsts.links().try_clone()?;
-    assert!(rt; firsts.unlink(1) == Ok((first(0), 0)));
-    assert_eq!(rt; copy.children_of(first(0)), [first(1), first(2)].as_slice());
-    assert!(rt; copy.parent_of(first(1)) == Some(first(0)));
-    Ok(())
-}
-
-#[test]
 fn a_child_comes_back_to_its_place(rt: HostRuntime) -> Result<(), Fail> {
     let mut firsts = linked(rt.alloc(), [(1, 0), (2, 0), (3, 0)].as_slice())?;
     assert!(rt; firsts.unlink(2) == Ok((first(0), 1)));

@@ -1,4 +1,5 @@
-use super::*;
+//! Readers and writers that fail, at the limits and at each call in turn.
+use scene_streams::{MOST_BYTES, MOST_TURNS, ReadError, Sink, Source};
 use std::alloc::Global;
 use std::io;
 use std::io::{ErrorKind, Read, Write};
