@@ -3,7 +3,7 @@ use Rattle.std.specs.Prelude.{OnErr}
 use Rattle.scene_world.specs.Stage.{act}
 use Rattle.scene_queue.specs.Requests.{requests}
 use Rattle.scene_queue.specs.Queue.{IsPassed}
-use Rattle.scene_queue.proofs.queue.Queue.apply.Goals as goal
+use Rattle.scene_queue.proofs.queue.Queue.apply_at.Goals as goal
 
 pub returns-clause-passed : goal.returns-clause-passed
 returns-clause-passed g c =
