@@ -9,8 +9,9 @@ use Rattle.scene_kinds.specs.Map as map
 use Rattle.scene_kinds.specs.declared.entity.Entity.{Entity}
 use Rattle.scene_kinds.specs.declared.cells.Row.{Row}
 use Rattle.scene_kinds.specs.declared.shape.Shape.TheVariants as shape
-use Rattle.scene_world.specs.World.{World, home_of, mask_at, place_at, row_of, rows_at, rows_of}
-use Rattle.scene_world.proofs.Found.{some_home}
+use Rattle.scene_model.specs.World.{World, home_of, mask_at, place_at, row_of, rows_of}
+use Rattle.scene_table.specs.Tables.{rows_at}
+use Rattle.scene_model.proofs.Found.{some_home}
 use Rattle.scene_app.specs.Shown.{names_from}
 use Rattle.scene_app.specs.ShowSteps.{name_in, one_name}
 

@@ -1,11 +1,11 @@
 -- The stacks of worlds of a machine.
-use Rattle.std.proofs.Common.{◌≡◌, ℕ, ◌+◌, false, cond, List, [], ◌∷◌, ◌++◌, refl, ap, sym, ◌∙◌, Ok, nat_eq}
+use Rattle.std.proofs.Common.{◌≡◌, ℕ, ◌+◌, false, cond, List, [], ◌∷◌, ◌++◌, ap, sym, ◌∙◌, Ok, nat_eq}
 use mathlib.Core.List.{reverse}
 use Rattle.std.proofs.lemmas.List.{reverse-append}
 use Rattle.scene_kinds.specs.Answers.{refuse}
 use Rattle.scene_kinds.specs.declared.fault.Fault.TheVariants.{TickFull}
-use Rattle.scene_world.specs.World.{World}
-use Rattle.scene_world.specs.Machine.{Machine, undo, undone_to}
+use Rattle.scene_model.specs.World.{World}
+use Rattle.scene_model.specs.Machine.{undo, undone_to}
 
 -- the last world of the past becomes the world, and the world now goes last on the future
 pub undone : (past new_past future new_future : List World) (now before : World) (rewinds : ℕ) → past ≡ new_past ++ before ∷ [] → new_future ≡ future ++ now ∷ [] → nat_eq rewinds 18446744073709551615 ≡ false

@@ -8,7 +8,8 @@ use Rattle.scene_kinds.specs.KindSet.{has_kind}
 use Rattle.scene_kinds.specs.Schema.{Kinds}
 use Rattle.scene_kinds.specs.Shape.{shape_name, shape_of_value}
 use Rattle.scene_links.specs.Forest.{Forest, children_of, parents}
-use Rattle.scene_world.specs.World.{World, kind_sets, rows_at}
+use Rattle.scene_model.specs.World.{World, kind_sets}
+use Rattle.scene_table.specs.Tables.{rows_at}
 use Rattle.scene_script.specs.Printed.{cell_text, row_text}
 
 -- numbers, each after a space (32)

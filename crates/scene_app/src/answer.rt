@@ -2,11 +2,11 @@
 ghost use Rattle.std.specs.Prelude.{◌≡◌, ◌≢◌, ◌≤◌, ◌+◌, ◌++◌, length, OnOk, IfOk, Some, None, codes, string_bytes, option_map};
 ghost use Rattle.scene_kinds.specs.Answers.{refusal_of};
 ghost use Rattle.scene_kinds.specs.declared.fault.Fault.TheVariants.{NoMemory};
-ghost use Rattle.scene_world.specs.Frame.{Undo as UndoCall, Redo as RedoCall, step};
+ghost use Rattle.scene_model.specs.Frame.{Undo as UndoCall, Redo as RedoCall, step};
 ghost use Rattle.scene_script.specs.declared.script_line.Line.TheVariants.{Begin};
 ghost use Rattle.scene_queue.specs.Frames.{frame_of};
 ghost use Rattle.scene_app.specs.OpenFrame.{Opened, alone, queue_count};
-ghost use Rattle.scene_world.specs.World.{row_of};
+ghost use Rattle.scene_model.specs.World.{row_of};
 ghost use Rattle.scene_app.specs.Play.{line_reply, lone_reply, frame_reply, said_reply, call_reply, submit_reply, made_text, refused_text, row_answer, undone_text, redone_text, mark_text, changed_text, added_text, cursor_of, with_cursor, with_frame};
 ghost use Rattle.scene_app.specs.Steps.{Replies};
 

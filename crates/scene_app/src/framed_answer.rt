@@ -46,7 +46,7 @@ fn answer_queue(
     out.push_str("ok\n")
 }
 
-/// `commit`.
+/// `commit`. The frame is over, whatever the answer is.
 fn answer_commit(
     alloc: Global,
     out: &mut String,

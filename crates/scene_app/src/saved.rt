@@ -2,8 +2,8 @@
 ghost use Rattle.std.specs.Prelude.{◌≡◌, ◌≢◌, ◌≤◌, length, Ok, Err, IfOk, IfErr, OnErr, MatchResult};
 ghost use Rattle.scene_kinds.specs.Answers.{Answers, refusal_of};
 ghost use Rattle.scene_kinds.specs.declared.fault.Fault.TheVariants.{NoMemory};
-ghost use Rattle.scene_world.specs.Machine.{opening, undo, redo};
-ghost use Rattle.scene_world.specs.Frame.{Submit, call, frame};
+ghost use Rattle.scene_model.specs.Machine.{opening, undo, redo};
+ghost use Rattle.scene_model.specs.Frame.{Submit, call, frame};
 ghost use Rattle.scene_queue.specs.Frames.{frame_of};
 
 use scene_kinds::{Entity, Fault, Refusal};
@@ -24,8 +24,8 @@ pub(crate) struct Saved {
 
 impl Model for Saved {
     ghost use mathlib.Core.List.{reverse};
-    ghost use Rattle.scene_world.specs.World.{World as Whole};
-    ghost use Rattle.scene_world.specs.Machine.{Machine};
+    ghost use Rattle.scene_model.specs.World.{World as Whole};
+    ghost use Rattle.scene_model.specs.Machine.{Machine};
 
     ghost Value = { Machine Whole };
 

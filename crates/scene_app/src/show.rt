@@ -1,7 +1,8 @@
 //! The printed text of a whole world.
 ghost use Rattle.std.specs.Prelude.{◌≡◌, ◌++◌, ◌<◌, OnOk, IfOk, Some, length, map, slice_get, string_bytes, option_map};
 ghost use Rattle.scene_kinds.specs.declared.cells.Row.{Row};
-ghost use Rattle.scene_world.specs.World.{kind_sets, rows_at, row_of};
+ghost use Rattle.scene_model.specs.World.{kind_sets, row_of};
+ghost use Rattle.scene_table.specs.Tables.{rows_at};
 ghost use Rattle.scene_links.specs.Forest.{parents};
 ghost use Rattle.scene_resources.specs.Resources.{cell_of};
 ghost use Rattle.scene_script.specs.Printed.{cells_text, row_text};

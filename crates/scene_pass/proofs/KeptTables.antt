@@ -2,7 +2,8 @@
 use Rattle.std.proofs.Common.{◌≡◌, ℕ, true, false, cond, Bor, List, [], ◌∷◌, ◌++◌, map as each, refl, ap, sym, ◌∙◌}
 use Rattle.std.specs.List.{filter, flat_map}
 use Rattle.scene_table.specs.Table.{TableState}
-use Rattle.scene_world.specs.World.{World, rows_at}
+use Rattle.scene_model.specs.World.{World}
+use Rattle.scene_table.specs.Tables.{rows_at}
 use Rattle.scene_pass.specs.declared.filter.Filter.{Filter}
 use Rattle.scene_pass.specs.Filter.{is_match}
 use Rattle.scene_pass.specs.Pass.{rows_in}

@@ -17,12 +17,13 @@ use Rattle.scene_kinds.specs.Map as map_of
 use Rattle.scene_kinds.specs.Schema.{Kinds, fits_kind}
 use Rattle.scene_kinds.proofs.CellLaws.{first_below, rest_ascends, below_none}
 use Rattle.scene_kinds.proofs.Maps.{equal_keys, ties_itself}
-use Rattle.scene_world.specs.declared.home.Home.{Home}
-use Rattle.scene_world.specs.World.{World, rows_at, row_at, row_of, home_of, mask_at, component_of, component_in, is_unknown, kind_sets, present}
-use Rattle.scene_world.specs.Valid.{IsValid}
-use Rattle.scene_world.proofs.Homes.{home_is}
-use Rattle.scene_world.proofs.RowKinds.{fits_known}
-use Rattle.scene_world.proofs.Found.{some_home}
+use Rattle.scene_table.specs.declared.home.Home.{Home}
+use Rattle.scene_model.specs.World.{World, row_of, home_of, mask_at, component_of, component_in, is_unknown, kind_sets, present}
+use Rattle.scene_table.specs.Tables.{rows_at, row_at}
+use Rattle.scene_model.specs.Valid.{IsValid}
+use Rattle.scene_table.proofs.Homes.{home_is}
+use Rattle.scene_model.proofs.RowKinds.{fits_known}
+use Rattle.scene_model.proofs.Found.{some_home}
 use Rattle.scene_pass.specs.declared.filter.Filter.{Filter}
 use Rattle.scene_pass.specs.declared.cell_name.CellName.{CellName}
 use Rattle.scene_pass.specs.Filter.{is_match}

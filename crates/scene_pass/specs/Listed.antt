@@ -2,7 +2,7 @@
 use Rattle.std.specs.Prelude.{◌≡◌, ℕ, true, Some, Ok}
 use Rattle.scene_kinds.specs.declared.entity.Entity.{Entity}
 use Rattle.scene_kinds.specs.declared.cell.Cell.{Cell}
-use Rattle.scene_world.specs.World.{World, mask_at, component_of}
+use Rattle.scene_model.specs.World.{World, mask_at, component_of}
 use Rattle.scene_pass.specs.declared.cell_name.CellName.{CellName}
 use Rattle.scene_pass.specs.declared.filter.Filter.{Filter}
 use Rattle.scene_pass.specs.Filter.{is_match}

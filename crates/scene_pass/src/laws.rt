@@ -2,8 +2,8 @@
 ghost use Rattle.std.specs.Prelude.{◌≡◌, ◌↔◌, IsTrue, ℕ, ◌<◌, [], ◌∷◌};
 ghost use Rattle.std.specs.List.{Contains};
 ghost use Rattle.scene_kinds.specs.declared.entity.Entity.{Entity};
-ghost use Rattle.scene_world.specs.World.{World};
-ghost use Rattle.scene_world.specs.Valid.{IsValid};
+ghost use Rattle.scene_model.specs.World.{World};
+ghost use Rattle.scene_model.specs.Valid.{IsValid};
 ghost use Rattle.scene_pass.specs.declared.cell_name.CellName.{CellName};
 ghost use Rattle.scene_pass.specs.declared.filter.Filter.{Filter};
 ghost use Rattle.scene_pass.specs.Filter.{is_match, SaysEachKind};

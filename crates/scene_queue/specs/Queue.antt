@@ -4,7 +4,7 @@ use Rattle.scene_kinds.specs.declared.entity.Entity.{Entity}
 use Rattle.scene_kinds.specs.declared.fault.Fault.TheVariants.{QueueFull}
 use Rattle.scene_kinds.specs.declared.refusal.Refusal.{Refusal}
 use Rattle.scene_kinds.specs.Answers.{Outcome, refuse}
-use Rattle.scene_world.specs.Queue.{Request, Act, reached, whole, stopped, play, refused_at}
+use Rattle.scene_model.specs.Queue.{Request, Act, reached, whole, stopped, play, refused_at}
 use Rattle.scene_queue.specs.declared.command.Command.{Command}
 use Rattle.scene_queue.specs.declared.queue.Returned.{Returned}
 use Rattle.scene_queue.specs.declared.command.Command.TheVariants.{Spawn}
@@ -18,9 +18,11 @@ pub record QueueState : Type 0 where
 abbrev pub usual_limit : ℕ
 usual_limit = 67108864
 
+-- a queue with no commands yet
 abbrev pub empty_queue : ℕ → QueueState
 empty_queue limit = record { limit = limit; commands = [] }
 
+-- how many entities one command will have spawned
 abbrev pub spawned_by : Command → ℕ
 spawned_by (Spawn cells) = 1
 spawned_by c = 0

@@ -2,9 +2,9 @@
 ghost use Rattle.std.specs.Prelude.{◌≡◌, ◌≢◌, ◌<◌, ◌^◌, length, Ok, Err, IfOk, IfErr, OnErr, vec_len, vec_capacity};
 ghost use Rattle.scene_kinds.specs.Answers.{Answers, refusal_of};
 ghost use Rattle.scene_kinds.specs.declared.fault.Fault.TheVariants.{NoMemory};
-ghost use Rattle.scene_world.specs.Queue.{and_spawned, play, reached, refused_at, request, whole};
-ghost use Rattle.scene_world.specs.Perform.{SetParent, perform};
-ghost use Rattle.scene_world.specs.Frame.{queue as one_queue};
+ghost use Rattle.scene_model.specs.Queue.{and_spawned, play, reached, refused_at, request, whole};
+ghost use Rattle.scene_model.specs.Perform.{SetParent, perform};
+ghost use Rattle.scene_model.specs.Frame.{queue as one_queue};
 ghost use Rattle.scene_world.specs.Stage.{act};
 ghost use Rattle.scene_queue.specs.Requests.{on_both, request_of, requests};
 ghost use Rattle.scene_queue.specs.Queue.{IsPassed, Stops};

@@ -2,8 +2,8 @@
 ghost use Rattle.std.specs.Prelude.{◌≡◌, ◌≢◌, ◌≤◌, length, Ok, Err, IfOk, IfErr, OnErr, MatchResult};
 ghost use Rattle.scene_kinds.specs.Answers.{refusal_of};
 ghost use Rattle.scene_kinds.specs.declared.fault.Fault.TheVariants.{NoMemory};
-ghost use Rattle.scene_world.specs.Perform.{perform};
-ghost use Rattle.scene_world.specs.Frame.{queues_from};
+ghost use Rattle.scene_model.specs.Perform.{perform};
+ghost use Rattle.scene_model.specs.Frame.{queues_from};
 ghost use Rattle.scene_world.specs.Stage.{act};
 ghost use Rattle.scene_queue.specs.Frames.{frame_of, ArePassed};
 

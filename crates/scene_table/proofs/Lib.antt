@@ -1,8 +1,13 @@
 pub mod ColumnCells
 pub mod ColumnLists
+pub mod Homes
 pub mod KindLists
+pub mod Lives
 pub mod Moves
 pub mod Parts
+pub mod ReturnedRows
+pub mod RowLists
+pub mod Standing
 pub mod Swaps
 pub mod TableFacts
 pub mod TableRows

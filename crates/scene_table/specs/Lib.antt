@@ -1,3 +1,4 @@
 pub mod Columns
 pub mod Rows
 pub mod Table
+pub mod Tables

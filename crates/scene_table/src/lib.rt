@@ -5,6 +5,9 @@
 //! the added ticks and the changed ticks. Contracts see the kind set, the list of rows, and the
 //! capacity: for how many rows there is memory in all columns.
 //!
+//! `Home` names a row among the tables of all kind sets; specs/Tables.antt says what is read of those and how they
+//! change.
+//!
 //! Only `reserve`, and `push_row` and `unswap` by it, take memory for rows, and nothing gives it
 //! back, so that a change can be undone without a refusal: each call that changes a table says what
 //! capacity it leaves, and each by which a row leaves, that there is room for it to come back.
@@ -13,11 +16,11 @@
 mod column;
 mod columns;
 mod entities;
+mod home;
 mod rows;
 mod table;
-#[cfg(test)]
-mod tests;
 
 pub use column::ColumnRef;
+pub use home::Home;
 pub use rows::{put_back_comes_back, swap_out_comes_back};
 pub use table::Table;

@@ -2,9 +2,8 @@
 use Rattle.std.proofs.Common.{◌≡◌, ℕ, List, [], ◌∷◌, ◌++◌, refl, ap}
 use Rattle.scene_kinds.specs.declared.cell.Cell.{Cell}
 use Rattle.scene_kinds.specs.declared.value.Value.{Value}
-use Rattle.scene_kinds.specs.Cells.{with_cell}
-use Rattle.scene_kinds.specs.Cells.{new_cell}
-use Rattle.scene_world.specs.Commands.{new_cells}
+use Rattle.scene_kinds.specs.Cells.{with_cell, new_cell}
+use Rattle.scene_model.specs.Commands.{new_cells}
 use Rattle.scene_world.specs.Onto.{cells_onto}
 
 pub onto_last : (tick : ℕ) (cs : List (ℕ × Value)) (c : ℕ × Value) (cells : List (ℕ × Cell)) → cells_onto tick (cs ++ c ∷ []) cells ≡ cells_onto tick cs (with_cell cells c.0 (new_cell tick c.1))

@@ -3,10 +3,10 @@ use Rattle.std.specs.Prelude.{List, ◌++◌, Option, Some, None, Result, Ok, Er
 use Rattle.scene_kinds.specs.declared.refusal.Refusal.{Refusal}
 use Rattle.scene_kinds.specs.Answers.{Outcome, Answers}
 use Rattle.scene_kinds.specs.declared.entity.Entity.{Entity}
-use Rattle.scene_world.specs.World.{World, is_live}
-use Rattle.scene_world.specs.Commands.{spawn, despawn, despawn_recursive, insert, remove, set_parent, remove_parent, put_resource, remove_resource}
-use Rattle.scene_world.specs.Perform.{Command, Spawn, Despawn, DespawnRecursive, DespawnRecursiveIfAlive, Insert, Remove, SetParent, RemoveParent, PutResource, RemoveResource, answering}
-use Rattle.scene_world.specs.Queue.{Act}
+use Rattle.scene_model.specs.World.{World, is_live}
+use Rattle.scene_model.specs.Commands.{spawn, despawn, despawn_recursive, insert, remove, set_parent, remove_parent, put_resource, remove_resource}
+use Rattle.scene_model.specs.Perform.{Command, Spawn, Despawn, DespawnRecursive, DespawnRecursiveIfAlive, Insert, Remove, SetParent, RemoveParent, PutResource, RemoveResource, answering}
+use Rattle.scene_model.specs.Queue.{Act}
 
 pub record Staged (N : Type 0) : Type 0 where
   pub world : World

@@ -2,8 +2,8 @@
 ghost use Rattle.std.specs.Prelude.{◌≡◌, IfOk, nat_eq, not};
 ghost use Rattle.std.specs.List.{list_any};
 ghost use Rattle.scene_kinds.specs.Schema.{fits_kind};
-ghost use Rattle.scene_world.specs.World.{is_unknown};
-ghost use Rattle.scene_world.specs.Commands.{any_twice, spawn_fault, insert_fault, new_cells};
+ghost use Rattle.scene_model.specs.World.{is_unknown};
+ghost use Rattle.scene_model.specs.Commands.{any_twice, spawn_fault, insert_fault, new_cells};
 
 use scene_kinds::{Cell, Cells, Fault, Schema, Value};
 use std::alloc::{AllocError, Global};

@@ -3,14 +3,14 @@ ghost use Rattle.std.specs.Prelude.{◌≡◌, ◌<◌, Some, OnOk, OnErr, IsSom
 ghost use Rattle.scene_kinds.specs.Cells.{HasKinds, AreKindsBelow, cell_of, without_cell};
 ghost use Rattle.scene_kinds.specs.declared.cells.Row.{Row};
 ghost use Rattle.scene_table.specs.Table.{cell_at};
-ghost use Rattle.scene_world.specs.World.{rows_at, row_at};
-ghost use Rattle.scene_world.specs.Commands.{after_move, after_insert};
-ghost use Rattle.scene_world.specs.KindTables.{IsWithin};
-ghost use Rattle.scene_world.specs.Archetypes.{StandsIn};
+ghost use Rattle.scene_table.specs.Tables.{rows_at, row_at};
+ghost use Rattle.scene_model.specs.Commands.{after_move, after_insert};
+ghost use Rattle.scene_archetypes.specs.KindTables.{IsWithin};
+ghost use Rattle.scene_table.specs.Tables.{StandsIn};
 ghost use Rattle.std.specs.Option.{option_map};
 
-use crate::archetypes::Archetypes;
-use crate::home::Home;
+use scene_archetypes::Archetypes;
+use scene_table::Home;
 use scene_kinds::{Cell, Entity, Value, set_with, set_without};
 use std::alloc::AllocError;
 

@@ -1,7 +1,7 @@
 //! What commands can be applied to: a world, or whatever keeps notes of what is done to one.
 ghost use Rattle.std.specs.Prelude.{◌≡◌, List, []};
-ghost use Rattle.scene_world.specs.Commands.{spawn, despawn, despawn_recursive, insert, remove, set_parent, remove_parent, put_resource, remove_resource};
-ghost use Rattle.scene_world.specs.Perform.{Spawn, Despawn, DespawnRecursive, Insert, Remove, SetParent, RemoveParent, PutResource, RemoveResource};
+ghost use Rattle.scene_model.specs.Commands.{spawn, despawn, despawn_recursive, insert, remove, set_parent, remove_parent, put_resource, remove_resource};
+ghost use Rattle.scene_model.specs.Perform.{Spawn, Despawn, DespawnRecursive, Insert, Remove, SetParent, RemoveParent, PutResource, RemoveResource};
 ghost use Rattle.scene_world.specs.Stage.{Staged, Note as NoteOf, AnswersNoted};
 
 use crate::world::World;

@@ -2,10 +2,11 @@
 ghost use Rattle.std.specs.Prelude.{◌≡◌, ◌≤◌, MatchResult, IfOk, IfSome, Ok, Err, option_map, map as each};
 ghost use Rattle.scene_kinds.specs.Answers.{Gives};
 ghost use Rattle.scene_kinds.specs.Cells.{shown};
-ghost use Rattle.scene_world.specs.World.{new_world, is_live, mask_at, home_of, component_of, place_at, rows_at, rows_of, kind_sets};
-ghost use Rattle.scene_world.specs.Commands.{raise_tick};
-ghost use Rattle.scene_world.specs.Stored.{IsHomeOf};
-ghost use Rattle.scene_world.specs.Valid.{IsValid};
+ghost use Rattle.scene_model.specs.World.{new_world, is_live, mask_at, home_of, component_of, place_at, rows_of, kind_sets};
+ghost use Rattle.scene_table.specs.Tables.{rows_at};
+ghost use Rattle.scene_model.specs.Commands.{raise_tick};
+ghost use Rattle.scene_model.specs.World.{IsHomeOf};
+ghost use Rattle.scene_model.specs.Valid.{IsValid};
 
 mod despawn;
 mod despawn_recursive;
@@ -17,9 +18,9 @@ mod remove_resource;
 mod set_parent;
 mod spawn;
 
-use crate::archetypes::Archetypes;
+use scene_archetypes::Archetypes;
 use crate::given::is_unknown;
-use crate::home::Home;
+use scene_table::Home;
 use scene_alloc::Slots;
 use scene_kinds::{CellRef, Entity, Fault, Refusal, Schema};
 use scene_links::Links;
@@ -55,14 +56,14 @@ impl Model for World {
     ghost use Rattle.scene_kinds.specs.Entity.{entity_cmp};
     ghost use Rattle.scene_kinds.specs.Map as map;
     ghost use Rattle.scene_resources.specs.Resources.{name_cmp};
-    ghost use Rattle.scene_world.specs.World.{World as Whole};
+    ghost use Rattle.scene_model.specs.World.{World as Whole};
 
     ghost Value = { Whole };
 
     ghost coded = { Prim.hlevel (codes, shape.the_row.coded, map.code {R = nat_cmp} coded_ℕ (coded× row.the_row.coded (coded_list row.the_row.coded)), map.code {R = entity_cmp} entity.the_row.coded (coded× entity.the_row.coded (coded_list entity.the_row.coded)), map.code {R = name_cmp} (coded_list coded_ℕ) cell.the_row.coded) };
 
     ghost use Rattle.scene_world.specs.Stored.{world_of};
-    ghost use Rattle.scene_world.specs.Valid.{IsValid};
+    ghost use Rattle.scene_model.specs.Valid.{IsValid};
 
     ghost view = { λ w. world_of w.schema w.slots w.tick w.tables.tables w.links.forest w.resources };
 

@@ -1,7 +1,7 @@
 //! Despawning an entity.
 ghost use Rattle.std.specs.Prelude.{◌≡◌};
 ghost use Rattle.scene_kinds.specs.Answers.{Gives};
-ghost use Rattle.scene_world.specs.Commands.{despawn};
+ghost use Rattle.scene_model.specs.Commands.{despawn};
 
 use crate::world::World;
 use scene_kinds::{Entity, Fault, Refusal};

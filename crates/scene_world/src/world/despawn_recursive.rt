@@ -1,6 +1,6 @@
 //! Despawning an entity with all below it.
 ghost use Rattle.scene_kinds.specs.Answers.{Answers};
-ghost use Rattle.scene_world.specs.Commands.{despawn_recursive};
+ghost use Rattle.scene_model.specs.Commands.{despawn_recursive};
 
 use crate::world::World;
 use scene_kinds::{Entity, Fault, Refusal};

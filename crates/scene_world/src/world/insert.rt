@@ -1,7 +1,7 @@
 //! Inserting a component.
 ghost use Rattle.std.specs.Prelude.{◌≡◌};
 ghost use Rattle.scene_kinds.specs.Answers.{Answers};
-ghost use Rattle.scene_world.specs.Commands.{insert};
+ghost use Rattle.scene_model.specs.Commands.{insert};
 
 use crate::given::insert_fault;
 use crate::moves::insert_at;

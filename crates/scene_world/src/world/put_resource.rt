@@ -1,7 +1,7 @@
 //! Putting a resource.
 ghost use Rattle.std.specs.Prelude.{◌≡◌};
 ghost use Rattle.scene_kinds.specs.Answers.{Answers};
-ghost use Rattle.scene_world.specs.Commands.{put_resource};
+ghost use Rattle.scene_model.specs.Commands.{put_resource};
 
 use crate::world::World;
 use scene_kinds::{Fault, Refusal, Value, good_name};

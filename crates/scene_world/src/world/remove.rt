@@ -1,7 +1,7 @@
 //! Removing a component.
 ghost use Rattle.std.specs.Prelude.{◌≡◌};
 ghost use Rattle.scene_kinds.specs.Answers.{Answers};
-ghost use Rattle.scene_world.specs.Commands.{remove};
+ghost use Rattle.scene_model.specs.Commands.{remove};
 
 use crate::given::is_unknown;
 use crate::moves::remove_at;

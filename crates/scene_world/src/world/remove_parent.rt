@@ -1,7 +1,7 @@
 //! Removing the parent of an entity.
 ghost use Rattle.std.specs.Prelude.{◌≡◌};
 ghost use Rattle.scene_kinds.specs.Answers.{Gives};
-ghost use Rattle.scene_world.specs.Commands.{remove_parent};
+ghost use Rattle.scene_model.specs.Commands.{remove_parent};
 
 use crate::world::World;
 use scene_kinds::{Entity, Fault, Refusal};

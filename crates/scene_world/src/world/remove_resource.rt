@@ -1,7 +1,7 @@
 //! Removing a resource.
 ghost use Rattle.std.specs.Prelude.{◌≡◌};
 ghost use Rattle.scene_kinds.specs.Answers.{Gives};
-ghost use Rattle.scene_world.specs.Commands.{remove_resource};
+ghost use Rattle.scene_model.specs.Commands.{remove_resource};
 
 use crate::world::World;
 use scene_kinds::Refusal;

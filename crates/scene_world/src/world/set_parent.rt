@@ -1,7 +1,7 @@
 //! Setting the parent of an entity.
 ghost use Rattle.std.specs.Prelude.{◌≡◌};
 ghost use Rattle.scene_kinds.specs.Answers.{Answers};
-ghost use Rattle.scene_world.specs.Commands.{set_parent};
+ghost use Rattle.scene_model.specs.Commands.{set_parent};
 
 use crate::world::World;
 use scene_kinds::{Entity, Fault, Refusal};

@@ -4,13 +4,13 @@ ghost use Rattle.scene_kinds.specs.Answers.{Answers, refusal_of};
 ghost use Rattle.scene_kinds.specs.Cells.{IsAscending, mask_of};
 ghost use Rattle.scene_kinds.specs.declared.fault.Fault.TheVariants.{NoMemory};
 ghost use Rattle.scene_alloc.specs.Slots.{take_of};
-ghost use Rattle.scene_world.specs.Commands.{spawn};
-ghost use Rattle.scene_world.specs.World.{with_row};
-ghost use Rattle.scene_world.specs.Archetypes.{NoneOf};
+ghost use Rattle.scene_model.specs.Commands.{spawn};
+ghost use Rattle.scene_table.specs.Tables.{with_row};
+ghost use Rattle.scene_table.specs.Tables.{NoneOf};
 ghost use Rattle.scene_alloc.specs.Slots.{SlotState};
 ghost use Rattle.scene_kinds.specs.declared.entity.Entity.{Entity};
 
-use crate::archetypes::Archetypes;
+use scene_archetypes::Archetypes;
 use crate::given::{new_cells, spawn_fault};
 use crate::world::World;
 use scene_alloc::Slots;

@@ -1,6 +1,6 @@
 use Rattle.std.proofs.Common.{◌≡◌, ◌++◌, ap, sym, ◌∙◌, subst, arith, string_bytes}
 use Rattle.std.specs.Str.Lines.{lines}
-use Rattle.scene_world.specs.World.{World}
+use Rattle.scene_model.specs.World.{World}
 use Rattle.scene_script.specs.Script.{line_in}
 use Rattle.scene_app.specs.Play.{said_reply, run_from}
 use Rattle.scene_app.specs.Steps.{LinePlayed, noted}

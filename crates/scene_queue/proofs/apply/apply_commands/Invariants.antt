@@ -1,5 +1,5 @@
 use Rattle.std.proofs.Common.{◌≡◌, take}
-use Rattle.scene_world.specs.Queue.{reached, whole, play}
+use Rattle.scene_model.specs.Queue.{reached, whole, play}
 use Rattle.scene_world.specs.Stage.{act}
 use Rattle.scene_queue.specs.Requests.{requests}
 use Rattle.scene_queue.proofs.apply.apply_commands.Given as goal

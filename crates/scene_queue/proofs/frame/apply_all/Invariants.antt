@@ -1,5 +1,5 @@
 use Rattle.std.proofs.Common.{◌≡◌, take, Ok}
-use Rattle.scene_world.specs.Frame.{queues_from}
+use Rattle.scene_model.specs.Frame.{queues_from}
 use Rattle.scene_world.specs.Stage.{act}
 use Rattle.scene_queue.specs.Frames.{frame_of}
 use Rattle.scene_queue.proofs.frame.apply_all.Given as goal

@@ -1,5 +1,5 @@
 use Rattle.std.proofs.Common.{◌≡◌, drop}
-use Rattle.scene_world.specs.Commands.{any_twice}
+use Rattle.scene_model.specs.Commands.{any_twice}
 use Rattle.scene_world.proofs.given.any_repeated.Given as goal
 
 abbrev pub invariant-loop-i : goal.invariant-loop-i

@@ -1,5 +1,5 @@
 use Rattle.std.proofs.Common.{◌≡◌, length}
-use Rattle.scene_world.specs.Commands.{new_cells}
+use Rattle.scene_model.specs.Commands.{new_cells}
 use Rattle.scene_world.specs.Onto.{cells_onto}
 use Rattle.scene_world.proofs.given.new_cells.Given as goal
 

@@ -4,13 +4,12 @@ use Rattle.scene_kinds.specs.Cells.{with_cell}
 use Rattle.scene_kinds.specs.KindSet.{set_with}
 use Rattle.scene_kinds.proofs.KindSets.{mask_of-with_cell}
 use Rattle.scene_table.specs.Table.{row_with_cell}
-use Rattle.scene_world.specs.World.{rows_at, row_at, without_row}
-use Rattle.scene_world.specs.Commands.{after_insert, after_move}
-use Rattle.scene_world.specs.Raw.{with_row_back}
-use Rattle.scene_world.proofs.KindThere.{kind_absent, cell_absent}
-use Rattle.scene_world.proofs.ReturnedRows.{moved_last}
-use Rattle.scene_world.proofs.Rooms.{gained_apart}
-use Rattle.scene_world.proofs.WrittenHomes.{row_standing}
+use Rattle.scene_table.specs.Tables.{rows_at, row_at, without_row, with_row_back}
+use Rattle.scene_model.specs.Commands.{after_insert, after_move}
+use Rattle.scene_archetypes.proofs.RowKinds.{kind_absent, cell_absent}
+use Rattle.scene_table.proofs.ReturnedRows.{moved_last}
+use Rattle.scene_archetypes.proofs.Rooms.{gained_apart}
+use Rattle.scene_archetypes.proofs.WrittenHomes.{row_standing}
 use Rattle.scene_world.proofs.moves.insert_at.Goals as goal
 
 pub move_with-requires-clause-lacks : goal.move_with-requires-clause-lacks

@@ -2,12 +2,11 @@ use Rattle.std.proofs.Common.{◌≡◌, ◌∙◌, ap, sym, length, arith}
 use Rattle.scene_kinds.specs.KindSet.{set_without}
 use Rattle.scene_kinds.proofs.KindSets.{mask_of-without_cell}
 use Rattle.scene_table.specs.Table.{row_without_cell}
-use Rattle.scene_world.specs.World.{rows_at, row_at, without_row}
-use Rattle.scene_world.specs.Raw.{with_row_back}
-use Rattle.scene_world.proofs.KindThere.{kind_there}
-use Rattle.scene_world.proofs.ReturnedRows.{moved_last}
-use Rattle.scene_world.proofs.Rooms.{lost_apart}
-use Rattle.scene_world.proofs.WrittenHomes.{row_standing}
+use Rattle.scene_table.specs.Tables.{rows_at, row_at, without_row, with_row_back}
+use Rattle.scene_archetypes.proofs.RowKinds.{kind_there}
+use Rattle.scene_table.proofs.ReturnedRows.{moved_last}
+use Rattle.scene_archetypes.proofs.Rooms.{lost_apart}
+use Rattle.scene_archetypes.proofs.WrittenHomes.{row_standing}
 use Rattle.scene_world.proofs.moves.remove_at.Goals as goal
 
 pub move_without-cell-requires-clause-has : goal.move_without-cell-requires-clause-has

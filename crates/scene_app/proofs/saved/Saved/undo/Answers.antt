@@ -1,7 +1,7 @@
 use Rattle.std.proofs.Common.{◌++◌, ◌∷◌, [], ◌∙◌, ap, sym}
 use Rattle.std.proofs.lemmas.Bool.{ne_eqb}
-use Rattle.scene_world.specs.World.{World}
-use Rattle.scene_world.specs.Machine.{undo}
+use Rattle.scene_model.specs.World.{World}
+use Rattle.scene_model.specs.Machine.{undo}
 use Rattle.scene_app.proofs.Stacks.{undone}
 use Rattle.scene_app.proofs.saved.Saved.undo.Goals as goal
 

@@ -3,12 +3,12 @@ use Rattle.std.specs.Prelude.{is_some, ◌==◌}
 use Rattle.scene_kinds.specs.Map as map
 use Rattle.scene_kinds.specs.declared.entity.Entity.{Entity}
 use Rattle.scene_alloc.specs.Slots.{CanRelease}
-use Rattle.scene_world.specs.World.{World}
-use Rattle.scene_world.specs.Commands.{after_despawn}
-use Rattle.scene_world.specs.Stored.{world_of, IsHomeOf}
-use Rattle.scene_world.specs.Valid.{IsValid}
-use Rattle.scene_world.proofs.DespawnKeeps.{can_release, gone_valid, childless, unlinked_cut}
-use Rattle.scene_world.proofs.Found.{stands_in}
+use Rattle.scene_model.specs.World.{World, IsHomeOf}
+use Rattle.scene_model.specs.Commands.{after_despawn}
+use Rattle.scene_world.specs.Stored.{world_of}
+use Rattle.scene_model.specs.Valid.{IsValid}
+use Rattle.scene_model.proofs.DespawnKeeps.{can_release, gone_valid, childless, unlinked_cut}
+use Rattle.scene_model.proofs.Found.{stands_in}
 use Rattle.scene_world.proofs.world.World.despawn.Goals as goal
 
 pub drop_row-requires : goal.drop_row-requires

@@ -1,9 +1,9 @@
 use Rattle.std.proofs.Common.{◌≡◌, true, not, ap, sym, ◌∙◌}
 use Rattle.std.specs.Prelude.{is_some}
 use Rattle.scene_links.specs.Forest.{post}
-use Rattle.scene_world.specs.World.{is_live}
-use Rattle.scene_world.proofs.Outcomes.{not_ok}
-use Rattle.scene_world.proofs.DespawnEach.{none_went, next_goes, all_went}
+use Rattle.scene_model.specs.World.{is_live}
+use Rattle.scene_model.proofs.Outcomes.{not_ok}
+use Rattle.scene_model.proofs.DespawnEach.{none_went, next_goes, all_went}
 use Rattle.scene_world.proofs.world.World.despawn_recursive.Goals as goal
 
 pub loop-next-init : goal.loop-next-init

@@ -1,4 +1,4 @@
-use Rattle.scene_world.proofs.DespawnEach.{IsUnderWay}
+use Rattle.scene_model.proofs.DespawnEach.{IsUnderWay}
 use Rattle.scene_world.proofs.world.World.despawn_recursive.Given as goal
 
 abbrev pub invariant-loop-next : goal.invariant-loop-next

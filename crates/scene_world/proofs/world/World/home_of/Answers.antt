@@ -1,7 +1,7 @@
 use Rattle.std.proofs.Common.{◌∙◌, ap, subst}
-use Rattle.scene_world.specs.World.{World, home_of}
-use Rattle.scene_world.specs.Valid.{IsValid}
-use Rattle.scene_world.proofs.Found.{some_home}
+use Rattle.scene_model.specs.World.{World, home_of}
+use Rattle.scene_model.specs.Valid.{IsValid}
+use Rattle.scene_model.proofs.Found.{some_home}
 use Rattle.scene_world.proofs.world.World.home_of.Goals as goal
 
 pub returns : goal.returns

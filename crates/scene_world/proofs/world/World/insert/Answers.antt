@@ -1,10 +1,11 @@
 use Rattle.std.proofs.Common.{sym, subst, refl}
 use Rattle.scene_kinds.specs.Cells.{cell_of}
-use Rattle.scene_world.specs.World.{World, Tables}
-use Rattle.scene_world.specs.Stored.{world_of, IsHomeOf}
-use Rattle.scene_world.specs.Valid.{IsValid}
-use Rattle.scene_world.proofs.MoveKeeps.{with_tables, insert_made}
-use Rattle.scene_world.proofs.NewCells.{insert_tests}
+use Rattle.scene_model.specs.World.{World, IsHomeOf}
+use Rattle.scene_table.specs.Tables.{Tables}
+use Rattle.scene_world.specs.Stored.{world_of}
+use Rattle.scene_model.specs.Valid.{IsValid}
+use Rattle.scene_model.proofs.MoveKeeps.{with_tables, insert_made}
+use Rattle.scene_model.proofs.NewCells.{insert_tests}
 use Rattle.scene_world.proofs.world.World.insert.Goals as goal
 
 pub insert_at-requires-clause-kinds : goal.insert_at-requires-clause-kinds

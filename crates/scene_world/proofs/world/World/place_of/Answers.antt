@@ -1,5 +1,5 @@
 use Rattle.std.proofs.Common.{◌<◌, arith}
-use Rattle.scene_world.proofs.Bounds.{place_low}
+use Rattle.scene_model.proofs.Bounds.{place_low}
 use Rattle.scene_world.proofs.world.World.place_of.Goals as goal
 
 pub overflow_cast-result : goal.overflow_cast-result

@@ -1,10 +1,10 @@
 use Rattle.std.proofs.Common.{◌∙◌, sym, subst}
 use Rattle.scene_resources.specs.Resources.{NamedCells}
-use Rattle.scene_world.specs.World.{World}
-use Rattle.scene_world.specs.Commands.{with_resources}
+use Rattle.scene_model.specs.World.{World}
+use Rattle.scene_model.specs.Commands.{with_resources}
 use Rattle.scene_world.specs.Stored.{world_of}
-use Rattle.scene_world.specs.Valid.{IsValid}
-use Rattle.scene_world.proofs.ResourceKeeps.{put_valid}
+use Rattle.scene_model.specs.Valid.{IsValid}
+use Rattle.scene_model.proofs.ResourceKeeps.{put_valid}
 use Rattle.scene_world.proofs.world.World.put_resource.Goals as goal
 
 pub invariant_of-self-2 : goal.invariant_of-self-2

@@ -1,9 +1,10 @@
 use Rattle.std.proofs.Common.{sym, subst}
-use Rattle.scene_world.specs.World.{World, Tables}
-use Rattle.scene_world.specs.Stored.{world_of, IsHomeOf}
-use Rattle.scene_world.specs.Valid.{IsValid}
-use Rattle.scene_world.proofs.RowKinds.{row_kinds_low}
-use Rattle.scene_world.proofs.MoveKeeps.{with_tables, remove_made}
+use Rattle.scene_model.specs.World.{World, IsHomeOf}
+use Rattle.scene_table.specs.Tables.{Tables}
+use Rattle.scene_world.specs.Stored.{world_of}
+use Rattle.scene_model.specs.Valid.{IsValid}
+use Rattle.scene_model.proofs.RowKinds.{row_kinds_low}
+use Rattle.scene_model.proofs.MoveKeeps.{with_tables, remove_made}
 use Rattle.scene_world.proofs.world.World.remove.Goals as goal
 
 pub remove_at-requires-clause-kinds : goal.remove_at-requires-clause-kinds

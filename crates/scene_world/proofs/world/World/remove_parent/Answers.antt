@@ -1,6 +1,6 @@
-use Rattle.scene_world.specs.World.{World}
+use Rattle.scene_model.specs.World.{World}
 use Rattle.scene_world.specs.Stored.{world_of}
-use Rattle.scene_world.proofs.LinkKeeps.{unlinked_valid}
+use Rattle.scene_model.proofs.LinkKeeps.{unlinked_valid}
 use Rattle.scene_world.proofs.world.World.remove_parent.Goals as goal
 
 pub invariant_of-self-2 : goal.invariant_of-self-2

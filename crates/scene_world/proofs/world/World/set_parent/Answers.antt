@@ -1,7 +1,7 @@
 use Rattle.std.proofs.Common.{◌≡◌, ◌∙◌, ap, sym, true, false}
-use Rattle.scene_world.specs.World.{World, is_live}
+use Rattle.scene_model.specs.World.{World, is_live}
 use Rattle.scene_world.specs.Stored.{world_of}
-use Rattle.scene_world.proofs.LinkKeeps.{link_answered, live_alone}
+use Rattle.scene_model.proofs.LinkKeeps.{link_answered, live_alone}
 use Rattle.scene_world.proofs.world.World.set_parent.Goals.{then-is_alive, else-is_alive}
 use Rattle.scene_world.proofs.world.World.set_parent.Goals as goal
 

@@ -1,8 +1,7 @@
 use Rattle.std.proofs.Common.{◌∙◌, ap, length}
 use Rattle.scene_kinds.specs.declared.cells.Row.{Row}
-use Rattle.scene_world.specs.World.{rows_at}
-use Rattle.scene_world.specs.Raw.{with_row_back}
-use Rattle.scene_world.proofs.ReturnedRows.{back_last}
+use Rattle.scene_table.specs.Tables.{rows_at, with_row_back}
+use Rattle.scene_table.proofs.ReturnedRows.{back_last}
 use Rattle.scene_world.proofs.world.spawn.spawn_row.Goals as goal
 
 pub returns-clause-rows : goal.returns-clause-rows

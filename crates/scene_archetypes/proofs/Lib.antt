@@ -1,0 +1,6 @@
+pub mod Copies
+pub mod KindSets
+pub mod Rooms
+pub mod RowKinds
+pub mod Stored
+pub mod WrittenHomes

@@ -1,0 +1,30 @@
+use Rattle.std.proofs.Common.{◌<◌, ◌∙◌, ap, sym, subst, length}
+use Rattle.std.specs.Prelude.{slice_set}
+use Rattle.scene_table.specs.Rows.{swap_out}
+use Rattle.scene_table.specs.Tables.{rows_at}
+use Rattle.scene_archetypes.proofs.Rooms.{IsThere, IsStep, there, step, home_known}
+use Rattle.scene_archetypes.proofs.kind_tables.KindTables.drop_row.Goals as goal
+
+-- the table, and the tables after it
+here : (c : goal.After-index_mut) → IsThere c.args.self.now c.args.home.mask c.index_mut.result.now
+here c = there c.self.inside.tables.items c.as_slice.result.now c.args.self.now c.args.home.mask c.known_table-at.result c.index_mut.result.now c.self.view_is c.as_slice.ensures.value c.known_table-at.ensures c.index_mut.ensures.value
+
+after : (c : goal.After-self-1) → IsStep c.self.inside.kind_sets.keys c.args.self.now (slice_set c.self.inside.tables.items c.known_table-at.result c.drop_row.new.self) c.args.home.mask (swap_out (rows_at c.args.self.now.tables c.args.home.mask) c.args.home.place)
+after c =
+    let there = there c.self.inside.tables.items c.as_slice.result.now c.args.self.now c.args.home.mask c.known_table-at.result c.index_mut.result.now c.self.view_is c.as_slice.ensures.value c.known_table-at.ensures c.index_mut.ensures.value in
+    step c.self.inside.kind_sets.keys c.self.inside.tables.items c.as_slice.result.now c.args.self.now c.args.home.mask c.known_table-at.result c.index_mut.result.now c.drop_row.new.self (swap_out (rows_at c.args.self.now.tables c.args.home.mask) c.args.home.place) c.self.view_is c.as_slice.ensures.value c.known_table-at.ensures c.index_mut.ensures.value c.self.invariant c.drop_row.ensures.mask (c.drop_row.ensures.rows ∙ ap (λ rows. swap_out rows c.args.home.place) (sym there.rows)) c.drop_row.ensures.capacity
+
+pub known_table-at-requires-clause-known : goal.known_table-at-requires-clause-known
+known_table-at-requires-clause-known c = home_known c.self.inside.tables.items c.as_slice.result.now c.args.self.now c.args.home c.self.view_is c.as_slice.ensures.value c.requires
+
+pub drop_row-requires : goal.drop_row-requires
+drop_row-requires c = subst (λ rows. c.args.home.place < length rows) (here c).rows c.requires
+
+pub invariant_of-self : goal.invariant_of-self
+invariant_of-self c = (after c).listed
+
+pub returns-clause-tables : goal.returns-clause-tables
+returns-clause-tables c = (after c).tables
+
+pub returns-clause-rooms : goal.returns-clause-rooms
+returns-clause-rooms c = (after c).rooms

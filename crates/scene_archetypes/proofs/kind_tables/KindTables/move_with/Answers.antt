@@ -1,0 +1,82 @@
+use Rattle.std.proofs.Common.{◌≡◌, ◌<◌, ◌≤◌, ◌∙◌, ap, sym, subst, length, arith, refl, Some}
+use Rattle.std.specs.Prelude.{slice_set, slice_get}
+use Rattle.scene_kinds.specs.KindSet.{has_kind, set_with}
+use Rattle.scene_kinds.specs.declared.cells.Row.{Row}
+use Rattle.scene_table.specs.Rows.{swap_out, put_back}
+use Rattle.scene_table.specs.Table.{row_with_cell}
+use Rattle.scene_table.specs.Tables.{rows_at, row_at}
+use Rattle.scene_archetypes.specs.KindTables.{StandsAt, IsKnown, rooms_of}
+use Rattle.scene_archetypes.proofs.RowKinds.{row_there}
+use Rattle.scene_archetypes.proofs.Rooms.{IsThere, IsMoved, there, still_there, moved, home_known, room_known, gained_apart}
+use Rattle.scene_archetypes.proofs.kind_tables.KindTables.move_with.Goals as goal
+
+-- where the two tables stand, and that they are two
+at_from : (c : goal.After-index_mut-2) → StandsAt c.self.inside.tables.items c.args.home.mask c.known_table-from.result
+at_from c = subst (λ ts. StandsAt ts c.args.home.mask c.known_table-from.result) c.as_slice.ensures.value c.known_table-from.ensures
+
+at_to : (c : goal.After-index_mut-2) → StandsAt c.self.inside.tables.items (set_with c.args.home.mask c.args.kind) c.known_table-to.result
+at_to c = subst (λ ts. StandsAt ts (set_with c.args.home.mask c.args.kind) c.known_table-to.result) c.as_slice-2.ensures.value (subst (λ m. StandsAt c.as_slice-2.result.now m c.known_table-to.result) c.set_with.ensures c.known_table-to.ensures)
+
+two : (c : goal.After-index_mut-2) → c.args.home.mask ≡ (set_with c.args.home.mask c.args.kind) → ⊥
+two c = gained_apart c.args.home.mask c.args.kind c.requires.lacks
+
+from_there : (c : goal.After-index_mut-2) → IsThere c.args.self.now c.args.home.mask c.index_mut.result.now
+from_there c = there c.self.inside.tables.items c.self.inside.tables.items c.args.self.now c.args.home.mask c.known_table-from.result c.index_mut.result.now c.self.view_is refl (at_from c) c.index_mut.ensures.value
+
+to_there : (c : goal.After-index_mut-2) → IsThere c.args.self.now (set_with c.args.home.mask c.args.kind) c.index_mut-2.result.now
+to_there c =
+    still_there c.self.inside.tables.items c.self.inside.tables.items c.args.self.now c.args.home.mask (set_with c.args.home.mask c.args.kind) c.known_table-from.result c.known_table-to.result c.replace-source.new.dest c.index_mut-2.result.now
+    c.self.view_is refl (two c) (at_from c) (at_to c) c.index_mut-2.ensures.value
+
+pub known_table-from-requires-clause-known : goal.known_table-from-requires-clause-known
+known_table-from-requires-clause-known c = home_known c.self.inside.tables.items c.as_slice.result.now c.args.self.now c.args.home c.self.view_is c.as_slice.ensures.value c.requires.within
+
+pub known_table-to-requires-clause-known : goal.known_table-to-requires-clause-known
+known_table-to-requires-clause-known c =
+    subst (λ m. IsKnown (rooms_of c.as_slice-2.result.now) m) (sym c.set_with.ensures) (room_known c.self.inside.tables.items c.as_slice-2.result.now c.args.self.now (set_with c.args.home.mask c.args.kind) c.self.view_is c.as_slice-2.ensures.value c.requires.room)
+
+pub move_with-requires-clause-within : goal.move_with-requires-clause-within
+move_with-requires-clause-within c = subst (λ rows. c.args.home.place < length rows) ((from_there c).rows ∙ ap (λ t. t.rows) (sym c.replace-source.ensures.value)) c.requires.within
+
+pub move_with-requires-clause-place : goal.move_with-requires-clause-place
+move_with-requires-clause-place c = subst (λ rows. c.args.place ≤ length rows) (to_there c).rows c.requires.place
+
+pub move_with-requires-clause-lacks : goal.move_with-requires-clause-lacks
+move_with-requires-clause-lacks c = ap (λ m. has_kind m c.args.kind) (ap (λ t. t.mask) c.replace-source.ensures.value ∙ (from_there c).named) ∙ c.requires.lacks
+
+pub move_with-requires-clause-kinds : goal.move_with-requires-clause-kinds
+move_with-requires-clause-kinds c = (to_there c).named ∙ ap (λ m. set_with m c.args.kind) (sym (ap (λ t. t.mask) c.replace-source.ensures.value ∙ (from_there c).named))
+
+pub move_with-requires-clause-room : goal.move_with-requires-clause-room
+move_with-requires-clause-room c = omega (arith, c.requires.room, ap length (to_there c).rows, (to_there c).capacity)
+
+-- a row stands at the home, and the tables after it moved
+the_row : (c : goal.After-drop-index_mut-2) → (row : Row) × (row_at c.args.self.now.tables c.args.home ≡ Some row)
+the_row c = row_there c.args.self.now.tables c.args.home c.requires.within
+
+after : (c : goal.After-drop-index_mut-2) → (row : Row) → row_at c.args.self.now.tables c.args.home ≡ Some row →
+    IsMoved c.self.inside.kind_sets.keys c.args.self.now (slice_set (slice_set (slice_set c.self.inside.tables.items c.known_table-from.result c.replace-source.new.dest) c.known_table-to.result c.move_with.new.target) c.known_table-from.result c.move_with.new.self)
+    c.args.home.mask (swap_out (rows_at c.args.self.now.tables c.args.home.mask) c.args.home.place) (set_with c.args.home.mask c.args.kind) (put_back (rows_at c.args.self.now.tables (set_with c.args.home.mask c.args.kind)) c.args.place (row_with_cell row c.args.kind c.args.cell))
+after c row at =
+    let ts = c.self.inside.tables.items in
+    let was = c.index_mut.result.now in
+    let stands = subst (λ us. StandsAt us c.args.home.mask c.known_table-from.result) c.as_slice.ensures.value c.known_table-from.ensures in
+    let stands_to = subst (λ us. StandsAt us (set_with c.args.home.mask c.args.kind) c.known_table-to.result) c.as_slice-2.ensures.value (subst (λ m. StandsAt c.as_slice-2.result.now m c.known_table-to.result) c.set_with.ensures c.known_table-to.ensures) in
+    let two = gained_apart c.args.home.mask c.args.kind c.requires.lacks in
+    let from = there ts ts c.args.self.now c.args.home.mask c.known_table-from.result was c.self.view_is refl stands c.index_mut.ensures.value in
+    let to = still_there ts ts c.args.self.now c.args.home.mask (set_with c.args.home.mask c.args.kind) c.known_table-from.result c.known_table-to.result c.replace-source.new.dest c.index_mut-2.result.now c.self.view_is refl two stands stands_to c.index_mut-2.ensures.value in
+    let source = c.replace-source.ensures.value in
+    let rows : rows_at c.args.self.now.tables c.args.home.mask ≡ c.replace-source.result.rows = from.rows ∙ ap (λ u. u.rows) (sym source) in
+    moved c.self.inside.kind_sets.keys ts ts c.args.self.now c.args.home.mask (set_with c.args.home.mask c.args.kind) c.known_table-from.result c.known_table-to.result c.replace-source.new.dest was c.move_with.new.self c.index_mut-2.result.now c.move_with.new.target
+    (swap_out (rows_at c.args.self.now.tables c.args.home.mask) c.args.home.place) (put_back (rows_at c.args.self.now.tables (set_with c.args.home.mask c.args.kind)) c.args.place (row_with_cell row c.args.kind c.args.cell))
+    c.self.view_is refl two stands stands_to c.self.invariant c.index_mut.ensures.value (c.move_with.ensures.mask ∙ ap (λ u. u.mask) source) (c.move_with.ensures.rows ∙ ap (λ r. swap_out r c.args.home.place) (sym rows)) (c.move_with.ensures.capacity ∙ ap (λ u. u.capacity) source)
+    c.index_mut-2.ensures.value c.move_with.ensures.target_mask (c.move_with.ensures.target_rows row (ap (λ r. slice_get r c.args.home.place) (sym rows) ∙ at) ∙ ap (λ r. put_back r c.args.place (row_with_cell row c.args.kind c.args.cell)) (sym to.rows)) c.move_with.ensures.target_capacity
+
+pub invariant_of-self : goal.invariant_of-self
+invariant_of-self c = (after c (the_row c).0 (the_row c).1).listed
+
+pub returns-clause-tables : goal.returns-clause-tables
+returns-clause-tables c = λ row at. (after c row at).tables
+
+pub returns-clause-rooms : goal.returns-clause-rooms
+returns-clause-rooms c = (after c (the_row c).0 (the_row c).1).rooms

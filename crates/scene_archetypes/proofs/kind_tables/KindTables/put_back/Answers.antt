@@ -1,0 +1,37 @@
+use Rattle.std.proofs.Common.{◌≤◌, ◌∙◌, ap, sym, subst, length, arith}
+use Rattle.std.specs.Prelude.{slice_set}
+use Rattle.scene_kinds.specs.Cells.{HasKinds}
+use Rattle.scene_table.specs.Rows.{put_back}
+use Rattle.scene_table.specs.Tables.{rows_at}
+use Rattle.scene_archetypes.proofs.Rooms.{IsThere, IsStep, there, step, room_known}
+use Rattle.scene_archetypes.proofs.kind_tables.KindTables.put_back.Goals as goal
+
+-- the table, and the tables after it
+here : (c : goal.After-index_mut) → IsThere c.args.self.now c.args.mask c.index_mut.result.now
+here c = there c.self.inside.tables.items c.as_slice.result.now c.args.self.now c.args.mask c.known_table-at.result c.index_mut.result.now c.self.view_is c.as_slice.ensures.value c.known_table-at.ensures c.index_mut.ensures.value
+
+after : (c : goal.After-self-1) → IsStep c.self.inside.kind_sets.keys c.args.self.now (slice_set c.self.inside.tables.items c.known_table-at.result c.unswap_reserved.new.self) c.args.mask (put_back (rows_at c.args.self.now.tables c.args.mask) c.args.place c.args.row)
+after c =
+    let there = there c.self.inside.tables.items c.as_slice.result.now c.args.self.now c.args.mask c.known_table-at.result c.index_mut.result.now c.self.view_is c.as_slice.ensures.value c.known_table-at.ensures c.index_mut.ensures.value in
+    step c.self.inside.kind_sets.keys c.self.inside.tables.items c.as_slice.result.now c.args.self.now c.args.mask c.known_table-at.result c.index_mut.result.now c.unswap_reserved.new.self (put_back (rows_at c.args.self.now.tables c.args.mask) c.args.place c.args.row) c.self.view_is c.as_slice.ensures.value c.known_table-at.ensures c.index_mut.ensures.value c.self.invariant c.unswap_reserved.ensures.mask (c.unswap_reserved.ensures.rows ∙ ap (λ rows. put_back rows c.args.place c.args.row) (sym there.rows)) c.unswap_reserved.ensures.capacity
+
+pub known_table-at-requires-clause-known : goal.known_table-at-requires-clause-known
+known_table-at-requires-clause-known c = room_known c.self.inside.tables.items c.as_slice.result.now c.args.self.now c.args.mask c.self.view_is c.as_slice.ensures.value c.requires.room
+
+pub unswap_reserved-requires-clause-within : goal.unswap_reserved-requires-clause-within
+unswap_reserved-requires-clause-within c = subst (λ rows. c.args.place ≤ length rows) (here c).rows c.requires.within
+
+pub unswap_reserved-requires-clause-fits : goal.unswap_reserved-requires-clause-fits
+unswap_reserved-requires-clause-fits c = subst (λ m. HasKinds m c.args.row) (sym (here c).named) c.requires.fits
+
+pub unswap_reserved-requires-clause-room : goal.unswap_reserved-requires-clause-room
+unswap_reserved-requires-clause-room c = omega (arith, c.requires.room, ap length (here c).rows, (here c).capacity)
+
+pub invariant_of-self : goal.invariant_of-self
+invariant_of-self c = (after c).listed
+
+pub returns-clause-tables : goal.returns-clause-tables
+returns-clause-tables c = (after c).tables
+
+pub returns-clause-rooms : goal.returns-clause-rooms
+returns-clause-rooms c = (after c).rooms

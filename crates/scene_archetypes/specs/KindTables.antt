@@ -1,0 +1,82 @@
+-- The tables of a world by kind set: their rows, and for how many rows each has memory. And the lists of the code that they are.
+use Rattle.std.specs.Prelude.{◌≡◌, ◌≢◌, ℕ, zero, suc, ◌<◌, ◌≤◌, List, [], ◌∷◌, true, is_some, length, map as each}
+use Rattle.std.specs.Option.{unwrap_or}
+use Rattle.std.specs.Ordering.{nat_cmp}
+use Rattle.std.specs.Cmp.{nat_cmp_total}
+use Rattle.scene_kinds.specs.Map as map
+use Rattle.scene_table.specs.Table.{TableState}
+use Rattle.scene_table.specs.declared.home.Home.{Home}
+use Rattle.scene_table.specs.Tables.{Tables, rows_at, with_rows}
+
+-- for how many rows each kind set has memory
+abbrev pub Rooms : Type 0
+Rooms = map.Map nat_cmp ℕ
+
+-- what contracts see of the tables
+pub record TablesState : Type 0 where
+  pub tables : Tables
+  pub rooms : Rooms
+
+-- ---- room
+
+-- a kind set has a table, though it may have no rows
+abbrev pub IsKnown : Rooms → ℕ → Type 0
+IsKnown rooms mask = is_some (map.get rooms mask) ≡ true
+
+-- for how many rows of a kind set there is memory
+abbrev pub capacity_at : Rooms → ℕ → ℕ
+capacity_at rooms mask = unwrap_or (map.get rooms mask) 0
+
+-- there is memory for one more row of a kind set
+abbrev pub HasRoomFor : TablesState → ℕ → Type 0
+HasRoomFor t mask = length (rows_at t.tables mask) < capacity_at t.rooms mask
+
+-- no kind set has memory for fewer rows than before
+abbrev pub IsWider : Rooms → Rooms → Type 0
+IsWider old new = (mask : ℕ) → capacity_at old mask ≤ capacity_at new mask
+
+-- a row stands at a home
+abbrev pub IsWithin : Tables → Home → Type 0
+IsWithin tables home = home.place < length (rows_at tables home.mask)
+
+-- ---- the lists of the code
+
+-- the rows that tables hold; one without rows isn't seen
+abbrev pub tables_of : List TableState → Tables
+tables_of [] = map.empty
+tables_of (t ∷ ts) = with_rows (tables_of ts) t.mask t.rows
+
+-- and their room
+abbrev pub rooms_of : List TableState → Rooms
+rooms_of [] = map.empty
+rooms_of (t ∷ ts) = map.insert nat_cmp_total (rooms_of ts) t.mask t.capacity
+
+-- i is the index of the first table of a kind set
+abbrev pub IsFirstOf : List TableState → ℕ → ℕ → Type 0
+IsFirstOf [] mask i = ⊥
+IsFirstOf (t ∷ ts) mask zero = t.mask ≡ mask
+IsFirstOf (t ∷ ts) mask (suc i) = (t.mask ≢ mask) × IsFirstOf ts mask i
+
+-- the table of a kind set stands at an index
+pub record StandsAt (ts : List TableState) (mask i : ℕ) : Type 0 where
+  pub within : i < length ts
+  pub first : IsFirstOf ts mask i
+
+-- no table has a kind set
+abbrev pub NoneHas : ℕ → List TableState → Type 0
+NoneHas mask [] = Unit {0}
+NoneHas mask (t ∷ ts) = (mask ≢ t.mask) × NoneHas mask ts
+
+-- the tables' kind sets are distinct
+abbrev pub AreApart : List TableState → Type 0
+AreApart [] = Unit {0}
+AreApart (t ∷ ts) = NoneHas t.mask ts × AreApart ts
+
+-- the kind sets of tables
+abbrev pub masks_in : List TableState → List ℕ
+masks_in ts = each (λ t. t.mask) ts
+
+-- the tables' kind sets are listed in their order, and are distinct
+pub record AreListed (masks : List ℕ) (ts : List TableState) : Type 0 where
+  pub listed : masks ≡ masks_in ts
+  pub apart : AreApart ts

@@ -1,0 +1,2 @@
+pub mod Archetypes
+pub mod KindTables

@@ -1,0 +1,299 @@
+//! The tables of a world by kind set.
+ghost use Rattle.std.specs.Prelude.{◌≡◌, ◌<◌, ◌≤◌, ◌^◌, ◌++◌, ◌∷◌, [], ℕ, length, Some, OnOk, OnErr, IfOk, IfSome, IfNone, IsOk, IsSome, slice_get, true, false, vec_capacity, map as each};
+ghost use Rattle.std.specs.List.{position_from};
+ghost use Rattle.std.specs.Option.{option_map};
+ghost use Rattle.scene_kinds.specs.Cells.{HasKinds, mask_of, shown};
+ghost use Rattle.scene_kinds.specs.KindSet.{has_kind, set_with, set_without};
+ghost use Rattle.scene_kinds.specs.Lists.{whole};
+ghost use Rattle.scene_kinds.specs.Map as map;
+ghost use Rattle.scene_kinds.specs.declared.cells.Row.{Row};
+ghost use Rattle.scene_table.specs.Rows.{put_back};
+ghost use Rattle.scene_table.specs.Table.{TableState, cell_at, row_with_cell, row_without_cell, rows_with_cell};
+ghost use Rattle.scene_table.specs.Tables.{Tables, rows_at, row_at, with_rows, with_row, without_row, masks_of};
+ghost use Rattle.scene_archetypes.specs.KindTables.{TablesState, AreListed, NoneHas, StandsAt, IsKnown, HasRoomFor, IsWider, IsWithin, tables_of, rooms_of};
+
+use crate::clones::clone_tables;
+use crate::kind_sets::{kind_sets_of, tables_by_kind_set};
+use indexmap::IndexSet;
+use scene_kinds::{Cell, CellRef, Entity, KindSet, Row, set_with, set_without};
+use scene_table::{Home, Table};
+use std::alloc::{AllocError, Global};
+use std::marker::Model;
+use std::mem;
+
+/// The tables of a world: one for each kind set that has or had rows. A table is found by its kind set at once.
+///
+/// Contracts see the rows of each kind set that has some, and for how many rows each table has memory. A table without
+/// rows is kept with its room.
+#[derive(Drop, Debug)]
+pub(crate) struct KindTables {
+    alloc: Global,
+    kind_sets: IndexSet<KindSet>,
+    tables: Vec<Table>,
+}
+
+impl Model for KindTables {
+    ghost use Rattle.std.specs.Ordering.{nat_cmp};
+    ghost use Rattle.std.specs.Coded.{coded_ℕ, coded_list, coded×, codes};
+    ghost use Rattle.scene_kinds.specs.contracts.cells.Row as row;
+    ghost use Rattle.scene_kinds.specs.Map as map;
+    ghost use Rattle.scene_archetypes.specs.KindTables.{TablesState, AreListed, tables_of, rooms_of};
+
+    ghost Value = { TablesState };
+
+    ghost coded = { Prim.hlevel (codes, map.code {R = nat_cmp} coded_ℕ (coded× row.the_row.coded (coded_list row.the_row.coded)), map.code {R = nat_cmp} coded_ℕ coded_ℕ) };
+
+    ghost view = { λ t. record { tables = tables_of t.tables.items; rooms = rooms_of t.tables.items } };
+
+    ghost invariant = { λ t. AreListed t.kind_sets.keys t.tables.items };
+}
+
+/// The index of the table of a kind set.
+fn find_table(kind_sets: &IndexSet<KindSet>, tables: &[Table], mask: KindSet) -> Option<usize>
+    requires { AreListed kind_sets.now.keys tables.now }
+    ensures some { IfSome result (StandsAt tables.now mask) }
+    ensures none { IfNone result (NoneHas mask tables.now) }
+{
+    prove!(tables.len() >= 0);
+    kind_sets.get_index_of(&mask)
+}
+
+/// The index of the table of a kind set that has one.
+fn known_table(kind_sets: &IndexSet<KindSet>, tables: &[Table], mask: KindSet) -> usize
+    requires listed { AreListed kind_sets.now.keys tables.now }
+    requires known { IsKnown (rooms_of tables.now) mask }
+    ensures { StandsAt tables.now mask result }
+{
+    match find_table(kind_sets, tables, mask) {
+        Some(at) => at,
+        None => unreachable!(),
+    }
+}
+
+/// Adds a table without rows.
+fn add_table(
+    alloc: Global,
+    kind_sets: &mut IndexSet<KindSet>,
+    tables: &mut Vec<Table>,
+    mask: KindSet,
+) -> Result<(), AllocError>
+    requires listed { AreListed kind_sets.old.keys tables.old.items }
+    requires absent { NoneHas mask tables.old.items }
+    ensures listed { AreListed kind_sets.new.keys tables.new.items }
+    ensures seen { tables_of tables.new.items ≡ tables_of tables.old.items }
+    ensures wide { IsWider (rooms_of tables.old.items) (rooms_of tables.new.items) }
+    ensures known { OnOk result (IsKnown (rooms_of tables.new.items) mask) }
+{
+    tables.reserve(1)?;
+    kind_sets.insert(mask)?;
+    tables.push_reserved(Table::new(alloc, mask));
+    Ok(())
+}
+
+/// The entity at a place of a list.
+fn entity_in(entities: &[Entity], place: usize) -> Option<Entity>
+    ensures { result ≡ slice_get entities.now place }
+{
+    entities.get(place).copied()
+}
+
+impl KindTables {
+    /// No tables. It takes no memory.
+    pub(crate) fn new(alloc: Global) -> Self
+        ensures { result ≡ record { tables = map.empty; rooms = map.empty } }
+    {
+        KindTables {
+            alloc,
+            kind_sets: IndexSet::new(alloc),
+            tables: Vec::new(alloc),
+        }
+    }
+
+    /// Makes a table for a kind set, where there is none. It fails only where no memory was found.
+    fn make_table(&mut self, mask: KindSet) -> Result<(), AllocError>
+        ensures tables { self.new.tables ≡ self.old.tables }
+        ensures known { OnOk result (IsKnown self.new.rooms mask) }
+        ensures there { IsKnown self.old.rooms mask → IsOk result }
+        ensures wide { IsWider self.old.rooms self.new.rooms }
+    {
+        match find_table(&self.kind_sets, self.tables.as_slice(), mask) {
+            Some(_) => Ok(()),
+            None => add_table(self.alloc, &mut self.kind_sets, &mut self.tables, mask),
+        }
+    }
+
+    /// Makes room for one more row of a kind set. It fails only where that room isn't there yet and no memory was found.
+    /// The rows stay.
+    pub(crate) fn reserve(&mut self, mask: KindSet) -> Result<(), AllocError>
+        ensures tables { self.new.tables ≡ self.old.tables }
+        ensures room { OnOk result (HasRoomFor self.new mask) }
+        ensures there { HasRoomFor self.old mask → IsOk result }
+        ensures wide { IsWider self.old.rooms self.new.rooms }
+    {
+        self.make_table(mask)?;
+        let at = known_table(&self.kind_sets, self.tables.as_slice(), mask);
+        self.tables[at].reserve(1)
+    }
+
+    /// Puts a row at a place of the table of its kind set, and the row that stood there last; at the place behind the
+    /// last it goes there. It takes no memory, since there must be room for the row.
+    pub(crate) fn put_back(&mut self, mask: KindSet, place: usize, row: Row)
+        requires fits { HasKinds mask row }
+        requires within { place ≤ length (rows_at self.old.tables mask) }
+        requires room { HasRoomFor self.old mask }
+        ensures tables { self.new.tables ≡ with_rows self.old.tables mask (put_back (rows_at self.old.tables mask) place row) }
+        ensures rooms { self.new.rooms ≡ self.old.rooms }
+    {
+        let at = known_table(&self.kind_sets, self.tables.as_slice(), mask);
+        self.tables[at].unswap_reserved(place, row);
+    }
+
+    /// Drops the row at a home. The last row takes its place. It takes no memory.
+    pub(crate) fn drop_row(&mut self, home: Home)
+        requires { IsWithin self.old.tables home }
+        ensures tables { self.new.tables ≡ without_row self.old.tables home }
+        ensures rooms { self.new.rooms ≡ self.old.rooms }
+    {
+        let at = known_table(&self.kind_sets, self.tables.as_slice(), home.mask);
+        self.tables[at].drop_row(home.place);
+    }
+
+    /// Takes out the row at a home, its cells in an empty list that has room for them. The last row takes its place. It
+    /// takes no memory.
+    pub(crate) fn take_row(&mut self, home: Home, room: Vec<(u8, Cell)>) -> Row
+        requires within { IsWithin self.old.tables home }
+        requires empty { room.items ≡ [] }
+        requires room { (row : Row) → row_at self.old.tables home ≡ Some row → length row.cells ≤ vec_capacity room }
+        ensures row { row_at self.old.tables home ≡ Some result }
+        ensures fits { HasKinds home.mask result }
+        ensures tables { self.new.tables ≡ without_row self.old.tables home }
+        ensures rooms { self.new.rooms ≡ self.old.rooms }
+    {
+        let at = known_table(&self.kind_sets, self.tables.as_slice(), home.mask);
+        self.tables[at].swap_remove_into(home.place, room)
+    }
+
+    /// Puts a cell in place of that of a kind in the row at a home, and gives the old one. It takes no memory.
+    pub(crate) fn set_cell(&mut self, home: Home, kind: u8, cell: Cell) -> Cell
+        requires within { IsWithin self.old.tables home }
+        requires there { IsSome (cell_at (rows_at self.old.tables home.mask) home.place kind) }
+        ensures old { cell_at (rows_at self.old.tables home.mask) home.place kind ≡ Some result }
+        ensures tables { self.new.tables ≡ with_rows self.old.tables home.mask (rows_with_cell (rows_at self.old.tables home.mask) home.place kind cell) }
+        ensures rooms { self.new.rooms ≡ self.old.rooms }
+    {
+        let at = known_table(&self.kind_sets, self.tables.as_slice(), home.mask);
+        self.tables[at].set_cell(home.place, kind, cell)
+    }
+
+    /// Moves the row at a home to a place of the table of the kind set with one kind more, with a cell of that kind. The
+    /// last row of its table takes its place; the row that stood at its new place goes last. It takes no memory.
+    pub(crate) fn move_with(&mut self, home: Home, place: usize, kind: u8, cell: Cell)
+        requires within { IsWithin self.old.tables home }
+        requires low { kind < 64 }
+        requires lacks { has_kind home.mask kind ≡ false }
+        requires place { place ≤ length (rows_at self.old.tables (set_with home.mask kind)) }
+        requires room { HasRoomFor self.old (set_with home.mask kind) }
+        ensures tables { (row : Row) → row_at self.old.tables home ≡ Some row → self.new.tables ≡ with_rows (without_row self.old.tables home) (set_with home.mask kind) (put_back (rows_at self.old.tables (set_with home.mask kind)) place (row_with_cell row kind cell)) }
+        ensures rooms { self.new.rooms ≡ self.old.rooms }
+    {
+        let from = known_table(&self.kind_sets, self.tables.as_slice(), home.mask);
+        let to = known_table(
+            &self.kind_sets,
+            self.tables.as_slice(),
+            set_with(home.mask, kind),
+        );
+        let mut source = mem::replace(&mut self.tables[from], Table::new(self.alloc, home.mask));
+        source.move_with(home.place, &mut self.tables[to], place, kind, cell);
+        self.tables[from] = source;
+    }
+
+    /// Moves the row at a home to a place of the table of the kind set with one kind less, and gives the cell of that
+    /// kind. The last row of its table takes its place; the row that stood at its new place goes last. It takes no memory.
+    pub(crate) fn move_without(&mut self, home: Home, place: usize, kind: u8) -> Cell
+        requires within { IsWithin self.old.tables home }
+        requires low { kind < 64 }
+        requires has { has_kind home.mask kind ≡ true }
+        requires place { place ≤ length (rows_at self.old.tables (set_without home.mask kind)) }
+        requires room { HasRoomFor self.old (set_without home.mask kind) }
+        ensures cell { cell_at (rows_at self.old.tables home.mask) home.place kind ≡ Some result }
+        ensures tables { (row : Row) → row_at self.old.tables home ≡ Some row → self.new.tables ≡ with_rows (without_row self.old.tables home) (set_without home.mask kind) (put_back (rows_at self.old.tables (set_without home.mask kind)) place (row_without_cell row kind)) }
+        ensures rooms { self.new.rooms ≡ self.old.rooms }
+    {
+        prove!(home.mask <= u64::MAX);
+        let from = known_table(&self.kind_sets, self.tables.as_slice(), home.mask);
+        let to = known_table(
+            &self.kind_sets,
+            self.tables.as_slice(),
+            set_without(home.mask, kind),
+        );
+        let mut source = mem::replace(&mut self.tables[from], Table::new(self.alloc, home.mask));
+        let cell = source.move_without(home.place, &mut self.tables[to], place, kind);
+        self.tables[from] = source;
+        cell
+    }
+
+    /// How many rows of a kind set there are.
+    pub(crate) fn len(&self, mask: KindSet) -> usize
+        ensures { result ≡ length (rows_at self.now.tables mask) }
+    {
+        match find_table(&self.kind_sets, self.tables.as_slice(), mask) {
+            Some(at) => self.tables[at].len(),
+            None => 0,
+        }
+    }
+
+    /// The entity whose row stands at a home, or `None` where no row does.
+    pub(crate) fn entity_at(&self, home: Home) -> Option<Entity>
+        ensures { result ≡ option_map (λ row. row.entity) (row_at self.now.tables home) }
+    {
+        let at = find_table(&self.kind_sets, self.tables.as_slice(), home.mask)?;
+        entity_in(self.tables[at].entities(), home.place)
+    }
+
+    /// The table of a kind set that has rows, or `None` where it has none.
+    pub(crate) fn table(&self, mask: KindSet) -> Option<&Table>
+        ensures rows { option_map (λ table. table.now.rows) result ≡ option_map whole (map.get self.now.tables mask) }
+        ensures mask { IfSome result (λ table. table.now.mask ≡ mask) }
+    {
+        let at = find_table(&self.kind_sets, self.tables.as_slice(), mask)?;
+        let table = &self.tables[at];
+        if table.is_empty() { None } else { Some(table) }
+    }
+
+    /// The table in which a row stands.
+    pub(crate) fn table_of_row(&self, home: Home) -> &Table
+        requires { IsWithin self.now.tables home }
+        ensures rows { result.now.rows ≡ rows_at self.now.tables home.mask }
+        ensures mask { result.now.mask ≡ home.mask }
+    {
+        let at = known_table(&self.kind_sets, self.tables.as_slice(), home.mask);
+        &self.tables[at]
+    }
+
+    /// The tables that have rows, ascending by kind set, or an error where no memory was found. It costs the number of
+    /// tables times its logarithm.
+    pub(crate) fn in_order(&self) -> Result<Vec<&Table>, AllocError>
+        ensures masks { IfOk result (λ tables. each (λ t. t.now.mask) tables.items ≡ masks_of self.now.tables) }
+        ensures rows { IfOk result (λ tables. each (λ t. t.now.rows) tables.items ≡ each (rows_at self.now.tables) (masks_of self.now.tables)) }
+    {
+        tables_by_kind_set(self.alloc, self.tables.as_slice())
+    }
+
+    /// The kind sets that have rows, ascending, at the same cost.
+    pub(crate) fn kind_sets(&self) -> Result<Vec<KindSet>, AllocError>
+        ensures { IfOk result (λ sets. sets.items ≡ masks_of self.now.tables) }
+    {
+        kind_sets_of(self.alloc, self.tables.as_slice())
+    }
+
+    /// Tables with equal rows, or an error where no memory was found. It costs a copy of all rows.
+    pub(crate) fn try_clone(&self) -> Result<KindTables, AllocError>
+        ensures { IfOk result (λ copy. copy.tables ≡ self.now.tables) }
+    {
+        Ok(KindTables {
+            alloc: self.alloc,
+            kind_sets: self.kind_sets.clone()?,
+            tables: clone_tables(self.alloc, self.tables.as_slice())?,
+        })
+    }
+}

@@ -1,0 +1,7 @@
+pub mod Deltas
+pub mod Records
+pub mod Laws
+pub mod Notes
+pub mod CommandLaws
+pub mod Frames
+pub mod Examples

@@ -1,0 +1,65 @@
+//! One change of a world.
+ghost use Rattle.std.specs.Prelude.{◌≡◌, IfOk};
+
+use scene_kinds::{Cell, Cells, Entity, Text};
+use std::alloc::AllocError;
+
+/// One change of a world, with what it brings and what it takes away, so that it can be made again and taken back
+/// (docs/JOURNAL.md, "The six deltas").
+///
+/// A place is that of a row in its table, or of a child in its parent's list without the child, from 0. A link is a
+/// parent with such a place.
+#[derive(Drop, Clone, Debug)]
+pub enum Delta {
+    /// A row was put last in its table, with these cells; `fresh` where its entity got a new slot.
+    Spawned {
+        entity: Entity,
+        cells: Cells,
+        fresh: bool,
+    },
+    /// A row left its table, with its cells and its link; `retired` where its index was retired with it.
+    Despawned {
+        entity: Entity,
+        place: u32,
+        cells: Cells,
+        link: Option<(Entity, u32)>,
+        retired: bool,
+    },
+    /// A row left a place of its table for another table, where it went last: with the cell of one more kind where
+    /// `inward`, else without the cell of a kind.
+    Shifted {
+        entity: Entity,
+        place: u32,
+        kind: u8,
+        cell: Cell,
+        inward: bool,
+    },
+    /// A cell of a row was set.
+    CellSet {
+        entity: Entity,
+        kind: u8,
+        before: Cell,
+        after: Cell,
+    },
+    /// An entity got another link, or none.
+    Linked {
+        entity: Entity,
+        before: Option<(Entity, u32)>,
+        after: Option<(Entity, u32)>,
+    },
+    /// A resource got another cell, or none.
+    ResourceSet {
+        name: Text,
+        before: Option<Cell>,
+        after: Option<Cell>,
+    },
+}
+
+impl Delta {
+    /// An equal delta, or an error where no memory was found. It copies the cells.
+    pub fn try_clone(&self) -> Result<Delta, AllocError>
+        ensures { IfOk result (λ copy. copy ≡ self.now) }
+    {
+        self.clone()
+    }
+}

@@ -1,0 +1,19 @@
+//! What frames did to a world, in small deltas that can be made again and taken back.
+//!
+//! A `Delta` is one change: of one entity's row and link, of one cell, of one link or of one resource. It holds what
+//! the change brings and what it took away, so the world after it has all that is needed to go back, and the world
+//! before it all that is needed to go on. A `FrameRecord` holds the deltas of one frame (docs/JOURNAL.md).
+//!
+//! `specs/Deltas.antt` says what each delta does to a world and where it fits, and `specs/Records.antt` the same of
+//! records; `laws` says that each takes the other direction back exactly.
+#![tactic(auto)]
+
+mod delta;
+mod examples;
+mod laws;
+mod record;
+
+pub use delta::Delta;
+pub use examples::worked_records_hold;
+pub use laws::{commands_are_deltas, deltas_come_back, frames_are_records, records_come_back};
+pub use record::FrameRecord;

@@ -1,0 +1,97 @@
+-- Short words in which the worked examples are written: entities, cells, rows, worlds, commands and calls.
+use Rattle.std.specs.Prelude.{ℕ, List, [], ◌∷◌, Ok, Err, option_map, pos, slice_get, T}
+use Rattle.std.specs.Ordering.{nat_cmp}
+use Rattle.std.specs.FinMap.Entries.{is_sorted}
+use Rattle.scene_kinds.specs.declared.entity.Entity.{Entity}
+use Rattle.scene_kinds.specs.declared.cell.Cell.{Cell}
+use Rattle.scene_kinds.specs.declared.cells.Row.{Row}
+use Rattle.scene_kinds.specs.declared.value.Value.{Value}
+use Rattle.scene_kinds.specs.declared.value.Value.TheVariants as value
+use Rattle.scene_kinds.specs.declared.shape.Shape.TheVariants as shape
+use Rattle.scene_kinds.specs.declared.fault.Fault.{Fault}
+use Rattle.scene_kinds.specs.Answers.{refusal_of}
+use Rattle.scene_kinds.specs.Map as map
+use Rattle.scene_kinds.specs.Schema.{Kinds}
+use Rattle.scene_model.specs.World.{World, new_world}
+use Rattle.scene_model.specs.Perform.{Command, Spawn}
+use Rattle.scene_model.specs.Machine.{Machine, opening}
+use Rattle.scene_model.specs.Queue.{Request, known, refused_at}
+use Rattle.scene_model.specs.Frame.{Call, Submit, Reply, after_calls}
+
+abbrev pub ent : ℕ → ℕ → Entity
+ent i g = record { index = i; generation = g }
+
+abbrev pub cell : Value → ℕ → ℕ → Cell
+cell v a c = record { value = v; added = a; changed = c }
+
+abbrev pub row : Entity → List (ℕ × Cell) → Row
+row e cells = record { entity = e; cells = cells }
+
+abbrev pub int : ℕ → Value
+int n = value.Int (pos n)
+
+-- kind 0 is the Int A, kind 1 the Tag T
+abbrev pub schema : Kinds
+schema = ((65 ∷ []), shape.Int) ∷ ((84 ∷ []), shape.Tag) ∷ []
+
+-- a world of that schema with at most 100 slots, with its tables, without links and resources
+abbrev pub world : ℕ → List ℕ → List ℕ → (ts : List (ℕ × (Row × List Row))) → T (is_sorted nat_cmp ts) → World
+world tick generations free ts rising = record {
+  schema = schema;
+  slots = record { limit = 100; generations = generations; free = free };
+  tick = tick;
+  tables = map.of ts rising;
+  children = map.empty;
+  resources = map.empty;
+}
+
+abbrev pub fresh : Machine World
+fresh = opening (new_world schema 100)
+
+-- the row of an Int, and of a Tag
+abbrev pub int_row : Entity → ℕ → ℕ → ℕ → Row
+int_row e n a c = row e ((0, cell (int n) a c) ∷ [])
+
+abbrev pub tag_row : Entity → ℕ → Row
+tag_row e a = row e ((1, cell value.Tag a a) ∷ [])
+
+abbrev pub spawn_int : ℕ → Request
+spawn_int n = known (Spawn ((0, int n) ∷ []))
+
+abbrev pub spawn_tag : Request
+spawn_tag = known (Spawn ((1, value.Tag) ∷ []))
+
+-- a command on the k-th entity that its queue has spawned
+abbrev pub local : ℕ → (Entity → Command) → Request
+local k command spawned = option_map command (slice_get spawned k)
+
+-- a frame of one queue
+abbrev pub frame_of : List Request → Call
+frame_of requests = Submit (requests ∷ [])
+
+-- a frame of one command
+abbrev pub one : Request → Call
+one r = frame_of (r ∷ [])
+
+abbrev pub only : Command → Call
+only c = one (known c)
+
+-- a frame without commands
+abbrev pub empty_frame : Call
+empty_frame = Submit []
+
+abbrev pub ends : List Call → World
+ends calls = (after_calls fresh calls).now
+
+-- the answers: the entities that a frame spawned; nothing, as of an undo too; a refusal, and that of a frame of one command
+abbrev pub made : List Entity → Reply
+made es = Ok es
+
+abbrev pub done : Reply
+done = Ok []
+
+abbrev pub refused : Fault → Reply
+refused f = Err (refusal_of f)
+
+abbrev pub refused_first : Fault → Reply
+refused_first f = Err (refused_at 0 0 f)

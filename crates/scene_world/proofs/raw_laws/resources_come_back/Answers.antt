@@ -1,5 +1,0 @@
-use Rattle.scene_world.proofs.ResourceBack.{resources_come_back, ticks_come_back}
-use Rattle.scene_world.proofs.raw_laws.resources_come_back.Goals as goal
-
-pub returns : goal.returns
-returns c = record { resources = resources_come_back; ticks = ticks_come_back }
