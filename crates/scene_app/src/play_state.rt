@@ -3,22 +3,24 @@ ghost use Rattle.std.specs.Prelude.{◌≡◌};
 ghost use Rattle.scene_app.specs.Play.{opening_state, cursor_of, with_cursor, since};
 
 use crate::cursor::Cursor;
+use crate::open_frame::OpenFrame;
 use crate::saved::Saved;
 use scene_kinds::{Fault, Refusal};
 use scene_world::World;
 use std::alloc::Global;
 
-/// The machine, and the cursor that the last mark took.
+/// The machine, the cursor that the last mark took, and the frame that is open.
 #[derive(Drop)]
 pub(crate) struct PlayState {
     pub(crate) machine: Saved,
     pub(crate) cursor: Cursor,
+    pub(crate) frame: Option<OpenFrame>,
 }
 
 impl PlayState {
     /// The state in which a run begins: no frames, and the cursor from before the first mark.
     pub(crate) fn new(alloc: Global, world: World) -> Self
-        ensures { result ≡ opening_state world }
+        ensures { result ≡ opening_state world.world }
     {
         PlayState {
             machine: Saved::new(alloc, world),
@@ -26,6 +28,7 @@ impl PlayState {
                 rewinds: 0,
                 tick: 0,
             },
+            frame: None,
         }
     }
 

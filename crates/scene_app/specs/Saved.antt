@@ -1,0 +1,22 @@
+-- Saved worlds in memory: stacks whose last world is the next one, with rooms that nobody sees.
+use Rattle.std.specs.Prelude.{ℕ, List, [], map as each, refl}
+use Rattle.std.specs.Coded.{Coded, code_by, coded×, coded_list, coded_ℕ}
+use mathlib.Core.List.{reverse}
+use Rattle.scene_kinds.specs.Map as map
+use Rattle.scene_world.specs.contracts.world.World as world
+use Rattle.scene_world.specs.Room.{Housed}
+use Rattle.scene_model.specs.World.{World}
+use Rattle.scene_model.specs.Machine.{Machine}
+
+-- the worlds of a stack, the next one first
+abbrev pub worlds : List Housed → List World
+worlds hs = reverse (each (λ h. h.world) hs)
+
+-- a world is told apart as one with no room
+abbrev pub world_code : Coded World
+world_code = code_by Housed world.the_row.coded (λ w. record { world = w; room = record { slots = 0; rows = map.empty; homes = 0; lists = []; names = [] } }) (λ h. h.world) (λ _. refl)
+
+-- and a machine by its parts
+abbrev pub machine_code : Coded (Machine World)
+machine_code = code_by (List World × (World × (List World × ℕ))) (coded× (coded_list world_code) (coded× world_code (coded× (coded_list world_code) coded_ℕ)))
+    (λ m. (m.past, (m.now, (m.future, m.rewinds)))) (λ p. record { past = p.0; now = p.1.0; future = p.1.1.0; rewinds = p.1.1.1 }) (λ _. refl)
