@@ -89,7 +89,7 @@ fn play_run(
 ) -> Result<(), AllocError>
     requires few { reports.old.count < number }
     requires room { number + 1 + length after.now < 2 ^ 32 }
-    ensures printed { OnOk result (Prints (string_bytes out.old) (string_bytes out.new) reports.old reports.new (then_rest number (said_reply (opening_state world) (Ok line)) (λ s. run_from (number + 1) s (lines after.now)))) }
+    ensures printed { OnOk result (Prints (string_bytes out.old) (string_bytes out.new) reports.old reports.new (then_rest number (said_reply (opening_state world.world) (Ok line)) (λ s. run_from (number + 1) s (lines after.now)))) }
     ensures few { OnOk result (reports.new.count < number + 1 + length after.now) }
 {
     let mut state = PlayState::new(alloc, world);
