@@ -6,12 +6,12 @@ use Rattle.scene_kinds.specs.Schema.{Kinds}
 use Rattle.scene_model.specs.World.{new_world}
 use Rattle.scene_app.specs.declared.play_state.PlayState.{PlayState}
 use Rattle.scene_script.specs.declared.script_line.Line.{Line}
-use Rattle.scene_script.specs.declared.script_line.Line.TheVariants.{Empty, Kind, Slots, Do, Begin, Queue, Commit, Undo, Redo, Show, Get, Mark, Changed, Added}
+use Rattle.scene_script.specs.declared.script_line.Line.TheVariants.{Empty, Kind, Slots, Do, Begin, Queue, Commit}
 use Rattle.scene_kinds.specs.Answers.{Outcome}
 use Rattle.scene_queue.specs.declared.command.Command.{Command}
 use Rattle.scene_queue.specs.Queue.{QueueState, push_of}
 use Rattle.scene_script.specs.declared.bad_line.BadLine.{BadLine}
-use Rattle.scene_app.specs.OpenFrame.{Opened, and_last, with_command, with_queue, queue_count}
+use Rattle.scene_app.specs.OpenFrame.{Opened, and_last, with_command, queue_count}
 use Rattle.scene_app.specs.Play.{with_frame, queued_reply, frame_reply, reply_within, Reply, Printed, opening_state, said_reply, reports_at, then_rest, run_from, setup_line, setup_said, setup_from}
 use Rattle.scene_app.specs.Reports.{Tally}
 use Rattle.scene_app.specs.Steps.{LinePlayed, Prints, noted}
