@@ -1,0 +1,5 @@
+pub mod ListsBack
+pub mod ValuesBack
+pub mod SchemaBack
+pub mod RowsBack
+pub mod SceneBack
