@@ -3,3 +3,4 @@ pub mod ValuesBack
 pub mod SchemaBack
 pub mod RowsBack
 pub mod SceneBack
+pub mod WorldBack

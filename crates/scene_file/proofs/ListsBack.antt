@@ -1,11 +1,11 @@
 -- Lists that were written are read again: each element, and each that follows the one before.
-use Rattle.std.proofs.Common.{◌≡◌, ℕ, zero, suc, ◌+◌, ◌<◌, Bool, true, false, cond, List, [], ◌∷◌, ◌++◌, length, refl, ap, sym, subst, ◌∙◌, Option, Some, None, Result, Ok, Err}
+use Rattle.std.proofs.Common.{◌≡◌, ℕ, ◌+◌, ◌<◌, Bool, true, List, [], ◌∷◌, refl, ap, ◌∙◌, Option, Some, None, Result, Ok}
 use Rattle.std.specs.Prelude.{map as each, nat_lt}
 use Rattle.std.specs.List.{AllByRecursion}
 use Rattle.std.proofs.lemmas.Bool.{lt-ltb}
 use Rattle.serde_json.specs.Data.{Data}
 use Rattle.scene_file.specs.declared.fault.FileFault.{FileFault}
-use Rattle.scene_file.specs.Reading.{◌>>=◌, if_good, below, elements, list_at, each_at, list_of, may_follow, rising_at, rising_of, place_in}
+use Rattle.scene_file.specs.Reading.{◌>>=◌, if_good, below, elements, each_at, list_of, may_follow, rising_at, rising_of, place_in}
 use Rattle.scene_file.specs.Text.{items_of, list_text, count_text}
 
 -- the elements of a list that was written

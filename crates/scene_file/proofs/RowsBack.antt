@@ -1,6 +1,6 @@
 -- Rows that were written are read again, and the kinds of their table.
-use Rattle.std.proofs.Common.{◌≡◌, ℕ, zero, suc, ◌+◌, ◌^◌, ◌<◌, ◌≤◌, Bool, true, false, cond, T, List, [], ◌∷◌, length, refl, ap, sym, subst, ◌∙◌, arith, Option, Some, None, Result, Ok, Err, is_some, nat_eq, nat_lt}
-use Rattle.std.specs.Prelude.{map as each, codes, ◌&&◌, slice_get, option_map, filter, fold}
+use Rattle.std.proofs.Common.{◌≡◌, ℕ, zero, suc, ◌+◌, ◌^◌, ◌<◌, ◌≤◌, Bool, true, false, cond, T, List, [], ◌∷◌, length, refl, ap, sym, subst, ◌∙◌, arith, Some, None, Ok, is_some, nat_eq, nat_lt}
+use Rattle.std.specs.Prelude.{map as each, codes, filter, fold}
 use Rattle.std.specs.List.{list_all, range_with_len, zip, AllByRecursion}
 use Rattle.std.specs.Ordering.{nat_cmp, eq_by_cmp, is_lt}
 use Rattle.std.specs.declared.cmp.Ordering.TheVariants.{Less}
@@ -9,13 +9,12 @@ use Rattle.std.specs.FinMap.{nat_cmp-IsAntisymmetric}
 use Rattle.std.specs.FinMap.Entries.{find, is_sorted, below_all}
 use Rattle.std.proofs.lemmas.Bool.{eq-eqb, lt-ltb, false_from_ne_true}
 use Rattle.std.proofs.lemmas.Bool.Decides.{nat_tests}
-use Rattle.std.proofs.lemmas.Option.{slice_get_within}
 use Rattle.scene_kinds.specs.declared.cell.Cell.{Cell}
 use Rattle.scene_kinds.specs.declared.cells.Row.{Row}
 use Rattle.scene_kinds.specs.declared.shape.Shape.{Shape}
 use Rattle.scene_kinds.specs.declared.shape.Shape.TheVariants as shape
 use Rattle.scene_kinds.specs.declared.value.Value.{Value}
-use Rattle.scene_kinds.specs.Cells.{IsAscending, HasKinds, mask_of, cell_of}
+use Rattle.scene_kinds.specs.Cells.{IsAscending, mask_of}
 use Rattle.scene_kinds.specs.KindSet.{has_kind}
 use Rattle.scene_kinds.specs.Ranges.{is_entity, is_in_range}
 use Rattle.scene_kinds.specs.Schema.{Kinds, fits_kind, has_shape, shape_of}
@@ -25,8 +24,8 @@ use Rattle.scene_kinds.proofs.KindSets.{has_kind-mask_of}
 use Rattle.scene_kinds.proofs.Maps.{equal_keys, ties_itself}
 use Rattle.scene_model.specs.Valid.{IsRowOf}
 use Rattle.scene_parts.specs.Parts.{keys}
-use Rattle.scene_parts.proofs.Tests.{and_is, all_is, all_with}
-use Rattle.scene_file.specs.Reading.{◌>>=◌, if_good, elements, list_at, place_in, under, key_of}
+use Rattle.scene_parts.proofs.Tests.{and_is, all_with}
+use Rattle.scene_file.specs.Reading.{◌>>=◌, if_good, elements, place_in, under}
 use Rattle.scene_file.specs.Text.{items_of, entity_json, cell_text, row_text, kinds_of}
 use Rattle.scene_file.specs.Walk.{entity_at, cell_at, cells_from, with_shape, shapes_of, set_of, row_at}
 use Rattle.scene_file.proofs.ListsBack.{ReadsBack, after, good, elements_written, Follow}
@@ -117,7 +116,7 @@ row_back schema r kinds e h s = subst (λ ks. ReadsBack (row_at ks (shapes_of sc
 
 -- ---- the kinds of a set
 
-less_is : (a b : ℕ) → nat_cmp a b ≡ Less → a < b
+pub less_is : (a b : ℕ) → nat_cmp a b ≡ Less → a < b
 less_is a b h = grind (arith, nat_tests)
 
 pub all_above : (kind : ℕ) (cells : Cells) → T (below_all nat_cmp kind cells) → AllByRecursion (λ c. kind < c.0) cells

@@ -1,18 +1,17 @@
 -- The kinds of a schema that were written are read again.
-use Rattle.std.proofs.Common.{◌≡◌, ℕ, zero, suc, ◌+◌, ◌<◌, Bool, true, false, cond, not, List, [], ◌∷◌, ◌++◌, length, refl, ap, sym, subst, ◌∙◌, arith, Option, Some, None, Result, Ok, Err, is_some, append_assoc, length-append, nat_lt}
+use Rattle.std.proofs.Common.{◌≡◌, ℕ, ◌+◌, ◌<◌, true, cond, not, List, [], ◌∷◌, ◌++◌, length, refl, ap, sym, subst, ◌∙◌, arith, Some, None, Ok, is_some, append_assoc, nat_lt}
 use Rattle.std.specs.Prelude.{map as each, slice_get}
-use Rattle.std.specs.List.{position_from}
 use Rattle.std.specs.Str.{bytes_eq}
 use Rattle.std.proofs.lemmas.Bool.{lt-ltb}
 use Rattle.std.proofs.lemmas.List.{append-nil}
 use Rattle.std.proofs.lemmas.Option.{get_or_from_slice_get, slice_get_within, same_Some}
 use Rattle.scene_kinds.specs.declared.shape.Shape.{Shape}
 use Rattle.scene_kinds.specs.declared.fault.Fault.TheVariants.{BadName, KindTaken, KindsFull}
-use Rattle.scene_kinds.specs.Answers.{Outcome, refuse}
+use Rattle.scene_kinds.specs.Answers.{refuse}
 use Rattle.scene_kinds.specs.Schema.{Kinds, IsSchema, is_good_name, number_of, with_kind}
 use Rattle.scene_kinds.proofs.Positions.{found, found_in_more}
-use Rattle.scene_file.specs.Reading.{◌>>=◌, list_at, place_in, elements}
-use Rattle.scene_file.specs.Text.{items_of, list_text, kind_text, shape_text}
+use Rattle.scene_file.specs.Reading.{◌>>=◌, list_at, place_in}
+use Rattle.scene_file.specs.Text.{list_text, kind_text, shape_text}
 use Rattle.scene_file.specs.Walk.{shape_at, kind_parts, added, kinds_from, kinds_at}
 use Rattle.scene_file.proofs.ListsBack.{ReadsBack, after, elements_written}
 use Rattle.scene_file.proofs.ValuesBack.{shape_back}

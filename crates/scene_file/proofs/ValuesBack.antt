@@ -1,6 +1,6 @@
 -- Values and cells that were written are read again.
-use Rattle.std.proofs.Common.{◌≡◌, ℕ, ◌+◌, ℤ, pos, negsuc, ◌<◌, Bool, true, false, cond, List, [], ◌∷◌, length, refl, ap, arith, Option, Some, None, Result, Ok, Err, nat_lt, nat_eq}
-use Rattle.std.specs.Prelude.{map as each, ◌&&◌}
+use Rattle.std.proofs.Common.{◌≡◌, ℕ, ◌+◌, ℤ, pos, negsuc, true, false, cond, List, [], ◌∷◌, length, refl, ap, arith, Some, None, Ok, nat_lt, nat_eq}
+use Rattle.std.specs.Prelude.{map as each}
 use Rattle.std.specs.List.{list_all, AllByRecursion}
 use Rattle.std.proofs.lemmas.Bool.{ltb-true, eqb-true}
 use Rattle.scene_kinds.specs.declared.entity.Entity.{Entity}
@@ -14,7 +14,7 @@ use Rattle.scene_kinds.specs.Ranges.{is_i64, are_three, is_entity, is_in_range}
 use Rattle.scene_kinds.specs.Shape.{shape_of_value}
 use Rattle.scene_script.proofs.NumberLaws.{entity_in-text}
 use Rattle.scene_parts.proofs.Tests.{and_is, all_is, all_with}
-use Rattle.scene_file.specs.Reading.{◌>>=◌, field, elements, place_in, each_at}
+use Rattle.scene_file.specs.Reading.{◌>>=◌, field, elements, place_in}
 use Rattle.scene_file.specs.Text.{items_of, int_text, count_text, entity_json, value_text, shape_text, cell_text, resource_cell_text}
 use Rattle.scene_file.specs.Walk.{int_at, tick_at, entity_at, shape_at, three_of, value_at, cell_from, cell_at, resource_cell_at}
 use Rattle.scene_file.proofs.ListsBack.{ReadsBack, after, each_back}
