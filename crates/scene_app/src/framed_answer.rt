@@ -1,9 +1,8 @@
 //! The answer to one line in an open frame.
-ghost use Rattle.std.specs.Prelude.{◌≡◌, ◌≤◌, ◌+◌, OnOk, IfOk, Some, None, length, string_bytes};
+ghost use Rattle.std.specs.Prelude.{◌≤◌, ◌+◌, OnOk, IfOk, Some, None, length, string_bytes};
 ghost use Rattle.scene_script.specs.declared.script_line.Line.TheVariants.{Queue, Commit};
-ghost use Rattle.scene_queue.specs.Frames.{frame_of};
-ghost use Rattle.scene_app.specs.OpenFrame.{with_command, with_queue, queues_of};
-ghost use Rattle.scene_app.specs.Play.{frame_reply, queued_reply, submit_reply, bad_reply, with_frame};
+ghost use Rattle.scene_app.specs.OpenFrame.{with_command};
+ghost use Rattle.scene_app.specs.Play.{frame_reply, queued_reply, bad_reply, with_frame};
 ghost use Rattle.scene_app.specs.Steps.{Replies};
 
 use crate::answer::{answer_bad, answer_frame, answer_refused};
