@@ -1,2 +1,3 @@
 pub mod Onto
 pub mod Room
+pub mod Shifts

@@ -1,3 +1,4 @@
+pub mod Moves
 pub mod Onto
 pub mod Room
 pub mod Stage

@@ -4,14 +4,17 @@ ghost use Rattle.scene_kinds.specs.Cells.{HasKinds, AreKindsBelow, cell_of, with
 ghost use Rattle.scene_kinds.specs.declared.cells.Row.{Row};
 ghost use Rattle.scene_table.specs.Table.{cell_at};
 ghost use Rattle.scene_table.specs.Tables.{rows_at, row_at};
+ghost use Rattle.scene_table.specs.Tables.{without_row, with_row_back, row_for};
 ghost use Rattle.scene_model.specs.Commands.{after_move, after_insert};
+ghost use Rattle.scene_model.specs.Raw.{shifted};
+ghost use Rattle.scene_world.specs.Moves.{MayMove, moved_mask};
 ghost use Rattle.scene_archetypes.specs.KindTables.{IsWider, IsWithin};
 ghost use Rattle.scene_table.specs.Tables.{StandsIn};
 ghost use Rattle.std.specs.Option.{option_map};
 
 use scene_archetypes::Archetypes;
 use scene_table::Home;
-use scene_kinds::{Cell, Entity, Value, set_with, set_without};
+use scene_kinds::{Cell, Entity, KindSet, Value, set_with, set_without};
 use std::alloc::AllocError;
 
 /// The added tick of the cell of a kind in the row at a home, or `None` where the row doesn't have that kind.
@@ -84,4 +87,41 @@ pub(crate) fn remove_at(
     let last = tables.len(target);
     let _cell = tables.move_without(entity, home, last, kind);
     Ok(())
+}
+
+/// The kind set with one kind more, or, not `inward`, without it.
+pub(crate) fn moved_mask(mask: KindSet, kind: u8, inward: bool) -> KindSet
+    requires { kind < 64 }
+    ensures { result ≡ moved_mask mask kind inward }
+{
+    if inward {
+        set_with(mask, kind)
+    } else {
+        set_without(mask, kind)
+    }
+}
+
+/// Moves the row of an entity, which stands at a home, to a place of the table with one kind more, with this cell, or,
+/// not `inward`, to the one without the kind. It takes no memory.
+pub(crate) fn move_row(
+    tables: &mut Archetypes,
+    entity: Entity,
+    home: Home,
+    place: usize,
+    kind: u8,
+    cell: Cell,
+    inward: bool,
+)
+    requires stands { StandsIn tables.old.tables entity home }
+    requires low { kind < 64 }
+    requires moves { (row : Row) → row_at tables.old.tables home ≡ Some row → MayMove tables.old home place kind cell inward row }
+    ensures tables { (row : Row) → row_at tables.old.tables home ≡ Some row → tables.new.tables ≡ with_row_back (without_row tables.old.tables home) place (row_for row.entity (shifted row.cells kind cell inward)) }
+    ensures rooms { tables.new.rooms ≡ tables.old.rooms }
+    ensures homes { tables.new.homes ≡ tables.old.homes }
+{
+    if inward {
+        tables.move_with(entity, home, place, kind, cell);
+    } else {
+        let _cell = tables.move_without(entity, home, place, kind);
+    }
 }

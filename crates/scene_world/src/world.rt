@@ -23,6 +23,7 @@ mod set_link;
 mod set_parent;
 mod set_resource;
 mod set_tick;
+mod shift_row;
 mod spawn;
 
 use scene_archetypes::Archetypes;
