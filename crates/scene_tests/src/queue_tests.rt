@@ -28,7 +28,7 @@ fn commands_are_applied_in_order(rt: HostRuntime) -> Result<(), Fail> {
     assert!(rt; takes_despawn(&mut queue));
     assert!(rt; queue.spawn(none(rt.alloc())).is_ok());
     let mut world = empty_world(rt.alloc());
-    let spawned = queue.apply(&mut world)?;
+    let spawned = queue.apply(&mut world).expect(&rt, "memory");
     let reused = Entity {
         index: 0,
         generation: 2,
@@ -54,7 +54,7 @@ fn a_full_queue_hands_the_command_back(rt: HostRuntime) -> Result<(), Fail> {
 fn a_copy_of_a_queue_has_its_commands(rt: HostRuntime) -> Result<(), Fail> {
     let mut queue = Queue::new(rt.alloc());
     assert!(rt; takes_despawn(&mut queue));
-    let copy = queue.try_clone()?;
+    let copy = queue.try_clone().expect(&rt, "memory");
     assert_eq!(rt; copy.commands().len(), 1);
     Ok(())
 }

@@ -28,15 +28,29 @@ fn is_taken_apart(world: &World, first_gone: u32) -> bool {
         && free.last() == Some(&0)
 }
 
+/// Spawns a chain, each entity below the one before, and takes it apart from its root.
+fn chain_comes_and_goes(alloc: Global, world: &mut World) -> Result<(), Refusal> {
+    let root = world.spawn(Vec::new(alloc))?;
+    let mut above = root;
+    for _ in 0..BELOW {
+        above = spawn_below(alloc, world, above)?;
+    }
+    world.despawn_recursive(root)
+}
+
+/// Spawns children below one root, and takes them apart from it.
+fn children_come_and_go(alloc: Global, world: &mut World) -> Result<(), Refusal> {
+    let root = world.spawn(Vec::new(alloc))?;
+    for _ in 0..BELOW {
+        let _child = spawn_below(alloc, world, root)?;
+    }
+    world.despawn_recursive(root)
+}
+
 #[test]
 fn a_deep_chain_is_taken_apart_from_its_end(rt: HostRuntime) -> Result<(), Fail> {
     let mut world = empty_world(rt.alloc());
-    let root = world.spawn(Vec::new(rt.alloc()))?;
-    let mut above = root;
-    for _ in 0..BELOW {
-        above = spawn_below(rt.alloc(), &mut world, above)?;
-    }
-    world.despawn_recursive(root)?;
+    assert!(rt; chain_comes_and_goes(rt.alloc(), &mut world).is_ok());
     assert!(rt; is_taken_apart(&world, BELOW));
     Ok(())
 }
@@ -44,11 +58,7 @@ fn a_deep_chain_is_taken_apart_from_its_end(rt: HostRuntime) -> Result<(), Fail>
 #[test]
 fn a_wide_parent_is_taken_apart_from_its_first_child(rt: HostRuntime) -> Result<(), Fail> {
     let mut world = empty_world(rt.alloc());
-    let root = world.spawn(Vec::new(rt.alloc()))?;
-    for _ in 0..BELOW {
-        let _child = spawn_below(rt.alloc(), &mut world, root)?;
-    }
-    world.despawn_recursive(root)?;
+    assert!(rt; children_come_and_go(rt.alloc(), &mut world).is_ok());
     assert!(rt; is_taken_apart(&world, 1));
     Ok(())
 }
