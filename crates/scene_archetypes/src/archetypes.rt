@@ -186,14 +186,7 @@ impl Archetypes {
     /// Moves the row of an entity, which stands at a home, to a place of the table of the kind set with one kind more,
     /// with a cell of that kind. The last row of its table takes its place; the row that stood at its new place goes
     /// last. It takes no memory.
-    pub fn move_with(
-        &mut self,
-        entity: Entity,
-        home: Home,
-        place: usize,
-        kind: u8,
-        cell: Cell,
-    )
+    pub fn move_with(&mut self, entity: Entity, home: Home, place: usize, kind: u8, cell: Cell)
         requires stands { StandsIn self.old.tables entity home }
         requires kinds { (row : Row) → row_at self.old.tables home ≡ Some row → HasKinds home.mask row }
         requires low { kind < 64 }
@@ -218,13 +211,7 @@ impl Archetypes {
     /// Moves the row of an entity, which stands at a home, to a place of the table of the kind set with one kind less,
     /// and gives the cell of that kind. The last row of its table takes its place; the row that stood at its new place
     /// goes last. It takes no memory.
-    pub fn move_without(
-        &mut self,
-        entity: Entity,
-        home: Home,
-        place: usize,
-        kind: u8,
-    ) -> Cell
+    pub fn move_without(&mut self, entity: Entity, home: Home, place: usize, kind: u8) -> Cell
         requires stands { StandsIn self.old.tables entity home }
         requires kinds { (row : Row) → row_at self.old.tables home ≡ Some row → HasKinds home.mask row × AreKindsBelow 64 row.cells }
         requires low { kind < 64 }

@@ -23,4 +23,3 @@ lives_rewritten t h was row e at same l =
     let g = here_live t e l in
     let k = rewritten_stays t h was row g.0 g.1.row at same g.1.there in
     live_here (with_row_at t h row) e g.0 k.0 k.1.0 (k.1.1 ∙ g.1.same)
-

@@ -90,4 +90,3 @@ home_for cells place = record { mask = mask_of cells; place = place }
 -- a row comes back to a place of its table, and the row that stood there goes last
 abbrev pub with_row_back : Tables → ℕ → Row → Tables
 with_row_back tables place row = with_rows tables (mask_of row.cells) (put_back (rows_at tables (mask_of row.cells)) place row)
-

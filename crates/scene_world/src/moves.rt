@@ -13,8 +13,8 @@ ghost use Rattle.scene_table.specs.Tables.{StandsIn};
 ghost use Rattle.std.specs.Option.{option_map};
 
 use scene_archetypes::Archetypes;
-use scene_table::Home;
 use scene_kinds::{Cell, Entity, KindSet, Value, set_with, set_without};
+use scene_table::Home;
 use std::alloc::AllocError;
 
 /// The added tick of the cell of a kind in the row at a home, or `None` where the row doesn't have that kind.

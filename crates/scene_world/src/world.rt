@@ -26,14 +26,13 @@ mod set_tick;
 mod shift_row;
 mod spawn;
 
-use scene_archetypes::Archetypes;
 use crate::given::is_unknown;
-use scene_table::Home;
 use scene_alloc::Slots;
+use scene_archetypes::Archetypes;
 use scene_kinds::{CellRef, Entity, Fault, Refusal, Schema};
 use scene_links::Links;
 use scene_resources::Resources;
-use scene_table::Table;
+use scene_table::{Home, Table};
 use std::alloc::{AllocError, Global};
 use std::marker::Model;
 

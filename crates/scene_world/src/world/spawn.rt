@@ -12,10 +12,10 @@ ghost use Rattle.scene_kinds.specs.declared.entity.Entity.{Entity};
 ghost use Rattle.scene_world.specs.Room.{IsWider as IsWiderRoom};
 ghost use Rattle.scene_archetypes.specs.KindTables.{IsWider};
 
-use scene_archetypes::Archetypes;
 use crate::given::{new_cells, spawn_fault};
 use crate::world::World;
 use scene_alloc::Slots;
+use scene_archetypes::Archetypes;
 use scene_kinds::{Cells, Entity, KindSet, Refusal, Row, Value};
 
 /// Takes a slot for a new entity, and puts its row last in the table of its kind set. All growth comes before

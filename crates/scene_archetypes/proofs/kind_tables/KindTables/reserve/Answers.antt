@@ -11,7 +11,7 @@ invariant_of-self c =
     record {
       listed = listed_kept c.self.inside.kind_sets.keys c.self.inside.tables.items c.known_table-at.result c.index_mut.result.now c.reserve.new.self mask c.self.invariant.listed;
       room = held_grown c.self.inside.tables.items c.known_table-at.result c.index_mut.result.now c.reserve.new.self mask (c.reserve.ensures.rows ∙ ap (λ t. t.rows) c.index_mut.ensures.value)
-      (subst (λ d. d.capacity ≤ c.reserve.new.self.capacity) c.index_mut.ensures.value c.reserve.ensures.wide) c.self.invariant.room;
+          (subst (λ d. d.capacity ≤ c.reserve.new.self.capacity) c.index_mut.ensures.value c.reserve.ensures.wide) c.self.invariant.room;
     }
 
 pub returns-clause-tables : goal.returns-clause-tables
