@@ -10,8 +10,10 @@
 
 mod delta;
 mod examples;
+mod fits;
 mod laws;
 mod record;
+mod same;
 
 pub use delta::Delta;
 pub use examples::worked_records_hold;

@@ -90,9 +90,10 @@ impl World {
         }
     }
 
-    /// The tick of the last frame; 0 in a new world.
+    /// The tick of the last frame; 0 in a new world. And every world is valid (docs/MODEL.md, "A valid world").
     pub fn tick(&self) -> u64
-        ensures { result ≡ self.now.tick }
+        ensures tick { result ≡ self.now.tick }
+        ensures valid { IsValid self.now }
     {
         self.tick
     }
