@@ -2,7 +2,7 @@
 use Rattle.std.proofs.Common.{◌≡◌, ℕ, zero, suc, ◌+◌, ◌-◌, List, [], ◌∷◌, length, refl, arith, slice_get}
 use Rattle.scene_alloc.specs.Ends.{last}
 
-last_at : {X : Type 0} (xs : List X) (n : ℕ) → n + 1 ≡ length xs → slice_get xs n ≡ last xs
+pub last_at : {X : Type 0} (xs : List X) (n : ℕ) → n + 1 ≡ length xs → slice_get xs n ≡ last xs
 last_at [] n e = refl
 last_at (x ∷ []) zero e = refl
 last_at (x ∷ []) (suc n) e = absurd (omega (arith, e))

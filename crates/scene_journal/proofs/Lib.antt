@@ -7,8 +7,10 @@ pub mod Deltas
 pub mod Ends
 pub mod Folds
 pub mod FrameLaws
+pub mod LastRow
 pub mod NextEntity
 pub mod Records
 pub mod RowCells
+pub mod ShiftedKinds
 pub mod Stages
 pub mod Standing

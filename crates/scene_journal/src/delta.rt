@@ -1,8 +1,8 @@
 //! One change of a world.
 ghost use Rattle.std.specs.Prelude.{◌≡◌, ◌↔◌, IfOk, IsTrue};
-ghost use Rattle.scene_journal.specs.Deltas.{FitsOn};
+ghost use Rattle.scene_journal.specs.Deltas.{FitsOn, FitsBack};
 
-use crate::fits;
+use crate::{fits, fits_back};
 use scene_kinds::{Cell, Cells, Entity, Text};
 use scene_world::World;
 use std::alloc::AllocError;
@@ -110,6 +110,51 @@ impl Delta {
                 before,
                 after,
             } => fits::can_set_resource(world, name, before, after),
+        }
+    }
+
+    /// Whether the delta fits back on a world, so that it can be taken back there (docs/JOURNAL.md, "Where a delta fits").
+    ///
+    /// It takes no memory. It costs what `fits_on` costs, and for a despawn a look over the free list.
+    pub fn fits_back(&self, world: &World) -> bool
+        ensures { IsTrue result ↔ FitsBack self.now world.now }
+    {
+        match self {
+            Delta::Spawned {
+                entity,
+                cells,
+                fresh,
+            } => fits_back::can_drop(world, *entity, cells, *fresh),
+            Delta::Despawned {
+                entity,
+                place,
+                cells,
+                link,
+                retired,
+            } => fits_back::can_uncut(world, *entity, *place, cells, *link, *retired),
+            Delta::Shifted {
+                entity,
+                place,
+                kind,
+                cell,
+                inward,
+            } => fits_back::can_unshift(world, *entity, *place, *kind, cell, *inward),
+            Delta::CellSet {
+                entity,
+                kind,
+                before,
+                after,
+            } => fits::can_set_cell(world, *entity, *kind, after, before),
+            Delta::Linked {
+                entity,
+                before,
+                after,
+            } => fits::can_set_link(world, *entity, *after, *before),
+            Delta::ResourceSet {
+                name,
+                before,
+                after,
+            } => fits::can_set_resource(world, name, after, before),
         }
     }
 }

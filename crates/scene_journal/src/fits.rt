@@ -151,7 +151,7 @@ pub(crate) fn lacks_kind(world: &World, entity: Entity, kind: u8) -> bool
 }
 
 /// The last of some indices.
-fn last_of(indices: &[u32]) -> Option<u32>
+pub(crate) fn last_of(indices: &[u32]) -> Option<u32>
     ensures { result ≡ last indices.now }
 {
     indices.last().copied()
@@ -290,7 +290,7 @@ fn stands_at(world: &World, entity: Entity, place: u32) -> bool
 }
 
 /// Whether a cell may come into the row of an entity where `inward`, or else is the row's own.
-fn can_move(world: &World, entity: Entity, kind: u8, cell: &Cell, inward: bool) -> bool
+pub(crate) fn can_move(world: &World, entity: Entity, kind: u8, cell: &Cell, inward: bool) -> bool
     ensures { IsTrue result ↔ CanMove world.now (cells_of world.now entity) kind cell.now inward }
 {
     if inward {

@@ -11,6 +11,7 @@
 mod delta;
 mod examples;
 mod fits;
+mod fits_back;
 mod laws;
 mod record;
 mod same;
