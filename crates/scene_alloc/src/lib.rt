@@ -20,6 +20,3 @@ pub use laws::{
     untake_comes_back,
 };
 pub use slots::Slots;
-
-#[cfg(test)]
-mod tests;

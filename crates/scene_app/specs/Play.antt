@@ -36,9 +36,11 @@ use Rattle.scene_app.specs.Shown.{show_text}
 abbrev pub opening_state : World → PlayState
 opening_state w = record { machine = opening w; cursor = record { rewinds = 0; tick = 0 } }
 
+-- the state with another machine
 abbrev pub with_machine : PlayState → Machine World → PlayState
 with_machine s m = record s { machine = m }
 
+-- the state with another cursor
 abbrev pub with_cursor : PlayState → Cursor → PlayState
 with_cursor s c = record s { cursor = c }
 
@@ -56,19 +58,24 @@ since s = if nat_eq s.cursor.rewinds s.machine.rewinds then Ok s.cursor.tick els
 abbrev pub made_text : List Entity → List ℕ
 made_text es = codes "done" ++ (flat_map (λ e. codes " " ++ entity_text e.index e.generation) es ++ codes "\n")
 
+-- what an undo prints; it spawns nothing
 abbrev pub undone_text : List Entity → List ℕ
 undone_text es = codes "undone\n"
 
+-- what a redo prints
 abbrev pub redone_text : List Entity → List ℕ
 redone_text es = codes "redone\n"
 
+-- the line of a refusal: its fault by number and name, and its place where it has one
 abbrev pub refused_text : Refusal → List ℕ
 refused_text r = codes "refused " ++ (refusal_text r ++ codes "\n")
 
+-- what `get` prints: the row, or that there is no such entity
 abbrev pub row_answer : Kinds → Option Row → List ℕ
 row_answer kinds None = refused_text (refusal_of NoSuchEntity)
 row_answer kinds (Some row) = row_text kinds row ++ codes "\n"
 
+-- what `mark` prints: the cursor's count of rewinds, then its tick
 abbrev pub mark_text : Cursor → List ℕ
 mark_text c = codes "mark " ++ (decimal c.rewinds ++ (codes " " ++ (decimal c.tick ++ codes "\n")))
 
@@ -81,9 +88,11 @@ abbrev pub since_text : List ℕ → Kinds → (ℕ → List CellName) → Resul
 since_text word kinds cells (Ok tick) = listed_text word kinds (cells tick)
 since_text word kinds cells (Err r) = refused_text r
 
+-- what `changed` prints
 abbrev pub changed_text : PlayState → List ℕ
 changed_text s = since_text (codes "changed") s.machine.now.schema (changed_since s.machine.now no_filter) (since s)
 
+-- what `added` prints
 abbrev pub added_text : PlayState → List ℕ
 added_text s = since_text (codes "added") s.machine.now.schema (added_since s.machine.now no_filter) (since s)
 
@@ -93,6 +102,7 @@ pub record Reply : Type 0 where
   pub bad : Option BadLine
   pub state : PlayState
 
+-- the machine's answer: the text of what an accepted call spawned, or the refusal
 abbrev pub answer_text : (List Entity → List ℕ) → Answer → List ℕ
 answer_text text (Ok es) = text es
 answer_text text (Err r) = refused_text r
@@ -135,6 +145,7 @@ pub record Printed : Type 0 where
   pub text : List ℕ
   pub bad : List BadLineReport
 
+-- where no line is left, nothing is printed
 abbrev pub nothing : Printed
 nothing = record { text = []; bad = [] }
 
@@ -161,13 +172,16 @@ abbrev pub declaration_text : Outcome ℕ Kinds → List ℕ
 declaration_text (Ok p) = codes "ok\n"
 declaration_text (Err r) = refused_text r
 
+-- a refused declaration leaves the kinds as they were
 abbrev pub kinds_after : Kinds → Outcome ℕ Kinds → Kinds
 kinds_after kinds (Ok p) = p.1
 kinds_after kinds (Err r) = kinds
 
+-- what a `kind` line prints
 abbrev pub declared_text : Kinds → List ℕ → Shape → List ℕ
 declared_text kinds name shape = declaration_text (with_kind kinds name shape)
 
+-- the kinds after a `kind` line
 abbrev pub after_kind : Kinds → List ℕ → Shape → Kinds
 after_kind kinds name shape = kinds_after kinds (with_kind kinds name shape)
 
@@ -189,6 +203,7 @@ setup_from number kinds limit [] = nothing
 setup_from number kinds limit (l ∷ ls) =
     setup_said number kinds limit (λ k n. setup_from (number + 1) k n ls) (run_from number (opening_state (new_world kinds limit)) (l ∷ ls)) (line_in kinds l)
 
+-- all of a script, from its first line, with no kinds yet and the greatest slot limit
 abbrev pub printed : List ℕ → Printed
 printed script = setup_from 1 [] 1048576 (lines script)
 

@@ -2,6 +2,7 @@
 use Rattle.std.specs.Prelude.{ℕ, List, [], length, take}
 use Rattle.scene_app.specs.declared.report.BadLineReport.{BadLineReport}
 
+-- how many bad lines there are, and the reports of the first ones
 pub record Tally : Type 0 where
   pub count : ℕ
   pub first : List BadLineReport
@@ -10,5 +11,6 @@ pub record Tally : Type 0 where
 abbrev pub tally : List BadLineReport → Tally
 tally reports = record { count = length reports; first = take 10 reports }
 
+-- the tally of a script without a bad line
 abbrev pub no_bad_lines : Tally
 no_bad_lines = record { count = 0; first = [] }

@@ -15,9 +15,11 @@ abbrev pub target_in : TargetWord → List Entity → Option Entity
 target_in (target.Entity e) spawned = Some e
 target_in (target.New k) spawned = slice_get spawned k
 
+-- a command on one target, once that is an entity
 abbrev pub on_entity : TargetWord → (Entity → Command) → Request
 on_entity t command spawned = option_map command (target_in t spawned)
 
+-- a command on two targets, once both are entities; the first is looked at first
 abbrev pub on_both : (first second : TargetWord) → (Entity → Entity → Command) → Request
 on_both s t command spawned = option_and_then (λ e. option_map (command e) (target_in t spawned)) (target_in s spawned)
 

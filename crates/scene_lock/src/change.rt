@@ -1,5 +1,6 @@
 //! A job of a session: what changes the state, or is stopped.
-ghost use Rattle.std.specs.Prelude.{◌≡◌, ◌++◌, ◌∷◌, [], ℕ, IfOk, IfErr};
+ghost use Rattle.std.specs.Prelude.{◌≡◌, ℕ, IfOk, IfErr};
+ghost use Rattle.scene_lock.specs.History.{HasOneMore};
 
 use crate::kept::Kept;
 use std::alloc::Global;
@@ -25,7 +26,7 @@ pub trait Change<S: Kept>: Sized {
     fn change(self, alloc: Global, state: &mut S, session: u32) -> Result<Self::Done, Self::Stopped>
         requires { S.good state.old }
         ensures good { S.good state.new × (S.opening state.new ≡ S.opening state.old) }
-        ensures done { IfOk result (λ d. (e : S.Entry) × (S.entries state.new ≡ S.entries state.old ++ e ∷ []) × (S.session e ≡ session) × enters self session d e) }
+        ensures done { IfOk result (λ d. HasOneMore S.session session (S.entries state.old) (λ e. enters self session d e) (S.entries state.new)) }
         ensures stopped { IfErr result (λ x. (S.entries state.new ≡ S.entries state.old) × stops self state.old x) };
 
     /// The same, for a caller that may start threads and wait for them. `WordLock::write` runs it. Without a body of its own it
@@ -39,7 +40,7 @@ pub trait Change<S: Kept>: Sized {
     ) -> Result<Self::Done, Self::Stopped>
         requires { S.good state.old }
         ensures good { S.good state.new × (S.opening state.new ≡ S.opening state.old) }
-        ensures done { IfOk result (λ d. (e : S.Entry) × (S.entries state.new ≡ S.entries state.old ++ e ∷ []) × (S.session e ≡ session) × enters self session d e) }
+        ensures done { IfOk result (λ d. HasOneMore S.session session (S.entries state.old) (λ e. enters self session d e) (S.entries state.new)) }
         ensures stopped { IfErr result (λ x. (S.entries state.new ≡ S.entries state.old) × stops self state.old x) }
     {
         self.change(alloc, state, session)

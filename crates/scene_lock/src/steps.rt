@@ -1,11 +1,11 @@
 //! The steps of a lock: what becomes of the word and the slot. No other file speaks of them, but for the making and the closing
 //! of a lock.
-ghost use Rattle.std.specs.Prelude.{◌≡◌, ◌≢◌, ◌⊎◌, ◌++◌, ◌∷◌, ◌+◌, ◌-◌, ◌≤◌, ℕ, suc, [], IfOk, IfErr, None, vec_capacity, vec_len};
+ghost use Rattle.std.specs.Prelude.{◌≡◌, ◌≢◌, ◌+◌, ◌-◌, ◌≤◌, ℕ, suc, [], IfOk, IfErr, None, vec_capacity, vec_len};
 ghost use Rattle.std.specs.Arc.{arc_value};
-ghost use Rattle.scene_lock.specs.History.{IsLegal};
+ghost use Rattle.scene_lock.specs.History.{HasAtMostOneMore, IsLegal};
 ghost use Rattle.scene_lock.specs.Pass.{IsPassOf, Follows, first_pass, first_passes};
 ghost use Rattle.scene_lock.specs.Rule.{new_seat, opening_seat};
-ghost use Rattle.scene_lock.specs.Shared.{IsStateOf};
+ghost use Rattle.scene_lock.specs.Shared.{HasTaken, IsStateOf};
 
 use crate::holder::Holder;
 use crate::kept::Kept;
@@ -30,7 +30,7 @@ impl<S: Kept> WordLock<S> {
     fn take(&self, pass: Pass<S>, from: u64) -> Result<(Arc<S>, Holder<S>), Pass<S>>
         requires lock { IsPassOf self.now pass }
         requires free { from ≢ 1 }
-        ensures taken { IfOk result (λ t. Follows S.legal S.session self.now pass t.1 × (t.1.seen ≡ S.entries (arc_value t.0)) × IsStateOf S.good S.opening self.now.terms.opening (arc_value t.0)) }
+        ensures taken { IfOk result (λ t. HasTaken S.good S.opening S.entries S.legal S.session self.now pass t.0 t.1) }
         ensures busy { IfErr result (λ p. Follows S.legal S.session self.now pass p) }
     {
         let Pass { mut seat, number } = pass;
@@ -46,7 +46,7 @@ impl<S: Kept> WordLock<S> {
     /// Takes the state out to share it, where nobody has it and nobody wants it.
     pub(crate) fn take_to_share(&self, pass: Pass<S>) -> Result<(Arc<S>, Holder<S>), Pass<S>>
         requires { IsPassOf self.now pass }
-        ensures taken { IfOk result (λ t. Follows S.legal S.session self.now pass t.1 × (t.1.seen ≡ S.entries (arc_value t.0)) × IsStateOf S.good S.opening self.now.terms.opening (arc_value t.0)) }
+        ensures taken { IfOk result (λ t. HasTaken S.good S.opening S.entries S.legal S.session self.now pass t.0 t.1) }
         ensures busy { IfErr result (λ p. Follows S.legal S.session self.now pass p) }
     {
         self.take(pass, FREE)
@@ -55,7 +55,7 @@ impl<S: Kept> WordLock<S> {
     /// Takes the state out to change it, where nobody has it, whoever wants it.
     pub(crate) fn take_to_change(&self, pass: Pass<S>) -> Result<(Arc<S>, Holder<S>), Pass<S>>
         requires { IsPassOf self.now pass }
-        ensures taken { IfOk result (λ t. Follows S.legal S.session self.now pass t.1 × (t.1.seen ≡ S.entries (arc_value t.0)) × IsStateOf S.good S.opening self.now.terms.opening (arc_value t.0)) }
+        ensures taken { IfOk result (λ t. HasTaken S.good S.opening S.entries S.legal S.session self.now pass t.0 t.1) }
         ensures busy { IfErr result (λ p. Follows S.legal S.session self.now pass p) }
     {
         let word = self.table.shared.peek(0);
@@ -68,7 +68,7 @@ impl<S: Kept> WordLock<S> {
     pub(crate) fn put_back(&self, holder: Holder<S>, state: Arc<S>, wanted: bool) -> Pass<S>
         requires lock { IsPassOf self.now holder }
         requires good { IsStateOf S.good S.opening self.now.terms.opening (arc_value state) }
-        requires moved { (S.entries (arc_value state) ≡ holder.seen) ⊎ ((e : S.Entry) × (S.entries (arc_value state) ≡ holder.seen ++ e ∷ []) × (S.session e ≡ holder.session)) }
+        requires moved { HasAtMostOneMore S.session holder.session holder.seen (S.entries (arc_value state)) }
         ensures pass { result ≡ record holder { seen = S.entries (arc_value state) } }
         ensures legal { IsLegal S.legal S.session self.now.terms (S.entries (arc_value state)) }
     {

@@ -1,8 +1,9 @@
 //! Changes of the state, one writer at a time.
-ghost use Rattle.std.specs.Prelude.{◌≡◌, ◌++◌, ◌∷◌, [], IfOk, IfErr};
+ghost use Rattle.std.specs.Prelude.{◌≡◌, IfOk, IfErr};
 ghost use Rattle.std.specs.Arc.{arc_value};
 ghost use Rattle.scene_lock.specs.Pass.{IsPassOf, IsStill, Follows, Enters};
-ghost use Rattle.scene_lock.specs.Shared.{AtState};
+ghost use Rattle.scene_lock.specs.History.{HasOneMore};
+ghost use Rattle.scene_lock.specs.Shared.{FollowsTo};
 
 use crate::change::Change;
 use crate::kept::Kept;
@@ -22,7 +23,7 @@ fn change_alone<S: Kept, C: Change<S>>(
 ) -> Result<Result<C::Done, C::Stopped>, C>
     requires { S.good (arc_value share.old) }
     ensures good { S.good (arc_value share.new) × (S.opening (arc_value share.new) ≡ S.opening (arc_value share.old)) }
-    ensures done { IfOk result (λ r. IfOk r (λ d. (e : S.Entry) × (S.entries (arc_value share.new) ≡ S.entries (arc_value share.old) ++ e ∷ []) × (S.session e ≡ session) × C.enters job session d e)) }
+    ensures done { IfOk result (λ r. IfOk r (λ d. HasOneMore S.session session (S.entries (arc_value share.old)) (λ e. C.enters job session d e) (S.entries (arc_value share.new)))) }
     ensures stopped { IfOk result (λ r. IfErr r (λ x. (S.entries (arc_value share.new) ≡ S.entries (arc_value share.old)) × C.stops job (arc_value share.old) x)) }
     ensures back { IfErr result (λ j. (j ≡ job) × (arc_value share.new ≡ arc_value share.old)) }
 {
@@ -42,7 +43,7 @@ fn change_waiting<S: Kept, C: Change<S>, R: Threads + Wait + Sync>(
 ) -> Result<Result<C::Done, C::Stopped>, C>
     requires { S.good (arc_value share.old) }
     ensures good { S.good (arc_value share.new) × (S.opening (arc_value share.new) ≡ S.opening (arc_value share.old)) }
-    ensures done { IfOk result (λ r. IfOk r (λ d. (e : S.Entry) × (S.entries (arc_value share.new) ≡ S.entries (arc_value share.old) ++ e ∷ []) × (S.session e ≡ session) × C.enters job session d e)) }
+    ensures done { IfOk result (λ r. IfOk r (λ d. HasOneMore S.session session (S.entries (arc_value share.old)) (λ e. C.enters job session d e) (S.entries (arc_value share.new)))) }
     ensures stopped { IfOk result (λ r. IfErr r (λ x. (S.entries (arc_value share.new) ≡ S.entries (arc_value share.old)) × C.stops job (arc_value share.old) x)) }
     ensures back { IfErr result (λ j. (j ≡ job) × (arc_value share.new ≡ arc_value share.old)) }
 {
@@ -67,7 +68,7 @@ impl<S: Kept> WordLock<S> {
         requires { IsPassOf self.now pass }
         ensures pass { IsStill self.now pass result.0 }
         ensures done { IfOk result.1 (λ r. IfOk r (λ d. Enters S.legal S.session self.now pass (λ e. C.enters job pass.session d e) result.0)) }
-        ensures stopped { IfOk result.1 (λ r. IfErr r (λ x. Follows S.legal S.session self.now pass result.0 × AtState S.good S.opening S.entries self.now.terms.opening result.0.seen (λ s. C.stops job s x))) }
+        ensures stopped { IfOk result.1 (λ r. IfErr r (λ x. FollowsTo S.good S.opening S.entries S.legal S.session self.now pass (λ s. C.stops job s x) result.0)) }
         ensures busy { IfErr result.1 (λ j. (j ≡ job) × Follows S.legal S.session self.now pass result.0) }
     {
         let (mut share, holder) = match self.take_to_share(pass) {
@@ -89,7 +90,7 @@ impl<S: Kept> WordLock<S> {
         requires { IsPassOf self.now pass }
         ensures pass { IsStill self.now pass result.0 }
         ensures done { IfOk result.1 (λ r. IfOk r (λ d. Enters S.legal S.session self.now pass (λ e. C.enters job pass.session d e) result.0)) }
-        ensures stopped { IfOk result.1 (λ r. IfErr r (λ x. Follows S.legal S.session self.now pass result.0 × AtState S.good S.opening S.entries self.now.terms.opening result.0.seen (λ s. C.stops job s x))) }
+        ensures stopped { IfOk result.1 (λ r. IfErr r (λ x. FollowsTo S.good S.opening S.entries S.legal S.session self.now pass (λ s. C.stops job s x) result.0)) }
         ensures busy { IfErr result.1 (λ j. (j ≡ job) × Follows S.legal S.session self.now pass result.0) }
     {
         let (mut share, holder) = match self.take_to_change(pass) {
@@ -115,7 +116,7 @@ impl<S: Kept> WordLock<S> {
         requires { IsPassOf self.now pass }
         ensures pass { IsStill self.now pass result.0 }
         ensures done { IfOk result.1 (λ d. Enters S.legal S.session self.now pass (λ e. C.enters job pass.session d e) result.0) }
-        ensures stopped { IfErr result.1 (λ x. Follows S.legal S.session self.now pass result.0 × AtState S.good S.opening S.entries self.now.terms.opening result.0.seen (λ s. C.stops job s x)) }
+        ensures stopped { IfErr result.1 (λ x. FollowsTo S.good S.opening S.entries S.legal S.session self.now pass (λ s. C.stops job s x) result.0) }
     {
         let backoff = Backoff::new();
         let mut pass = pass;

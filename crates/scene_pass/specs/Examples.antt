@@ -13,10 +13,11 @@ use Rattle.scene_pass.specs.declared.cell_name.CellName.{CellName}
 abbrev pub ent : ℕ → Entity
 ent index = record { index = index; generation = 1 }
 
--- a number, and a tag, with two ticks
+-- a number that was added and changed at two ticks
 abbrev pub number : ℕ → ℕ → Cell
 number added changed = record { value = value.Int (pos 0); added = added; changed = changed }
 
+-- a tag that was added and changed at two ticks
 abbrev pub tag : ℕ → ℕ → Cell
 tag added changed = record { value = value.Tag; added = added; changed = changed }
 

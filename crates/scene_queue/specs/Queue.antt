@@ -18,9 +18,11 @@ pub record QueueState : Type 0 where
 abbrev pub usual_limit : ℕ
 usual_limit = 67108864
 
+-- a queue with no commands yet
 abbrev pub empty_queue : ℕ → QueueState
 empty_queue limit = record { limit = limit; commands = [] }
 
+-- how many entities one command will have spawned
 abbrev pub spawned_by : Command → ℕ
 spawned_by (Spawn cells) = 1
 spawned_by c = 0

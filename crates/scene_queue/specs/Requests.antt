@@ -13,6 +13,7 @@ abbrev pub target_in : Target → List Entity → Option Entity
 target_in (target.Id e) spawned = Some e
 target_in (target.New k) spawned = slice_get spawned k
 
+-- a command on one target, once that is an entity
 abbrev pub on_entity : Target → (Entity → Command) → Request
 on_entity t command spawned = option_map command (target_in t spawned)
 
@@ -20,6 +21,7 @@ on_entity t command spawned = option_map command (target_in t spawned)
 abbrev pub both_in : Target → Target → List Entity → Option (Entity × Entity)
 both_in s t spawned = option_and_then (λ e. option_map (λ d. (e, d)) (target_in t spawned)) (target_in s spawned)
 
+-- a command on two targets, once both are entities
 abbrev pub on_both : Target → Target → (Entity → Entity → Command) → Request
 on_both s t command spawned = option_map (λ p. command p.0 p.1) (both_in s t spawned)
 
@@ -36,5 +38,6 @@ request_of (queued.RemoveParent child) = on_entity child RemoveParent
 request_of (queued.PutResource name value) = known (PutResource name value)
 request_of (queued.RemoveResource name) = known (RemoveResource name)
 
+-- what the commands ask, one after another
 abbrev pub requests : List Queued → List Request
 requests commands = map request_of commands

@@ -6,9 +6,11 @@ use Rattle.scene_kinds.specs.declared.value.Value.TheVariants as value
 use Rattle.scene_kinds.specs.Map as map
 use Rattle.scene_resources.specs.Resources.{NamedCells}
 
+-- a number as a value
 abbrev pub number : ℕ → Value
 number n = value.Int (pos n)
 
+-- a cell with such a number, added and changed at two ticks
 abbrev pub cell : ℕ → ℕ → ℕ → Cell
 cell n added changed = record { value = number n; added = added; changed = changed }
 

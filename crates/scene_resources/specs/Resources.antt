@@ -24,6 +24,7 @@ name_cmp a b = slice_cmp nat_cmp a b
 abbrev pub name_cmp_total : IsTotalOrder name_cmp
 name_cmp_total = nat_list_cmp_total
 
+-- only equal names tie in this order
 pub name_cmp_exact : IsAntisymmetric name_cmp
 name_cmp_exact a b h = exact_bytes a b h
 
@@ -45,6 +46,7 @@ stored_code = code_by (NamedCells × List (List ℕ)) (coded× (cells.code {R = 
 pub record IsWider (old new : List (List ℕ)) : Type 0 where
   pub each : (name : List ℕ) → Contains old name → Contains new name
 
+-- the cell of a name, where it has one
 abbrev pub cell_of : NamedCells → List ℕ → Option Cell
 cell_of r name = cells.get r name
 
@@ -72,6 +74,7 @@ abbrev pub restore_of : NamedCells → List ℕ → Option Cell → NamedCells
 restore_of r name None = cells.remove r name
 restore_of r name (Some cell) = cells.insert name_cmp_total r name cell
 
+-- the answer where the name has this cell, or none
 abbrev pub taken : NamedCells → List ℕ → Option Cell → Outcome Cell NamedCells
 taken r name None = refuse NoSuchResource
 taken r name (Some cell) = Ok (cell, cells.remove r name)

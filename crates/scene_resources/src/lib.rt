@@ -21,6 +21,3 @@ mod resources;
 
 pub use laws::{names_are_whole, restored_comes_back, room_is_never_lost, worked_resources};
 pub use resources::Resources;
-
-#[cfg(test)]
-mod tests;

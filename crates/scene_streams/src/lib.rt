@@ -14,8 +14,6 @@
 
 mod sink;
 mod source;
-#[cfg(test)]
-mod tests;
 
 pub use sink::{Sink, WriteError};
 pub use source::{MOST_BYTES, MOST_TURNS, ReadError, Source};

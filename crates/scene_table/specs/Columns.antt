@@ -51,10 +51,11 @@ put_each at [] columns = columns
 put_each at (cell ∷ cells) [] = []
 put_each at (cell ∷ cells) (column ∷ columns) = back_in_column at column cell.1 ∷ put_each at cells columns
 
--- the kinds of columns, and of cells
+-- the kinds of columns
 abbrev pub kinds_of : List ColumnState → List ℕ
 kinds_of columns = map (λ column. column.kind) columns
 
+-- the kinds of a row's cells
 abbrev pub kinds_in : List (ℕ × Cell) → List ℕ
 kinds_in cells = map (λ cell. cell.0) cells
 

@@ -19,8 +19,6 @@ mod entities;
 mod home;
 mod rows;
 mod table;
-#[cfg(test)]
-mod tests;
 
 pub use column::ColumnRef;
 pub use home::Home;

@@ -1,0 +1,6 @@
+pub mod Fault
+pub mod Text
+pub mod Reading
+pub mod Walk
+pub mod Scene
+pub mod Examples

@@ -1,0 +1,14 @@
+//! The text of a world: what a scene file says, and which fault it has first (docs/SCENE_FILES.md).
+//!
+//! `specs/Text.antt` has the JSON value of a world and the bytes that a save writes, `specs/Walk.antt` the walk through a
+//! value, which gives the parts that it says or the first fault with its path, and `specs/Scene.antt` the world that
+//! bytes say. All of them compute: `worked_texts` has them read and write texts byte by byte.
+//!
+//! The calls that load and save come later.
+#![tactic(auto)]
+
+mod examples;
+mod fault;
+
+pub use examples::worked_texts;
+pub use fault::FileFault;

@@ -1,0 +1,5 @@
+pub mod Parts
+pub mod Rules
+pub mod Laws
+pub mod Seen
+pub mod Examples

@@ -1,0 +1,12 @@
+//! The parts of which a world is built, and which of the ten rules of a valid world they break first.
+//!
+//! `specs/Parts.antt` has the parts and the world that they make, `specs/Rules.antt` the rules as tests that compute.
+//! `laws` says that the tests leave nothing out and ask for no more than there is: parts break no rule exactly where
+//! they are those of a valid world.
+#![tactic(auto)]
+
+mod laws;
+mod parts;
+
+pub use laws::{unbroken_parts_are_those_of_valid_worlds, worked_parts};
+pub use parts::WorldParts;
