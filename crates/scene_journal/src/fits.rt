@@ -40,6 +40,7 @@ pub(crate) fn is_good_cell(world: &World, kind: u8, cell: &Cell) -> bool
 pub(crate) fn is_good_resource(world: &World, cell: &Cell) -> bool
     ensures { IsTrue result ↔ IsGoodResource world.now cell.now }
 {
+    // This tells the prover that the value is in the range of its type.
     let _shape = cell.value.shape();
     is_timely(cell, world.tick())
 }
@@ -282,6 +283,7 @@ pub(crate) fn can_set_resource(
 fn stands_at(world: &World, entity: Entity, place: u32) -> bool
     ensures { IsTrue result ↔ HasRow world.now entity place (cells_of world.now entity) }
 {
+    // This tells the prover that the world is valid.
     let _tick = world.tick();
     match standing(world, entity) {
         Some((_, at)) => at == place,
@@ -318,6 +320,7 @@ pub(crate) fn can_shift(
 fn has_row(world: &World, entity: Entity, place: u32, cells: &Cells) -> bool
     ensures { IsTrue result ↔ HasRow world.now entity place cells.now }
 {
+    // This tells the prover that the world is valid.
     let _tick = world.tick();
     match standing(world, entity) {
         Some((table, at)) => at == place && has_cells(table, at, cells),

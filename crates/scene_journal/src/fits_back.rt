@@ -15,6 +15,7 @@ use scene_world::World;
 fn has_last_row(world: &World, entity: Entity, cells: &Cells) -> bool
     ensures { IsTrue result ↔ HasLastRow world.now entity cells.now }
 {
+    // This tells the prover that the world is valid.
     let _tick = world.tick();
     match standing(world, entity) {
         Some((table, at)) => at as usize + 1 == table.len() && has_cells(table, at, cells),
@@ -26,6 +27,7 @@ fn has_last_row(world: &World, entity: Entity, cells: &Cells) -> bool
 fn is_last(world: &World, entity: Entity) -> bool
     ensures { IsTrue result ↔ HasLastRow world.now entity (cells_of world.now entity) }
 {
+    // This tells the prover that the world is valid.
     let _tick = world.tick();
     match standing(world, entity) {
         Some((table, at)) => at as usize + 1 == table.len(),
@@ -92,6 +94,7 @@ fn count_beside(world: &World, cells: &Cells) -> usize
     requires { AreGoodCells world.now cells.now }
     ensures { result ≡ length (rows_at world.now.tables (mask_of cells.now)) }
 {
+    // This tells the prover that the world is valid.
     let _tick = world.tick();
     row_count(world, cells.mask())
 }
@@ -117,6 +120,7 @@ fn may_be_linked(world: &World, link: Option<(Entity, u32)>) -> bool
 fn mask_in(world: &World, entity: Entity) -> KindSet
     ensures { result ≡ mask_of (cells_of world.now entity) }
 {
+    // This tells the prover that the world is valid.
     let _tick = world.tick();
     match world.mask_of(entity) {
         Some(mask) => mask,
@@ -129,6 +133,7 @@ fn count_shifted(world: &World, entity: Entity, kind: u8, cell: &Cell, inward: b
     requires { CanMove world.now (cells_of world.now entity) kind cell.now inward }
     ensures { result ≡ length (rows_at world.now.tables (mask_of (shifted (cells_of world.now entity) kind cell.now inward))) }
 {
+    // This tells the prover that the world is valid.
     let _tick = world.tick();
     let mask = mask_in(world, entity);
     if inward {
