@@ -1,6 +1,6 @@
 pub mod Fault
 pub mod Listed
-pub mod Requests
+pub mod OpenFrame
 pub mod Play
 pub mod Reports
 pub mod ShowSteps

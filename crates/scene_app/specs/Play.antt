@@ -1,19 +1,20 @@
 -- A script as a function of its lines: the setup, the machine of saved worlds line by line, the printed text, and the bad lines
 -- with their reasons.
-use Rattle.std.specs.Prelude.{ℕ, ◌+◌, List, [], ◌∷◌, ◌++◌, Option, Some, None, Result, Ok, Err, option_map, flat_map, codes, decimal, nat_eq, if◌then◌else◌}
+use Rattle.std.specs.Prelude.{ℕ, ◌+◌, List, [], ◌∷◌, ◌++◌, Option, Some, None, Result, Ok, Err, option_map, codes, decimal, nat_eq, if◌then◌else◌}
 use Rattle.std.specs.Str.Lines.{lines}
 use Rattle.scene_kinds.specs.declared.entity.Entity.{Entity}
 use Rattle.scene_kinds.specs.declared.fault.Fault.TheVariants.{NoSuchEntity, Rewound}
 use Rattle.scene_kinds.specs.declared.refusal.Refusal.{Refusal}
 use Rattle.scene_kinds.specs.declared.shape.Shape.{Shape}
 use Rattle.scene_kinds.specs.Answers.{Outcome, refusal_of}
-use Rattle.scene_kinds.specs.Entity.{entity_text}
 use Rattle.scene_kinds.specs.Fault.{refusal_text}
 use Rattle.scene_kinds.specs.Schema.{Kinds, with_kind}
 use Rattle.scene_model.specs.World.{World, new_world, row_of}
 use Rattle.scene_model.specs.Machine.{Machine, opening}
+use Rattle.scene_model.specs.Queue.{Request}
 use Rattle.scene_model.specs.Frame.{Submit, Undo as UndoCall, Redo as RedoCall, Reply as Answer, step}
-use Rattle.scene_app.specs.Requests.{alone}
+use Rattle.scene_queue.specs.Frames.{frame_of}
+use Rattle.scene_app.specs.OpenFrame.{Opened, new_frame, with_command, with_queue, queues_of, alone}
 use Rattle.scene_kinds.specs.declared.cells.Row.{Row}
 use Rattle.scene_pass.specs.Pass.{changed_since, added_since}
 use Rattle.scene_pass.specs.declared.cell_name.CellName.{CellName}
@@ -21,20 +22,20 @@ use Rattle.scene_pass.specs.declared.filter.Filter.{Filter}
 use Rattle.scene_app.specs.declared.cursor.Cursor.{Cursor}
 use Rattle.scene_app.specs.declared.play_state.PlayState.{PlayState}
 use Rattle.scene_script.specs.declared.script_line.Line.{Line}
-use Rattle.scene_script.specs.declared.script_line.Line.TheVariants.{Empty, Kind, Slots, Do, Undo, Redo, Show, Get, Mark, Changed, Added}
+use Rattle.scene_script.specs.declared.script_line.Line.TheVariants.{Empty, Kind, Slots, Do, Begin, Queue, Commit, Undo, Redo, Show, Get, Mark, Changed, Added}
 use Rattle.scene_script.specs.declared.bad_line.BadLine.{BadLine}
-use Rattle.scene_script.specs.declared.bad_line.BadLine.TheVariants.{SetupEnded}
+use Rattle.scene_script.specs.declared.bad_line.BadLine.TheVariants.{SetupEnded, NoFrame, FrameOpen}
 use Rattle.scene_app.specs.declared.report.BadLineReport.{BadLineReport}
 use Rattle.scene_app.specs.Listed.{listed_text}
 use Rattle.scene_script.specs.Printed.{row_text}
 use Rattle.scene_script.specs.Script.{line_in}
-use Rattle.scene_app.specs.Shown.{show_text}
+use Rattle.scene_app.specs.Shown.{entities_text, show_text}
 
 -- ---- the state between two lines, and cursors
 
--- the machine at first, and the cursor from before the first mark
+-- the machine at first, the cursor from before the first mark, and no frame
 abbrev pub opening_state : World → PlayState
-opening_state w = record { machine = opening w; cursor = record { rewinds = 0; tick = 0 } }
+opening_state w = record { machine = opening w; cursor = record { rewinds = 0; tick = 0 }; frame = None }
 
 -- the state with another machine
 abbrev pub with_machine : PlayState → Machine World → PlayState
@@ -43,6 +44,9 @@ with_machine s m = record s { machine = m }
 -- the state with another cursor
 abbrev pub with_cursor : PlayState → Cursor → PlayState
 with_cursor s c = record s { cursor = c }
+
+abbrev pub with_frame : PlayState → Option Opened → PlayState
+with_frame s f = record s { frame = f }
 
 -- the cursor of now
 abbrev pub cursor_of : Machine World → Cursor
@@ -56,7 +60,7 @@ since s = if nat_eq s.cursor.rewinds s.machine.rewinds then Ok s.cursor.tick els
 
 -- what a frame made: the entities that it spawned, in order
 abbrev pub made_text : List Entity → List ℕ
-made_text es = codes "done" ++ (flat_map (λ e. codes " " ++ entity_text e.index e.generation) es ++ codes "\n")
+made_text es = codes "done" ++ (entities_text es ++ codes "\n")
 
 -- what an undo prints; it spawns nothing
 abbrev pub undone_text : List Entity → List ℕ
@@ -119,19 +123,49 @@ bad_reply s reason = record { text = codes "bad line\n"; bad = Some reason; stat
 abbrev pub query_reply : PlayState → List ℕ → Reply
 query_reply s text = record { text = text; bad = None; state = s }
 
+-- the reply to a submitted frame
+abbrev pub submit_reply : PlayState → List (List Request) → Reply
+submit_reply s queues = call_reply s made_text (step s.machine (Submit queues))
+
+-- the reply where no frame is open; a command is a frame by itself
+abbrev pub lone_reply : PlayState → Line → Reply
+lone_reply s Empty = query_reply s []
+lone_reply s (Kind name shape) = bad_reply s SetupEnded
+lone_reply s (Slots n) = bad_reply s SetupEnded
+lone_reply s (Do command) = submit_reply s (alone command)
+lone_reply s Begin = query_reply (with_frame s (Some new_frame)) (codes "ok\n")
+lone_reply s Queue = bad_reply s NoFrame
+lone_reply s Commit = bad_reply s NoFrame
+lone_reply s Undo = call_reply s undone_text (step s.machine UndoCall)
+lone_reply s Redo = call_reply s redone_text (step s.machine RedoCall)
+lone_reply s Show = query_reply s (show_text s.machine.now)
+lone_reply s (Get e) = query_reply s (row_answer s.machine.now.schema (option_map (λ p. p.1) (row_of s.machine.now e)))
+lone_reply s Mark = record { text = mark_text (cursor_of s.machine); bad = None; state = with_cursor s (cursor_of s.machine) }
+lone_reply s Changed = query_reply s (changed_text s)
+lone_reply s Added = query_reply s (added_text s)
+
+-- the reply to a command in a frame: it is queued, or else refused and the frame is as it was
+abbrev pub queued_reply : PlayState → Opened → Outcome (Unit {0}) Opened → Reply
+queued_reply s f (Ok p) = query_reply (with_frame s (Some p.1)) (codes "queued\n")
+queued_reply s f (Err r) = query_reply (with_frame s (Some f)) (refused_text r)
+
+-- the reply in an open frame: commands, further queues and the commit, which ends it; nothing else may come there
+abbrev pub frame_reply : PlayState → Opened → Line → Reply
+frame_reply s f Empty = query_reply (with_frame s (Some f)) []
+frame_reply s f (Do command) = queued_reply s f (with_command f command)
+frame_reply s f Queue = query_reply (with_frame s (Some (with_queue f))) (codes "ok\n")
+frame_reply s f Commit = submit_reply (with_frame s None) (frame_of (queues_of f))
+frame_reply s f (Kind name shape) = bad_reply (with_frame s (Some f)) SetupEnded
+frame_reply s f (Slots n) = bad_reply (with_frame s (Some f)) SetupEnded
+frame_reply s f line = bad_reply (with_frame s (Some f)) FrameOpen
+
+abbrev pub reply_within : PlayState → Line → Option Opened → Reply
+reply_within s line None = lone_reply s line
+reply_within s line (Some f) = frame_reply s f line
+
 -- the reply to a line after the setup
 abbrev pub line_reply : PlayState → Line → Reply
-line_reply s Empty = query_reply s []
-line_reply s (Kind name shape) = bad_reply s SetupEnded
-line_reply s (Slots n) = bad_reply s SetupEnded
-line_reply s (Do command) = call_reply s made_text (step s.machine (Submit (alone command)))
-line_reply s Undo = call_reply s undone_text (step s.machine UndoCall)
-line_reply s Redo = call_reply s redone_text (step s.machine RedoCall)
-line_reply s Show = query_reply s (show_text s.machine.now)
-line_reply s (Get e) = query_reply s (row_answer s.machine.now.schema (option_map (λ p. p.1) (row_of s.machine.now e)))
-line_reply s Mark = record { text = mark_text (cursor_of s.machine); bad = None; state = with_cursor s (cursor_of s.machine) }
-line_reply s Changed = query_reply s (changed_text s)
-line_reply s Added = query_reply s (added_text s)
+line_reply s line = reply_within s line s.frame
 
 -- a line by what it says, or why it is bad
 abbrev pub said_reply : PlayState → Result Line BadLine → Reply
@@ -185,17 +219,23 @@ declared_text kinds name shape = declaration_text (with_kind kinds name shape)
 abbrev pub after_kind : Kinds → List ℕ → Shape → Kinds
 after_kind kinds name shape = kinds_after kinds (with_kind kinds name shape)
 
--- a line of the setup, or else the run begins with it; an empty one and a comment don't end the setup
-abbrev pub setup_line : Kinds → ℕ → (Kinds → ℕ → Printed) → Printed → Line → Printed
-setup_line kinds limit rest begin Empty = rest kinds limit
-setup_line kinds limit rest begin (Kind name shape) = and_more (declared_text kinds name shape) [] (rest (after_kind kinds name shape) limit)
-setup_line kinds limit rest begin (Slots n) = and_more (codes "ok\n") [] (rest kinds n)
-setup_line kinds limit rest begin line = begin
+-- a bad line of the setup, which doesn't end it
+abbrev pub setup_bad : ℕ → BadLine → Printed → Printed
+setup_bad number reason rest = and_more (codes "bad line\n") (reports_at number (Some reason)) rest
 
--- a bad line doesn't end it either
+-- a line of the setup, or else the run begins with it; an empty one and a comment don't end the setup, nor does a line of a frame,
+-- which is bad here
+abbrev pub setup_line : ℕ → Kinds → ℕ → (Kinds → ℕ → Printed) → Printed → Line → Printed
+setup_line number kinds limit rest begin Empty = rest kinds limit
+setup_line number kinds limit rest begin (Kind name shape) = and_more (declared_text kinds name shape) [] (rest (after_kind kinds name shape) limit)
+setup_line number kinds limit rest begin (Slots n) = and_more (codes "ok\n") [] (rest kinds n)
+setup_line number kinds limit rest begin Queue = setup_bad number NoFrame (rest kinds limit)
+setup_line number kinds limit rest begin Commit = setup_bad number NoFrame (rest kinds limit)
+setup_line number kinds limit rest begin line = begin
+
 abbrev pub setup_said : ℕ → Kinds → ℕ → (Kinds → ℕ → Printed) → Printed → Result Line BadLine → Printed
-setup_said number kinds limit rest begin (Ok line) = setup_line kinds limit rest begin line
-setup_said number kinds limit rest begin (Err reason) = and_more (codes "bad line\n") (reports_at number (Some reason)) (rest kinds limit)
+setup_said number kinds limit rest begin (Ok line) = setup_line number kinds limit rest begin line
+setup_said number kinds limit rest begin (Err reason) = setup_bad number reason (rest kinds limit)
 
 -- the lines from the start, the first of this number, with the kinds and the slot limit so far
 abbrev pub setup_from : ℕ → Kinds → ℕ → List (List ℕ) → Printed

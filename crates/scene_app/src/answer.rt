@@ -1,19 +1,24 @@
 //! The answer to one line after the setup.
-ghost use Rattle.std.specs.Prelude.{◌≡◌, ◌≢◌, ◌++◌, OnOk, IfOk, Some, None, codes, string_bytes, option_map};
+ghost use Rattle.std.specs.Prelude.{◌≡◌, ◌≢◌, ◌≤◌, ◌+◌, ◌++◌, length, OnOk, IfOk, Some, None, codes, string_bytes, option_map};
 ghost use Rattle.scene_kinds.specs.Answers.{refusal_of};
 ghost use Rattle.scene_kinds.specs.declared.fault.Fault.TheVariants.{NoMemory};
-ghost use Rattle.scene_model.specs.Frame.{Submit, Undo as UndoCall, Redo as RedoCall, step};
-ghost use Rattle.scene_app.specs.Requests.{alone, entities};
+ghost use Rattle.scene_model.specs.Frame.{Undo as UndoCall, Redo as RedoCall, step};
+ghost use Rattle.scene_script.specs.declared.script_line.Line.TheVariants.{Begin};
+ghost use Rattle.scene_queue.specs.Frames.{frame_of};
+ghost use Rattle.scene_app.specs.OpenFrame.{alone, queue_count};
 ghost use Rattle.scene_model.specs.World.{row_of};
-ghost use Rattle.scene_app.specs.Play.{line_reply, said_reply, call_reply, made_text, refused_text, row_answer, undone_text, redone_text, mark_text, changed_text, added_text, cursor_of, with_cursor};
+ghost use Rattle.scene_app.specs.Play.{line_reply, lone_reply, said_reply, call_reply, submit_reply, made_text, refused_text, row_answer, undone_text, redone_text, mark_text, changed_text, added_text, cursor_of, with_cursor};
 ghost use Rattle.scene_app.specs.Steps.{Replies};
 
+use crate::framed_answer::answer_in_frame;
 use crate::listed::write_listed;
+use crate::open_frame::OpenFrame;
 use crate::play_state::PlayState;
-use crate::show::{row_of, write_row, write_show};
+use crate::show::{row_of, write_entities, write_row, write_show};
 use scene_kinds::{Entity, Fault, Refusal};
 use scene_pass::{Filter, added_since, changed_since};
-use scene_script::{BadLine, Command, Line};
+use scene_queue::{Command, Queue};
+use scene_script::{BadLine, Line};
 use scene_world::World;
 use std::alloc::{AllocError, Global};
 
@@ -36,32 +41,64 @@ pub(crate) fn answer_refused(out: &mut String, refusal: Refusal) -> Result<(), A
     }
 }
 
-/// Adds what a frame made.
-fn write_made(out: &mut String, made: Option<Entity>) -> Result<(), AllocError>
-    ensures { OnOk result (string_bytes out.new ≡ string_bytes out.old ++ made_text (entities made)) }
+/// Adds what a frame made: the entities that it spawned.
+fn write_made(out: &mut String, entities: &[Entity]) -> Result<(), AllocError>
+    ensures { OnOk result (string_bytes out.new ≡ string_bytes out.old ++ made_text entities.now) }
 {
-    match made {
-        None => out.push_str("done\n"),
-        Some(entity) => {
-            write!(out, "done {entity}\n")?;
-            Ok(())
-        }
+    out.push_str("done")?;
+    write_entities(out, entities)?;
+    out.push_str("\n")
+}
+
+/// A frame of these queues.
+pub(crate) fn answer_frame(
+    alloc: Global,
+    out: &mut String,
+    state: &mut PlayState,
+    queues: &[Queue],
+) -> Result<(), AllocError>
+    requires { length queues.now ≤ 4294967295 }
+    ensures { OnOk result (Replies (string_bytes out.old) (string_bytes out.new) state.new None (submit_reply state.old (frame_of queues.now))) }
+{
+    match state.machine.submit(alloc, queues) {
+        Ok(entities) => write_made(out, entities.as_slice()),
+        Err(refusal) => answer_refused(out, refusal),
     }
 }
 
-/// A frame of one command.
+/// The queues of a frame of one command. An empty queue has room for it, so only memory can be wanting.
+fn lone_queue(alloc: Global, command: Command) -> Result<Vec<Queue>, AllocError>
+    ensures queues { IfOk result (λ queues. frame_of queues.items ≡ alone command) }
+    ensures one { IfOk result (λ queues. length queues.items ≡ 1) }
+{
+    let mut queue = Queue::with_limit(alloc, 1);
+    if queue.push(command).is_err() {
+        return Err(AllocError);
+    }
+    let mut queues = Vec::new(alloc);
+    queues.push(queue)?;
+    Ok(queues)
+}
+
+/// A command where no frame is open.
 fn answer_command(
+    alloc: Global,
     out: &mut String,
     state: &mut PlayState,
     command: Command,
 ) -> Result<(), AllocError>
-    ensures { OnOk result (Replies (string_bytes out.old) (string_bytes out.new) state.new None
-        (call_reply state.old made_text (step state.old.machine (Submit (alone command))))) }
+    ensures { OnOk result (Replies (string_bytes out.old) (string_bytes out.new) state.new None (submit_reply state.old (alone command))) }
 {
-    match state.machine.submit(command) {
-        Ok(made) => write_made(out, made),
-        Err(refusal) => answer_refused(out, refusal),
-    }
+    let queues = lone_queue(alloc, command)?;
+    answer_frame(alloc, out, state, queues.as_slice())
+}
+
+/// `begin`.
+fn answer_begin(alloc: Global, out: &mut String, state: &mut PlayState) -> Result<(), AllocError>
+    ensures { OnOk result (Replies (string_bytes out.old) (string_bytes out.new) state.new None (lone_reply state.old Begin)) }
+{
+    state.frame = Some(OpenFrame::new(alloc));
+    out.push_str("ok\n")
 }
 
 /// `undo`.
@@ -141,7 +178,7 @@ fn answer_added(alloc: Global, out: &mut String, state: &PlayState) -> Result<()
 }
 
 /// Answers a bad line, and gives the reason back.
-fn answer_bad(out: &mut String, reason: BadLine) -> Result<Option<BadLine>, AllocError>
+pub(crate) fn answer_bad(out: &mut String, reason: BadLine) -> Result<Option<BadLine>, AllocError>
     ensures text { OnOk result (string_bytes out.new ≡ string_bytes out.old ++ codes "bad line\n") }
     ensures bad { IfOk result (λ bad. bad ≡ Some reason) }
 {
@@ -149,19 +186,21 @@ fn answer_bad(out: &mut String, reason: BadLine) -> Result<Option<BadLine>, Allo
     Ok(Some(reason))
 }
 
-/// Answers a line after the setup, and gives why it is bad, where it is.
-fn answer_line(
+/// Answers a line after the setup where no frame is open, and gives why it is bad, where it is.
+fn answer_alone(
     alloc: Global,
     out: &mut String,
     state: &mut PlayState,
     line: Line,
 ) -> Result<Option<BadLine>, AllocError>
-    ensures { IfOk result (λ bad. Replies (string_bytes out.old) (string_bytes out.new) state.new bad (line_reply state.old line)) }
+    ensures { IfOk result (λ bad. Replies (string_bytes out.old) (string_bytes out.new) state.new bad (lone_reply state.old line)) }
 {
     match line {
         Line::Empty => {}
         Line::Kind(..) | Line::Slots(_) => return answer_bad(out, BadLine::SetupEnded),
-        Line::Do(command) => answer_command(out, state, command)?,
+        Line::Queue | Line::Commit => return answer_bad(out, BadLine::NoFrame),
+        Line::Do(command) => answer_command(alloc, out, state, command)?,
+        Line::Begin => answer_begin(alloc, out, state)?,
         Line::Undo => answer_undo(out, state)?,
         Line::Redo => answer_redo(out, state)?,
         Line::Show => write_show(alloc, out, state.machine.now())?,
@@ -173,6 +212,22 @@ fn answer_line(
     Ok(None)
 }
 
+/// Answers a line after the setup, and gives why it is bad, where it is.
+fn answer_line(
+    alloc: Global,
+    out: &mut String,
+    state: &mut PlayState,
+    line: Line,
+) -> Result<Option<BadLine>, AllocError>
+    requires { queue_count state.old.frame ≤ 4294967295 }
+    ensures { IfOk result (λ bad. Replies (string_bytes out.old) (string_bytes out.new) state.new bad (line_reply state.old line)) }
+{
+    match state.frame.take() {
+        None => answer_alone(alloc, out, state, line),
+        Some(frame) => answer_in_frame(alloc, out, state, frame, line),
+    }
+}
+
 /// Answers what a line after the setup says, and gives why it is bad, where it is.
 pub(crate) fn answer(
     alloc: Global,
@@ -180,6 +235,7 @@ pub(crate) fn answer(
     state: &mut PlayState,
     said: Result<Line, BadLine>,
 ) -> Result<Option<BadLine>, AllocError>
+    requires { queue_count state.old.frame ≤ 4294967295 }
     ensures { IfOk result (λ bad. Replies (string_bytes out.old) (string_bytes out.new) state.new bad (said_reply state.old said)) }
 {
     match said {

@@ -8,7 +8,9 @@
 mod answer;
 mod cursor;
 mod fault;
+mod framed_answer;
 mod listed;
+mod open_frame;
 mod play;
 mod play_state;
 mod report;

@@ -2,7 +2,9 @@
 ghost use Rattle.std.specs.Prelude.{◌≡◌, ◌++◌, ◌+◌, ◌<◌, ◌≤◌, ◌^◌, OnOk, IfOk, length, string_bytes, Ok};
 ghost use Rattle.std.specs.Str.Lines.{lines};
 ghost use Rattle.scene_script.specs.Script.{line_in};
-ghost use Rattle.scene_app.specs.Play.{said_reply, opening_state, then_rest, run_from, printed, declared_text, after_kind};
+ghost use Rattle.scene_app.specs.Play.{said_reply, opening_state, then_rest, run_from, printed, declared_text, after_kind, setup_bad, nothing};
+ghost use Rattle.scene_app.specs.OpenFrame.{queue_count};
+ghost use Rattle.scene_streams.specs.Limits.{most_bytes};
 ghost use Rattle.scene_app.specs.Steps.{Prints, LinePlayed};
 ghost use Rattle.scene_app.specs.Reports.{no_bad_lines};
 
@@ -38,9 +40,11 @@ fn play_line(
     out: &mut String,
     reports: &mut Reports,
 ) -> Result<(), AllocError>
-    requires { reports.old.count + 1 < 2 ^ 64 }
+    requires room { reports.old.count + 1 < 2 ^ 64 }
+    requires opened { queue_count state.old.frame ≤ 4294967295 }
     ensures played { OnOk result (LinePlayed (string_bytes out.old) (string_bytes out.new) reports.old reports.new state.new number (said_reply state.old said)) }
     ensures few { OnOk result (reports.new.count ≤ reports.old.count + 1) }
+    ensures opened { OnOk result (queue_count state.new.frame ≤ queue_count state.old.frame + 1) }
 {
     let bad = answer(alloc, out, state, said)?;
     reports.note(number, bad)
@@ -56,7 +60,8 @@ fn play_lines(
     reports: &mut Reports,
 ) -> Result<(), AllocError>
     requires few { reports.old.count < first }
-    requires room { first + length script.now < 2 ^ 64 }
+    requires opened { queue_count state.old.frame < first }
+    requires room { first + length script.now < 2 ^ 32 }
     ensures printed { OnOk result (Prints (string_bytes out.old) (string_bytes out.new) reports.old reports.new (run_from first state.old (lines script.now))) }
     ensures few { OnOk result (reports.new.count < first + length script.now) }
 {
@@ -83,7 +88,7 @@ fn play_run(
     reports: &mut Reports,
 ) -> Result<(), AllocError>
     requires few { reports.old.count < number }
-    requires room { number + 1 + length after.now < 2 ^ 64 }
+    requires room { number + 1 + length after.now < 2 ^ 32 }
     ensures printed { OnOk result (Prints (string_bytes out.old) (string_bytes out.new) reports.old reports.new (then_rest number (said_reply (opening_state world) (Ok line)) (λ s. run_from (number + 1) s (lines after.now)))) }
     ensures few { OnOk result (reports.new.count < number + 1 + length after.now) }
 {
@@ -110,6 +115,21 @@ fn declare(
     }
 }
 
+/// Answers a bad line of the setup, and notes it.
+fn setup_bad(
+    out: &mut String,
+    reports: &mut Reports,
+    number: usize,
+    reason: BadLine,
+) -> Result<(), AllocError>
+    requires { reports.old.count + 1 < 2 ^ 64 }
+    ensures printed { OnOk result (Prints (string_bytes out.old) (string_bytes out.new) reports.old reports.new (setup_bad number reason nothing)) }
+    ensures few { OnOk result (reports.new.count ≤ reports.old.count + 1) }
+{
+    out.push_str("bad line\n")?;
+    reports.note(number, Some(reason))
+}
+
 /// Plays a script from its first line, adds what it prints, and notes its bad lines (docs/SCRIPTS.md, "Lines").
 ///
 /// The first line that is no `kind` or `slots`, not empty and not bad ends the setup, and is played itself. Want
@@ -120,6 +140,7 @@ pub(crate) fn play_script(
     script: &[u8],
     out: &mut String,
 ) -> Result<Reports, AllocError>
+    requires { length script.now ≤ most_bytes }
     ensures printed { IfOk result (λ reports. Prints (string_bytes out.old) (string_bytes out.new) no_bad_lines reports (printed script.now)) }
     ensures few { IfOk result (λ reports. reports.count ≤ length script.now) }
 {
@@ -131,9 +152,9 @@ pub(crate) fn play_script(
     'lines: while !rest.is_empty() {
         let (bytes, after) = first_line(rest);
         match said_in(alloc, &schema, bytes)? {
-            Err(reason) => {
-                out.push_str("bad line\n")?;
-                reports.note(number, Some(reason))?;
+            Err(reason) => setup_bad(out, &mut reports, number, reason)?,
+            Ok(Line::Queue | Line::Commit) => {
+                setup_bad(out, &mut reports, number, BadLine::NoFrame)?;
             }
             Ok(Line::Empty) => {}
             Ok(Line::Kind(name, shape)) => declare(alloc, out, &mut schema, name.as_str(), shape)?,

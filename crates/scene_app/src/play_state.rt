@@ -3,16 +3,18 @@ ghost use Rattle.std.specs.Prelude.{◌≡◌};
 ghost use Rattle.scene_app.specs.Play.{opening_state, cursor_of, with_cursor, since};
 
 use crate::cursor::Cursor;
+use crate::open_frame::OpenFrame;
 use crate::saved::Saved;
 use scene_kinds::{Fault, Refusal};
 use scene_world::World;
 use std::alloc::Global;
 
-/// The machine, and the cursor that the last mark took.
+/// The machine, the cursor that the last mark took, and the frame that is open.
 #[derive(Drop)]
 pub(crate) struct PlayState {
     pub(crate) machine: Saved,
     pub(crate) cursor: Cursor,
+    pub(crate) frame: Option<OpenFrame>,
 }
 
 impl PlayState {
@@ -26,6 +28,7 @@ impl PlayState {
                 rewinds: 0,
                 tick: 0,
             },
+            frame: None,
         }
     }
 

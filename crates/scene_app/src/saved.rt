@@ -1,16 +1,13 @@
 //! The machine of saved worlds: each accepted frame keeps the world before it.
-ghost use Rattle.std.specs.Prelude.{◌≡◌, ◌≢◌, [], Ok, Err, None, MatchResult};
-ghost use Rattle.std.specs.Option.{ok_or};
+ghost use Rattle.std.specs.Prelude.{◌≡◌, ◌≢◌, ◌≤◌, length, Ok, Err, IfOk, IfErr, OnErr, MatchResult};
 ghost use Rattle.scene_kinds.specs.Answers.{Answers, refusal_of};
-ghost use Rattle.scene_kinds.specs.declared.fault.Fault.TheVariants.{BadLocal, NoMemory};
+ghost use Rattle.scene_kinds.specs.declared.fault.Fault.TheVariants.{NoMemory};
 ghost use Rattle.scene_model.specs.Machine.{opening, undo, redo};
-ghost use Rattle.scene_model.specs.Perform.{perform};
-ghost use Rattle.scene_model.specs.Queue.{reached, refused_at, request};
 ghost use Rattle.scene_model.specs.Frame.{Submit, call, frame};
-ghost use Rattle.scene_app.specs.Requests.{alone, entities, made, request_of, target_in};
+ghost use Rattle.scene_queue.specs.Frames.{frame_of};
 
-use scene_kinds::{Entity, Fault, Place, Refusal};
-use scene_script::{Command, TargetWord};
+use scene_kinds::{Entity, Fault, Refusal};
+use scene_queue::{Queue, apply_all};
 use scene_world::World;
 use std::alloc::Global;
 use std::marker::Model;
@@ -35,76 +32,22 @@ impl Model for Saved {
     ghost view = { λ s. record { past = reverse s.past.items; now = s.now; future = reverse s.future.items; rewinds = s.rewinds } };
 }
 
-/// The entity of a target in a frame of one command, which has spawned none before it; else `BadLocal`.
-fn entity_of(target: TargetWord) -> Result<Entity, Refusal>
-    ensures { result ≡ ok_or (target_in target []) (refusal_of BadLocal) }
-{
-    match target {
-        TargetWord::Entity(entity) => Ok(entity),
-        TargetWord::New(_) => Err(Refusal::from(Fault::BadLocal)),
-    }
-}
-
-/// Does the only command of its queue.
-fn do_command(world: &mut World, command: Command) -> Result<Option<Entity>, Refusal>
-    ensures { Answers result world.old world.new (request perform (request_of command) (reached world.old [])) }
-{
-    match command {
-        Command::Spawn(cells) => {
-            let entity = world.spawn(cells.into_vec())?;
-            return Ok(Some(entity));
-        }
-        Command::Insert(target, kind, value) => world.insert(entity_of(target)?, kind, value)?,
-        Command::Despawn(target) => world.despawn(entity_of(target)?)?,
-        Command::Remove(target, kind) => {
-            world.remove(entity_of(target)?, kind)?;
-        }
-        Command::SetParent(child, parent) => world.set_parent(
-            entity_of(child)?,
-            entity_of(parent)?,
-        )?,
-        Command::RemoveParent(child) => world.remove_parent(entity_of(child)?)?,
-        Command::DespawnAll(target) => world.despawn_recursive(entity_of(target)?)?,
-        Command::PutResource(name, value) => world.put_resource(name.as_str(), value)?,
-        Command::RemoveResource(name) => world.remove_resource(name.as_str())?,
-    }
-    Ok(None)
-}
-
-/// A refusal with its place in a frame of one command. Want of memory has none.
-fn placed(refusal: Refusal) -> Refusal
-    ensures { result ≡ refused_at 0 0 refusal.fault }
-{
-    match refusal.fault {
-        Fault::NoMemory => Refusal::from(Fault::NoMemory),
-        fault => Refusal {
-            fault,
-            place: Some(Place {
-                phase: 0,
-                queue: 0,
-                command: 0,
-            }),
-        },
-    }
-}
-
-/// Does a frame of one command on a world that is dropped where the frame is refused.
-fn do_frame(world: &mut World, command: Command) -> Result<Option<Entity>, Refusal>
-    ensures { MatchResult result (λ a. frame (alone command) world.old ≡ Ok (entities a, world.new)) (λ r. r ≢ refusal_of NoMemory → frame (alone command) world.old ≡ Err r) }
+/// Does a frame on a world that is dropped where the frame is refused.
+fn do_frame(alloc: Global, world: &mut World, queues: &[Queue]) -> Result<Vec<Entity>, Refusal>
+    requires { length queues.now ≤ 4294967295 }
+    ensures { MatchResult result (λ es. frame (frame_of queues.now) world.old ≡ Ok (es.items, world.new)) (λ r. r ≢ refusal_of NoMemory → frame (frame_of queues.now) world.old ≡ Err r) }
 {
     world.raise_tick()?;
-    match do_command(world, command) {
-        Ok(made) => Ok(made),
-        Err(refusal) => Err(placed(refusal)),
-    }
+    apply_all(alloc, queues, world)
 }
 
-/// The world after a frame of one command, with the entity that it spawned. It costs a copy of the world.
-fn framed(world: &World, command: Command) -> Result<(World, Option<Entity>), Refusal>
-    ensures { MatchResult result (λ p. frame (alone command) world.now ≡ Ok (entities p.1, p.0)) (λ r. r ≢ refusal_of NoMemory → frame (alone command) world.now ≡ Err r) }
+/// The world after a frame, with the entities that it spawned. It costs a copy of the world.
+fn framed(alloc: Global, world: &World, queues: &[Queue]) -> Result<(World, Vec<Entity>), Refusal>
+    requires { length queues.now ≤ 4294967295 }
+    ensures { MatchResult result (λ p. frame (frame_of queues.now) world.now ≡ Ok (p.1.items, p.0)) (λ r. r ≢ refusal_of NoMemory → frame (frame_of queues.now) world.now ≡ Err r) }
 {
     let mut next = world.try_clone()?;
-    match do_frame(&mut next, command) {
+    match do_frame(alloc, &mut next, queues) {
         Ok(made) => Ok((next, made)),
         Err(refusal) => Err(refusal),
     }
@@ -137,13 +80,18 @@ impl Saved {
         self.rewinds
     }
 
-    /// Does a frame of one command: the world before it is kept, and what was undone is forgotten. It costs a copy
-    /// of the world.
-    pub(crate) fn submit(&mut self, command: Command) -> Result<Option<Entity>, Refusal>
-        ensures { Answers (made result) self.old self.new (call self.old (Submit (alone command))) }
+    /// Does a frame, and gives the entities that it spawned: the world before it is kept, and what was undone is
+    /// forgotten. It costs a copy of the world.
+    ///
+    /// Refused, and then the machine is as it was: `TickFull`; the first command's refusal, with its place; `NoMemory`.
+    pub(crate) fn submit(&mut self, alloc: Global, queues: &[Queue]) -> Result<Vec<Entity>, Refusal>
+        requires { length queues.now ≤ 4294967295 }
+        ensures done { IfOk result (λ es. call self.old (Submit (frame_of queues.now)) ≡ Ok (es.items, self.new)) }
+        ensures refused { IfErr result (λ r. r ≢ refusal_of NoMemory → call self.old (Submit (frame_of queues.now)) ≡ Err r) }
+        ensures kept { OnErr result (self.new ≡ self.old) }
     {
         self.past.reserve(1)?;
-        let (next, made) = framed(&self.now, command)?;
+        let (next, made) = framed(alloc, &self.now, queues)?;
         let before = std::mem::replace(&mut self.now, next);
         self.past.push_reserved(before);
         self.future.clear();

@@ -178,7 +178,7 @@ fn write_tables(
 }
 
 /// Adds entities, each after a space.
-fn write_entities(out: &mut String, entities: &[Entity]) -> Result<(), AllocError>
+pub(crate) fn write_entities(out: &mut String, entities: &[Entity]) -> Result<(), AllocError>
     ensures { OnOk result (string_bytes out.new ≡ string_bytes out.old ++ entities_text entities.now) }
 {
     'entities: for entity in entities {

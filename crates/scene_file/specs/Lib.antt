@@ -3,4 +3,5 @@ pub mod Text
 pub mod Reading
 pub mod Walk
 pub mod Scene
+pub mod Laws
 pub mod Examples

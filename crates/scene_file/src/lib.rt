@@ -2,13 +2,16 @@
 //!
 //! `specs/Text.antt` has the JSON value of a world and the bytes that a save writes, `specs/Walk.antt` the walk through a
 //! value, which gives the parts that it says or the first fault with its path, and `specs/Scene.antt` the world that
-//! bytes say. All of them compute: `worked_texts` has them read and write texts byte by byte.
+//! bytes say. All of them compute: `worked_texts` has them read and write texts byte by byte, and `laws` says that the
+//! value of each valid world is read as that world.
 //!
 //! The calls that load and save come later.
 #![tactic(auto)]
 
 mod examples;
 mod fault;
+mod laws;
 
 pub use examples::worked_texts;
 pub use fault::FileFault;
+pub use laws::written_worlds_are_read_again;

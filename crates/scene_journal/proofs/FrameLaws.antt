@@ -89,15 +89,15 @@ module _ (base : World) where
   both_accepted (Ok p) rest b v h = (p.0, (p.1, (refl, h)))
   both_accepted (Err r) rest b v h = absurd (not_ok (b, v) r h)
 
-  queues_record : (q : ℕ) (rss : List (List Request)) (w v : World) (es : List Entity) (s : Staged Delta) → QueuesAreInRange rss → InStep base 0 w s → queues_from q rss w ≡ Ok (es, v)
+  queues_record : (q : ℕ) (rss : List (List Request)) (w v : World) (es : List Entity) (s : Staged Delta) → QueuesAreInRange rss → InStep base 0 w s → queues_from perform q rss w ≡ Ok (es, v)
       → InStep base 0 v (after_queues deltas_of rss s)
   queues_record q [] w v es s held now is = (now.0 ∙ (same_world [] es w v is).1, now.1)
   queues_record q (rs ∷ rss) w v es s held now is =
-      let parts = both_accepted (queue q rs w) (λ es v. and_then (queues_from (q + 1) rss v) (λ fs u. Ok (es ++ fs, u))) es v is in
+      let parts = both_accepted (queue perform q rs w) (λ es v. and_then (queues_from perform (q + 1) rss v) (λ fs u. Ok (es ++ fs, u))) es v is in
       let e = play perform rs w in
       let u = parts.1.0 in
       let after : e.progress.state ≡ u = whole_queue q e.progress.state u e.progress.spawned parts.0 e.refused parts.1.1.0 in
-      let others = both_accepted (queues_from (q + 1) rss u) (λ fs u. Ok (parts.0 ++ fs, u)) es v parts.1.1.1 in
+      let others = both_accepted (queues_from perform (q + 1) rss u) (λ fs u. Ok (parts.0 ++ fs, u)) es v parts.1.1.1 in
       let last = others.1.0 in
       let end : last ≡ v = (same_world (parts.0 ++ others.0) es last v others.1.1.1).1 in
       let done = queue_records rs w s held.0 now in
@@ -106,7 +106,7 @@ module _ (base : World) where
 
 pub frames_are_records : FramesAreRecords
 frames_are_records queues w v es valid held is =
-    let parts = both_accepted w (raise_tick w) (λ a u. queues_from 0 queues u) es v is in
+    let parts = both_accepted w (raise_tick w) (λ a u. queues_from perform 0 queues u) es v is in
     let u = parts.1.0 in
     let raises = raise_sets_tick w u valid parts.1.1.0 in
     let tick = raises.0.low in

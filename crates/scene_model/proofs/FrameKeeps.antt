@@ -44,7 +44,7 @@ all_leaves : (q : ℕ) (w : World) (es : List Entity) (r : Option (ℕ × Refusa
 all_leaves q w es None valid a v h = subst IsValid (same_world es a w v h).1 valid
 all_leaves q w es (Some r) valid a v h = refused_leaves _ a v h
 
-queue_leaves : (q : ℕ) (rs : List Request) (w : World) → AreInRange rs → IsValid w → LeavesValid (queue q rs w)
+queue_leaves : (q : ℕ) (rs : List Request) (w : World) → AreInRange rs → IsValid w → LeavesValid (queue perform q rs w)
 queue_leaves q rs w held valid = let e = play perform rs w in all_leaves q e.progress.state e.progress.spawned e.refused (play_stays 0 rs (reached w []) held valid)
 
 -- one call after another
@@ -56,11 +56,11 @@ then_leaves (Err r) rest leaves after = λ b v h. refused_leaves r b v h
 given_leaves : {A : Type 0} (a : A) (w : World) → IsValid w → LeavesValid (Ok (a, w))
 given_leaves a w valid b v h = subst IsValid (same_world a b w v h).1 valid
 
-queues_leave : (q : ℕ) (rss : List (List Request)) (w : World) → QueuesAreInRange rss → IsValid w → LeavesValid (queues_from q rss w)
+queues_leave : (q : ℕ) (rss : List (List Request)) (w : World) → QueuesAreInRange rss → IsValid w → LeavesValid (queues_from perform q rss w)
 queues_leave q [] w held valid = given_leaves [] w valid
 queues_leave q (rs ∷ rss) w held valid =
-    then_leaves (queue q rs w) _ (queue_leaves q rs w held.0 valid)
-    (λ es v ok. then_leaves (queues_from (q + 1) rss v) _ (queues_leave (q + 1) rss v held.1 ok) (λ fs u good. given_leaves (es ++ fs) u good))
+    then_leaves (queue perform q rs w) _ (queue_leaves q rs w held.0 valid)
+    (λ es v ok. then_leaves (queues_from perform (q + 1) rss v) _ (queues_leave (q + 1) rss v held.1 ok) (λ fs u good. given_leaves (es ++ fs) u good))
 
 pub frames_keep : FramesKeep
 frames_keep queues w v es valid held =

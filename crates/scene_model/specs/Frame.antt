@@ -1,4 +1,4 @@
--- Frames of queues, and the total step of the machine of saved worlds.
+-- Frames of queues, on whatever commands can be performed on, and the total step of the machine of saved worlds.
 use Rattle.std.specs.Prelude.{ℕ, ◌+◌, List, [], ◌∷◌, ◌++◌, Option, Some, None, Result, Ok, Err}
 use Rattle.scene_kinds.specs.declared.entity.Entity.{Entity}
 use Rattle.scene_kinds.specs.declared.refusal.Refusal.{Refusal}
@@ -6,28 +6,29 @@ use Rattle.scene_kinds.specs.Answers.{Outcome}
 use Rattle.scene_model.specs.World.{World}
 use Rattle.scene_model.specs.Commands.{and_then, raise_tick}
 use Rattle.scene_model.specs.Perform.{perform}
-use Rattle.scene_model.specs.Queue.{Request, Ended, play, refused_at}
+use Rattle.scene_model.specs.Queue.{Request, Act, Ended, play, refused_at}
 use Rattle.scene_model.specs.Machine.{Machine, submitted, undo, redo}
 
-abbrev pub all_or_refused : ℕ → World → List Entity → Option (ℕ × Refusal) → Outcome (List Entity) World
-all_or_refused q w es None = Ok (es, w)
-all_or_refused q w es (Some r) = Err (refused_at q r.0 r.1.fault)
+abbrev pub all_or_refused : {S : Type 0} → ℕ → S → List Entity → Option (ℕ × Refusal) → Outcome (List Entity) S
+all_or_refused q s es None = Ok (es, s)
+all_or_refused q s es (Some r) = Err (refused_at q r.0 r.1.fault)
 
-abbrev pub whole_or_refused : ℕ → Ended World → Outcome (List Entity) World
+abbrev pub whole_or_refused : {S : Type 0} → ℕ → Ended S → Outcome (List Entity) S
 whole_or_refused q e = all_or_refused q e.progress.state e.progress.spawned e.refused
 
--- a queue as a whole, the q-th of its frame: the entities that it spawned and the world after it, or its first refusal
-abbrev pub queue : ℕ → List Request → World → Outcome (List Entity) World
-queue q rs w = whole_or_refused q (play perform rs w)
+module _ {S : Type 0} (act : Act S) where
+  -- a queue as a whole, the q-th of its frame: the entities that it spawned and the state after it, or its first refusal
+  abbrev pub queue : ℕ → List Request → S → Outcome (List Entity) S
+  queue q rs s = whole_or_refused q (play act rs s)
 
--- the queues one after another, counted from q, and the entities of all of them
-abbrev pub queues_from : ℕ → List (List Request) → World → Outcome (List Entity) World
-queues_from q [] w = Ok ([], w)
-queues_from q (rs ∷ rss) w = and_then (queue q rs w) (λ es v. and_then (queues_from (q + 1) rss v) (λ fs u. Ok (es ++ fs, u)))
+  -- the queues one after another, counted from q, and the entities of all of them
+  abbrev pub queues_from : ℕ → List (List Request) → S → Outcome (List Entity) S
+  queues_from q [] s = Ok ([], s)
+  queues_from q (rs ∷ rss) s = and_then (queue q rs s) (λ es t. and_then (queues_from (q + 1) rss t) (λ fs u. Ok (es ++ fs, u)))
 
 -- a frame raises the tick, and then does its queues; a refusal gives no world
 abbrev pub frame : List (List Request) → World → Outcome (List Entity) World
-frame queues w = and_then (raise_tick w) (λ a v. queues_from 0 queues v)
+frame queues w = and_then (raise_tick w) (λ a v. queues_from perform 0 queues v)
 
 -- what a tool asks of the machine
 pub data Call : Type 0 where

@@ -65,3 +65,6 @@ names_good tick rs d sound = all_of (λ r. is_good_name r.0) rs (all_with (λ r.
 
 pub resources_timely : (tick : ℕ) (rs : Named) → IsDistinct (eq_by_cmp name_cmp) (keys rs) → ResourcesAreSound tick (resources_of rs) → list_all (λ r. is_timely tick r.1) rs ≡ true
 resources_timely tick rs d sound = all_of (λ r. is_timely tick r.1) rs (all_with (λ r. IsResource tick r.0 r.1) (λ r. is_timely tick r.1 ≡ true) (λ r k. k.timely) rs (sound_each tick rs d sound))
+
+pub resources_in_range : (tick : ℕ) (rs : Named) → IsDistinct (eq_by_cmp name_cmp) (keys rs) → ResourcesAreSound tick (resources_of rs) → list_all (λ r. is_in_range r.1.value) rs ≡ true
+resources_in_range tick rs d sound = all_of (λ r. is_in_range r.1.value) rs (all_with (λ r. IsResource tick r.0 r.1) (λ r. is_in_range r.1.value ≡ true) (λ r k. k.in_range) rs (sound_each tick rs d sound))

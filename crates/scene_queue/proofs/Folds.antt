@@ -63,12 +63,12 @@ module _ {S : Type 0} (act : Act S) where
       ∙ ap (λ gs. whole (reached u gs)) (sym noted)
 
   -- the command at a place, refused
-  pub stops_there : {X : Type 0} (f : X → Request) (xs : List X) (i at : ℕ) (x : X) (s t u : S) (es given : List Entity) (why r : Refusal) → i < length xs
+  pub stops_there : {X : Type 0} (f : X → Request) (q : ℕ) (xs : List X) (i at : ℕ) (x : X) (s t u : S) (es given : List Entity) (why r : Refusal) → i < length xs
       → at ≡ i → x ≡ get_or xs i x → given ≡ es → u ≡ t → play act (map f (take i xs)) s ≡ whole (reached t es)
-      → (why ≢ refusal_of NoMemory → request act (f x) (reached t given) ≡ Err why) → r ≡ refused_at 0 at why.fault
-      → r ≢ refusal_of NoMemory → Stops act (map f xs) s u r
-  stops_there f xs i at x s t u es given why r lt count here same kept so fact is ne =
-      let named : why ≢ refusal_of NoMemory = λ e. ne (is ∙ ap (λ (w : Refusal). refused_at 0 at w.fault) e) in
+      → (why ≢ refusal_of NoMemory → request act (f x) (reached t given) ≡ Err why) → r ≡ refused_at q at why.fault
+      → r ≢ refusal_of NoMemory → Stops act q (map f xs) s u r
+  stops_there f q xs i at x s t u es given why r lt count here same kept so fact is ne =
+      let named : why ≢ refusal_of NoMemory = λ e. ne (is ∙ ap (λ (w : Refusal). refused_at q at w.fault) e) in
       let refuses = ap (λ y. request act (f y) (reached t es)) (sym here) ∙ ap (λ gs. request act (f x) (reached t gs)) (sym same) ∙ fact named in
       let there = stopped_at f xs i x s (reached t es) why lt so refuses in
-      (i, (es, (why, (there ∙ ap (λ v. stopped (reached v es) i why) (sym kept), is ∙ ap (λ k. refused_at 0 k why.fault) count))))
+      (i, (es, (why, (there ∙ ap (λ v. stopped (reached v es) i why) (sym kept), is ∙ ap (λ k. refused_at q k why.fault) count))))

@@ -1,1 +1,3 @@
 pub mod Folds
+pub mod Frames
+pub mod Worlds

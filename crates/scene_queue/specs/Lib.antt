@@ -1,2 +1,3 @@
 pub mod Requests
 pub mod Queue
+pub mod Frames

@@ -44,7 +44,7 @@ refusal_in (Err r) = Err r.refusal
 abbrev pub IsPassed : {S : Type 0} → Act S → List Request → (old new : S) → Type 0
 IsPassed act rs old new = (count : ℕ) × ((es : List Entity) × (play act (take count rs) old ≡ whole (reached new es)))
 
--- the fold stopped in this state, at a command whose refusal this is with its place
-abbrev pub Stops : {S : Type 0} → Act S → List Request → (old new : S) → Refusal → Type 0
-Stops act rs old new r =
-    (at : ℕ) × ((es : List Entity) × ((why : Refusal) × ((play act rs old ≡ stopped (reached new es) at why) × (r ≡ refused_at 0 at why.fault))))
+-- the fold stopped in this state, at a command whose refusal this is with its place, the queue being the q-th of its frame
+abbrev pub Stops : {S : Type 0} → Act S → ℕ → List Request → (old new : S) → Refusal → Type 0
+Stops act q rs old new r =
+    (at : ℕ) × ((es : List Entity) × ((why : Refusal) × ((play act rs old ≡ stopped (reached new es) at why) × (r ≡ refused_at q at why.fault))))

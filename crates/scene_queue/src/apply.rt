@@ -1,9 +1,10 @@
 //! Applying a queue.
-ghost use Rattle.std.specs.Prelude.{◌≡◌, ◌≢◌, ◌<◌, ◌^◌, length, IfOk, IfErr, OnErr, vec_len, vec_capacity};
+ghost use Rattle.std.specs.Prelude.{◌≡◌, ◌≢◌, ◌<◌, ◌^◌, length, Ok, Err, IfOk, IfErr, OnErr, vec_len, vec_capacity};
 ghost use Rattle.scene_kinds.specs.Answers.{Answers, refusal_of};
 ghost use Rattle.scene_kinds.specs.declared.fault.Fault.TheVariants.{NoMemory};
 ghost use Rattle.scene_model.specs.Queue.{and_spawned, play, reached, refused_at, request, whole};
-ghost use Rattle.scene_model.specs.Perform.{SetParent};
+ghost use Rattle.scene_model.specs.Perform.{SetParent, perform};
+ghost use Rattle.scene_model.specs.Frame.{queue as one_queue};
 ghost use Rattle.scene_world.specs.Stage.{act};
 ghost use Rattle.scene_queue.specs.Requests.{on_both, request_of, requests};
 ghost use Rattle.scene_queue.specs.Queue.{IsPassed, Stops};
@@ -78,9 +79,9 @@ fn note_spawned(spawned: &mut Vec<Entity>, made: Option<Entity>)
     }
 }
 
-/// A refusal with the place of its command in the only queue of a frame. Want of memory has none.
-fn placed(refusal: Refusal, command: u32) -> Refusal
-    ensures { result ≡ refused_at 0 command refusal.fault }
+/// A refusal with the place of its command in a queue of a frame. Want of memory has none.
+fn placed(refusal: Refusal, queue: u32, command: u32) -> Refusal
+    ensures { result ≡ refused_at queue command refusal.fault }
 {
     match refusal.fault {
         Fault::NoMemory => Refusal::from(Fault::NoMemory),
@@ -88,23 +89,24 @@ fn placed(refusal: Refusal, command: u32) -> Refusal
             fault,
             place: Some(Place {
                 phase: 0,
-                queue: 0,
+                queue,
                 command,
             }),
         },
     }
 }
 
-/// Applies commands one after another; see `Queue::apply`.
+/// Applies the commands of a queue of this number one after another; see `Queue::apply`.
 fn apply_commands<S: Stage>(
     alloc: Global,
+    queue: u32,
     commands: &[Command],
     stage: &mut S,
 ) -> Result<Vec<Entity>, Refusal>
     requires { length commands.now < 2 ^ 32 }
     ensures whole { IfOk result (λ spawned. play (act S.note) (requests commands.now) (S.seen stage.old) ≡ whole (reached (S.seen stage.new) spawned.items)) }
     ensures passed { OnErr result (IsPassed (act S.note) (requests commands.now) (S.seen stage.old) (S.seen stage.new)) }
-    ensures refused { IfErr result (λ r. r ≢ refusal_of NoMemory → Stops (act S.note) (requests commands.now) (S.seen stage.old) (S.seen stage.new) r) }
+    ensures refused { IfErr result (λ r. r ≢ refusal_of NoMemory → Stops (act S.note) queue (requests commands.now) (S.seen stage.old) (S.seen stage.new) r) }
 {
     let mut spawned = Vec::new(alloc);
     let mut at: u32 = 0;
@@ -114,7 +116,7 @@ fn apply_commands<S: Stage>(
         }
         match do_command(command, spawned.as_slice(), stage) {
             Ok(made) => note_spawned(&mut spawned, made),
-            Err(refusal) => return Err(placed(refusal, at)),
+            Err(refusal) => return Err(placed(refusal, queue, at)),
         }
         at += 1;
     }
@@ -132,8 +134,23 @@ impl Queue {
     pub fn apply<S: Stage>(&self, stage: &mut S) -> Result<Vec<Entity>, Refusal>
         ensures whole { IfOk result (λ spawned. play (act S.note) (requests self.now.commands) (S.seen stage.old) ≡ whole (reached (S.seen stage.new) spawned.items)) }
         ensures passed { OnErr result (IsPassed (act S.note) (requests self.now.commands) (S.seen stage.old) (S.seen stage.new)) }
-        ensures refused { IfErr result (λ r. r ≢ refusal_of NoMemory → Stops (act S.note) (requests self.now.commands) (S.seen stage.old) (S.seen stage.new) r) }
+        ensures refused { IfErr result (λ r. r ≢ refusal_of NoMemory → Stops (act S.note) 0 (requests self.now.commands) (S.seen stage.old) (S.seen stage.new) r) }
+        ensures world { IfOk result (λ spawned. one_queue perform 0 (requests self.now.commands) (S.seen stage.old).world ≡ Ok (spawned.items, (S.seen stage.new).world)) }
+        ensures world_refused { IfErr result (λ r. r ≢ refusal_of NoMemory → one_queue perform 0 (requests self.now.commands) (S.seen stage.old).world ≡ Err r) }
     {
-        apply_commands(self.alloc, self.commands.as_slice(), stage)
+        self.apply_at(0, stage)
+    }
+
+    /// The same as the queue of this number in a frame, which the place of a refusal tells.
+    pub(crate) fn apply_at<S: Stage>(
+        &self,
+        queue: u32,
+        stage: &mut S,
+    ) -> Result<Vec<Entity>, Refusal>
+        ensures whole { IfOk result (λ spawned. play (act S.note) (requests self.now.commands) (S.seen stage.old) ≡ whole (reached (S.seen stage.new) spawned.items)) }
+        ensures passed { OnErr result (IsPassed (act S.note) (requests self.now.commands) (S.seen stage.old) (S.seen stage.new)) }
+        ensures refused { IfErr result (λ r. r ≢ refusal_of NoMemory → Stops (act S.note) queue (requests self.now.commands) (S.seen stage.old) (S.seen stage.new) r) }
+    {
+        apply_commands(self.alloc, queue, self.commands.as_slice(), stage)
     }
 }

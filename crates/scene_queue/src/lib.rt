@@ -11,10 +11,12 @@
 mod apply;
 mod command;
 mod components;
+mod frame;
 mod queue;
 mod target;
 
 pub use command::Command;
 pub use components::Components;
+pub use frame::apply_all;
 pub use queue::{Queue, Returned};
 pub use target::Target;

@@ -6,8 +6,8 @@ use Rattle.scene_kinds.specs.declared.value.Value.{Value}
 use Rattle.scene_kinds.specs.declared.value.Value.TheVariants as value
 use Rattle.scene_kinds.specs.Schema.{Kinds, number_of, shape_of, fits_kind}
 use Rattle.scene_kinds.specs.Shape.{shape_named}
-use Rattle.scene_script.specs.declared.target.TargetWord.{TargetWord}
-use Rattle.scene_script.specs.declared.target.TargetWord.TheVariants as target
+use Rattle.scene_queue.specs.declared.target.Target.{Target}
+use Rattle.scene_queue.specs.declared.target.Target.TheVariants as target
 use Rattle.scene_script.specs.declared.bad_line.BadLine.{BadLine}
 use Rattle.scene_script.specs.declared.bad_line.BadLine.TheVariants as bad
 use Rattle.scene_script.specs.Words.{cut_at}
@@ -93,10 +93,10 @@ abbrev pub shaped_value_said : List ℕ → Result Value BadLine
 shaped_value_said word = shaped_of_parts word (cut_at 61 word)
 
 -- a target: + (43) and a number, or an entity
-abbrev pub target_in : List ℕ → Option TargetWord
+abbrev pub target_in : List ℕ → Option Target
 target_in [] = None
-target_in (b ∷ bs) = if b == 43 then option_map (λ k. target.New k) (count_in bs) else option_map (λ e. target.Entity e) (entity_in (b ∷ bs))
+target_in (b ∷ bs) = if b == 43 then option_map (λ k. target.New k) (count_in bs) else option_map (λ e. target.Id e) (entity_in (b ∷ bs))
 
 -- the target that a word is, or why it is none
-abbrev pub target_said : List ℕ → Result TargetWord BadLine
+abbrev pub target_said : List ℕ → Result Target BadLine
 target_said word = or_bad (bad.NoTarget word) (target_in word)

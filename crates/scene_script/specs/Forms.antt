@@ -16,8 +16,12 @@ form_named word =
     else if bytes_eq word (codes "parent") then Some form.Parent
     else if bytes_eq word (codes "unparent") then Some form.Unparent
     else if bytes_eq word (codes "despawnall") then Some form.DespawnAll
+    else if bytes_eq word (codes "despawnifalive") then Some form.DespawnIfAlive
     else if bytes_eq word (codes "put") then Some form.Put
     else if bytes_eq word (codes "drop") then Some form.Drop
+    else if bytes_eq word (codes "begin") then Some form.Begin
+    else if bytes_eq word (codes "queue") then Some form.Queue
+    else if bytes_eq word (codes "commit") then Some form.Commit
     else if bytes_eq word (codes "undo") then Some form.Undo
     else if bytes_eq word (codes "redo") then Some form.Redo
     else if bytes_eq word (codes "show") then Some form.Show
@@ -33,10 +37,6 @@ runs_later word =
     if bytes_eq word (codes "load") then true
     else if bytes_eq word (codes "calls") then true
     else if bytes_eq word (codes "depth") then true
-    else if bytes_eq word (codes "despawnifalive") then true
-    else if bytes_eq word (codes "begin") then true
-    else if bytes_eq word (codes "queue") then true
-    else if bytes_eq word (codes "commit") then true
     else if bytes_eq word (codes "phase") then true
     else if bytes_eq word (codes "system") then true
     else if bytes_eq word (codes "clear") then true

@@ -3,9 +3,9 @@ use Rattle.std.specs.Prelude.{ℕ, List, [], ◌∷◌, ◌==◌, Bool, false, �
 use Rattle.std.specs.Str.{is_utf8}
 use Rattle.scene_kinds.specs.declared.value.Value.{Value}
 use Rattle.scene_kinds.specs.Schema.{Kinds}
-use Rattle.scene_script.specs.declared.command.Command.TheVariants.{Spawn, Insert, Despawn, Remove, SetParent, RemoveParent, DespawnAll, PutResource, RemoveResource}
+use Rattle.scene_queue.specs.declared.command.Command.TheVariants.{Spawn, Insert, Despawn, Remove, SetParent, RemoveParent, DespawnAll, DespawnAllIfAlive, PutResource, RemoveResource}
 use Rattle.scene_script.specs.declared.script_line.Line.{Line}
-use Rattle.scene_script.specs.declared.script_line.Line.TheVariants.{Empty, Kind, Slots, Do, Undo, Redo, Show, Get, Mark, Changed, Added}
+use Rattle.scene_script.specs.declared.script_line.Line.TheVariants.{Empty, Kind, Slots, Do, Begin, Queue, Commit, Undo, Redo, Show, Get, Mark, Changed, Added}
 use Rattle.scene_script.specs.declared.form.Form.{Form}
 use Rattle.scene_script.specs.declared.form.Form.TheVariants as form
 use Rattle.scene_script.specs.declared.bad_line.BadLine.{BadLine}
@@ -101,6 +101,13 @@ despawnall_line words = do
   t ← target_said target.0
   ended form.DespawnAll target.1 (Do (DespawnAll t))
 
+-- `despawnifalive T`
+abbrev pub despawnifalive_line : List (List ℕ) → Result Line BadLine
+despawnifalive_line words = do
+  target ← next_word form.DespawnIfAlive words
+  t ← target_said target.0
+  ended form.DespawnIfAlive target.1 (Do (DespawnAllIfAlive t))
+
 -- `put NAME SHAPE` for a Tag, else `put NAME SHAPE=VALUE`; the name is any word
 abbrev pub put_line : List (List ℕ) → Result Line BadLine
 put_line words = do
@@ -133,8 +140,12 @@ line_of_form kinds form.Remove words = remove_line kinds words
 line_of_form kinds form.Parent words = parent_line words
 line_of_form kinds form.Unparent words = unparent_line words
 line_of_form kinds form.DespawnAll words = despawnall_line words
+line_of_form kinds form.DespawnIfAlive words = despawnifalive_line words
 line_of_form kinds form.Put words = put_line words
 line_of_form kinds form.Drop words = drop_line words
+line_of_form kinds form.Begin words = ended form.Begin words Begin
+line_of_form kinds form.Queue words = ended form.Queue words Queue
+line_of_form kinds form.Commit words = ended form.Commit words Commit
 line_of_form kinds form.Undo words = ended form.Undo words Undo
 line_of_form kinds form.Redo words = ended form.Redo words Redo
 line_of_form kinds form.Show words = ended form.Show words Show

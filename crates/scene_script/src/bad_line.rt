@@ -48,6 +48,12 @@ pub enum BadLine {
     /// A line of the setup behind it.
     #[error("the setup has ended: kind and slots come before all other lines")]
     SetupEnded,
+    /// A line of a frame where none is open.
+    #[error("no frame is open: queue and commit come only behind begin")]
+    NoFrame,
+    /// A line other than those of a frame where one is open.
+    #[error("a frame is open: only commands and queue come before its commit")]
+    FrameOpen,
 }
 
 /// Why a line wasn't read.

@@ -2,17 +2,17 @@
 ghost use Rattle.std.specs.Prelude.{◌≡◌, IfOk, map};
 ghost use Rattle.scene_script.specs.Reading.{Reads, ended};
 ghost use Rattle.scene_script.specs.Forms.{runs_later};
-ghost use Rattle.scene_script.specs.Script.{line_in, line_of_words, unknown_word, named_line, line_of_form, kind_line, limit_said, slots_line, cells_said, spawn_line, insert_line, despawn_line, remove_line, parent_line, unparent_line, despawnall_line, put_line, drop_line, get_line};
+ghost use Rattle.scene_script.specs.Script.{line_in, line_of_words, unknown_word, named_line, line_of_form, kind_line, limit_said, slots_line, cells_said, spawn_line, insert_line, despawn_line, remove_line, parent_line, unparent_line, despawnall_line, despawnifalive_line, put_line, drop_line, get_line};
 
 use crate::bad_line::{BadLine, LineError, text_of};
 use crate::cell_word::{cell_word, kind_word, shape_word, shaped_value_word};
-use crate::command::{Command, Given};
 use crate::form::Form;
 use crate::number::{bad_number, entity_word, read_count};
 use crate::slot_limit::SlotLimit;
 use crate::target::target_word;
 use crate::word::words;
 use scene_kinds::{Entity, Schema, Shape, Text};
+use scene_queue::{Command, Components};
 use std::alloc::{AllocError, Global};
 
 /// The meaning of a line (docs/SCRIPTS.md, "Lines").
@@ -24,8 +24,14 @@ pub enum Line {
     Kind(Text, Shape),
     /// The slot limit.
     Slots(SlotLimit),
-    /// A frame of one command.
+    /// A command, which is a frame by itself where none is open.
     Do(Command),
+    /// A frame is opened.
+    Begin,
+    /// A further queue of the open frame.
+    Queue,
+    /// The open frame is submitted.
+    Commit,
     Undo,
     Redo,
     Show,
@@ -82,14 +88,14 @@ fn slots_line(alloc: Global, words: &[&str]) -> Result<Line, LineError>
 }
 
 /// The components that words name.
-fn cell_words(alloc: Global, schema: &Schema, words: &[&str]) -> Result<Given, LineError>
+fn cell_words(alloc: Global, schema: &Schema, words: &[&str]) -> Result<Components, LineError>
     ensures { Reads result (cells_said schema.now (map (λ w. w.now) words.now)) }
 {
     let mut cells = Vec::new(alloc);
     for word in words {
         cells.push(cell_word(alloc, schema, word)?)?;
     }
-    Ok(Given::from_vec(cells))
+    Ok(Components::from(cells))
 }
 
 /// `spawn CELL..`.
@@ -208,6 +214,22 @@ fn despawnall_line(alloc: Global, words: &[&str]) -> Result<Line, LineError>
     )
 }
 
+/// `despawnifalive T`.
+fn despawnifalive_line(alloc: Global, words: &[&str]) -> Result<Line, LineError>
+    ensures { Reads result (despawnifalive_line (map (λ w. w.now) words.now)) }
+{
+    let [target, rest @ ..] = words else {
+        return Err(LineError::Bad(BadLine::MissingWord(Form::DespawnIfAlive)));
+    };
+    let target = target_word(alloc, target)?;
+    ended(
+        alloc,
+        Form::DespawnIfAlive,
+        rest,
+        Line::Do(Command::DespawnAllIfAlive(target)),
+    )
+}
+
 /// `put NAME SHAPE` for a tag, else `put NAME SHAPE=VALUE`.
 fn put_line(alloc: Global, words: &[&str]) -> Result<Line, LineError>
     ensures { Reads result (put_line (map (λ w. w.now) words.now)) }
@@ -274,8 +296,12 @@ fn line_of_form(
         Form::Parent => parent_line(alloc, words),
         Form::Unparent => unparent_line(alloc, words),
         Form::DespawnAll => despawnall_line(alloc, words),
+        Form::DespawnIfAlive => despawnifalive_line(alloc, words),
         Form::Put => put_line(alloc, words),
         Form::Drop => drop_line(alloc, words),
+        Form::Begin => ended(alloc, form, words, Line::Begin),
+        Form::Queue => ended(alloc, form, words, Line::Queue),
+        Form::Commit => ended(alloc, form, words, Line::Commit),
         Form::Undo => ended(alloc, form, words, Line::Undo),
         Form::Redo => ended(alloc, form, words, Line::Redo),
         Form::Show => ended(alloc, form, words, Line::Show),
@@ -294,10 +320,6 @@ fn runs_later(word: &str) -> bool
         "load"
         | "calls"
         | "depth"
-        | "despawnifalive"
-        | "begin"
-        | "queue"
-        | "commit"
         | "phase"
         | "system"
         | "clear"

@@ -5,30 +5,22 @@ ghost use Rattle.scene_script.specs.Reading.{Reads};
 
 use crate::bad_line::{BadLine, LineError, text_of};
 use crate::number::{read_count, read_entity};
-use scene_kinds::Entity;
+use scene_queue::Target;
 use std::alloc::Global;
 
-/// What a command is about, as a script writes it (docs/SCRIPTS.md, "Words").
-#[derive(Clone, Copy, Debug, PartialEq, Eq)]
-pub enum TargetWord {
-    /// An entity text.
-    Entity(Entity),
-    /// `+K`: the K-th entity, from 0, that the same queue has spawned.
-    New(u32),
-}
-
-/// The target that a word is. `None` only where it is neither an entity text nor `+` with a number of 32 bits.
-pub fn read_target(word: &str) -> Option<TargetWord>
+/// The target that a word is (docs/SCRIPTS.md, "Words"): an entity text, or `+K` for the K-th entity, from 0, that the
+/// same queue has spawned. `None` only where it is neither an entity text nor `+` with a number of 32 bits.
+pub fn read_target(word: &str) -> Option<Target>
     ensures { result ≡ target_in word.now }
 {
     match word.strip_prefix('+') {
-        Some(digits) => read_count(digits).map(TargetWord::New),
-        None => read_entity(word).map(TargetWord::Entity),
+        Some(digits) => read_count(digits).map(Target::New),
+        None => read_entity(word).map(Target::Id),
     }
 }
 
 /// The target that a word is.
-pub(crate) fn target_word(alloc: Global, word: &str) -> Result<TargetWord, LineError>
+pub(crate) fn target_word(alloc: Global, word: &str) -> Result<Target, LineError>
     ensures { Reads result (target_said word.now) }
 {
     match read_target(word) {

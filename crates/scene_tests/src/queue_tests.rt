@@ -1,4 +1,4 @@
-//! Queues, which no line of a script makes yet.
+//! Queues as code makes them.
 use scene_kinds::{Entity, Fault, Schema, Value};
 use scene_queue::{Command, Components, Queue, Target};
 use scene_world::World;
@@ -23,7 +23,8 @@ fn takes_despawn(queue: &mut Queue) -> bool {
 #[test]
 fn commands_are_applied_in_order(rt: HostRuntime) -> Result<(), Fail> {
     let mut queue = Queue::new(rt.alloc());
-    assert!(rt; queue.spawn(none(rt.alloc())).is_ok());
+    let first = queue.spawn(none(rt.alloc())).ok();
+    assert_eq!(rt; first, Some(Target::New(0)));
     assert!(rt; takes_despawn(&mut queue));
     assert!(rt; queue.spawn(none(rt.alloc())).is_ok());
     let mut world = empty_world(rt.alloc());

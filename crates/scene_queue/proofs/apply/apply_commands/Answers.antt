@@ -13,7 +13,7 @@ returns-in-Err-clause-passed g c = passed_over (act g.S.Stage.note) request_of _
 
 pub returns-in-Err-clause-refused : goal.returns-in-Err-clause-refused
 returns-in-Err-clause-refused g c =
-    stops_there (act g.S.Stage.note) request_of _ c.loop-command.command-index _ c.command-item.result _ _ _ _ _ _ _ c.loop-command-test.true
+    stops_there (act g.S.Stage.note) request_of c.args.queue _ c.loop-command.command-index _ c.command-item.result _ _ _ _ _ _ _ c.loop-command-test.true
     c.loop-command.invariant.0 c.command-item.is (c.as_slice.ensures.value ∙ c.reserve.ensures.items) c.in-Err.ensures.0 c.loop-command.invariant.1
     c.in-Err.ensures.1 c.placed.ensures
 

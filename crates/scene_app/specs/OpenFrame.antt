@@ -1,0 +1,41 @@
+-- A frame that a script has opened.
+use Rattle.std.specs.Prelude.{ℕ, ◌+◌, List, [], ◌∷◌, ◌++◌, Option, Some, None, Ok, Err, length}
+use Rattle.scene_kinds.specs.Answers.{Outcome}
+use Rattle.scene_model.specs.Queue.{Request}
+use Rattle.scene_queue.specs.declared.command.Command.{Command}
+use Rattle.scene_queue.specs.Queue.{QueueState, usual_limit, empty_queue, push_of}
+use Rattle.scene_queue.specs.Requests.{requests}
+
+-- the queues that are complete, and the last one, into which commands go
+pub record Opened : Type 0 where
+  pub complete : List QueueState
+  pub last : QueueState
+
+-- a frame of one empty queue
+abbrev pub new_frame : Opened
+new_frame = record { complete = []; last = empty_queue usual_limit }
+
+abbrev pub and_last : Opened → Outcome (Unit {0}) QueueState → Outcome (Unit {0}) Opened
+and_last f (Ok p) = Ok (p.0, record f { last = p.1 })
+and_last f (Err r) = Err r
+
+-- a command goes last in the last queue, which may be full
+abbrev pub with_command : Opened → Command → Outcome (Unit {0}) Opened
+with_command f command = and_last f (push_of f.last command tt)
+
+-- a further empty queue
+abbrev pub with_queue : Opened → Opened
+with_queue f = record { complete = f.complete ++ f.last ∷ []; last = empty_queue usual_limit }
+
+-- all its queues, first to last
+abbrev pub queues_of : Opened → List QueueState
+queues_of f = f.complete ++ f.last ∷ []
+
+-- how many queues are open
+abbrev pub queue_count : Option Opened → ℕ
+queue_count None = 0
+queue_count (Some f) = length f.complete + 1
+
+-- the queues of a frame of one command
+abbrev pub alone : Command → List (List Request)
+alone command = requests (command ∷ []) ∷ []

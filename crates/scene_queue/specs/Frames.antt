@@ -1,0 +1,24 @@
+-- The queues of a frame, and what applying them did.
+use Rattle.std.specs.Prelude.{◌≡◌, ℕ, List, [], Ok, Err, map, take, get_or}
+use Rattle.scene_kinds.specs.declared.entity.Entity.{Entity}
+use Rattle.scene_kinds.specs.Answers.{Outcome}
+use Rattle.scene_model.specs.World.{World}
+use Rattle.scene_model.specs.Queue.{Request, Act}
+use Rattle.scene_model.specs.Frame.{queues_from}
+use Rattle.scene_world.specs.Stage.{Staged}
+use Rattle.scene_queue.specs.Requests.{requests}
+use Rattle.scene_queue.specs.Queue.{QueueState, IsPassed}
+
+-- what the queues of a frame ask of a world
+abbrev pub frame_of : List QueueState → List (List Request)
+frame_of queues = map (λ q. requests q.commands) queues
+
+-- the state that the first queues of a frame leave, and then the first commands of the next one
+abbrev pub ArePassed : {S : Type 0} → Act S → List (List Request) → (old new : S) → Type 0
+ArePassed {S} act rss old new =
+    (count : ℕ) × ((mid : S) × ((es : List Entity) × ((queues_from act 0 (take count rss) old ≡ Ok (es, mid)) × IsPassed act (get_or rss count []) mid new)))
+
+-- what a stage came to, as what its world came to
+abbrev pub on_world : {A N : Type 0} → Outcome A (Staged N) → Outcome A World
+on_world (Ok p) = Ok (p.0, p.1.world)
+on_world (Err r) = Err r
