@@ -1,8 +1,16 @@
+pub mod Ascending
 pub mod Commands
 pub mod Copies
 pub mod Counts
+pub mod CountWithout
 pub mod Deltas
+pub mod Ends
 pub mod Folds
 pub mod FrameLaws
+pub mod LastRow
+pub mod NextEntity
 pub mod Records
+pub mod RowCells
+pub mod ShiftedKinds
 pub mod Stages
+pub mod Standing

@@ -5,3 +5,5 @@ pub mod Notes
 pub mod CommandLaws
 pub mod Frames
 pub mod Examples
+pub mod Standing
+pub mod Ascending

@@ -1,7 +1,10 @@
 //! One change of a world.
-ghost use Rattle.std.specs.Prelude.{◌≡◌, IfOk};
+ghost use Rattle.std.specs.Prelude.{◌≡◌, ◌↔◌, IfOk, IsTrue};
+ghost use Rattle.scene_journal.specs.Deltas.{FitsOn, FitsBack};
 
+use crate::{fits, fits_back};
 use scene_kinds::{Cell, Cells, Entity, Text};
+use scene_world::World;
 use std::alloc::AllocError;
 
 /// One change of a world, with what it brings and what it takes away, so that it can be made again and taken back
@@ -61,5 +64,97 @@ impl Delta {
         ensures { IfOk result (λ copy. copy ≡ self.now) }
     {
         self.clone()
+    }
+
+    /// Whether the delta fits on a world, so that it can be made there: the world has what the delta takes away, and may
+    /// get what it brings (docs/JOURNAL.md, "Where a delta fits").
+    ///
+    /// It takes no memory. It costs a look at the delta's cells, and for a link a walk up from the parent and one over the
+    /// children there.
+    pub fn fits_on(&self, world: &World) -> bool
+        ensures { IsTrue result ↔ FitsOn self.now world.now.world }
+    {
+        match self {
+            Delta::Spawned {
+                entity,
+                cells,
+                fresh,
+            } => fits::can_put(world, *entity, cells, *fresh),
+            Delta::Despawned {
+                entity,
+                place,
+                cells,
+                link,
+                retired,
+            } => fits::can_cut(world, *entity, *place, cells, *link, *retired),
+            Delta::Shifted {
+                entity,
+                place,
+                kind,
+                cell,
+                inward,
+            } => fits::can_shift(world, *entity, *place, *kind, cell, *inward),
+            Delta::CellSet {
+                entity,
+                kind,
+                before,
+                after,
+            } => fits::can_set_cell(world, *entity, *kind, before, after),
+            Delta::Linked {
+                entity,
+                before,
+                after,
+            } => fits::can_set_link(world, *entity, *before, *after),
+            Delta::ResourceSet {
+                name,
+                before,
+                after,
+            } => fits::can_set_resource(world, name, before, after),
+        }
+    }
+
+    /// Whether the delta fits back on a world, so that it can be taken back there (docs/JOURNAL.md, "Where a delta fits").
+    ///
+    /// It takes no memory. It costs what `fits_on` costs, and for a despawn a look over the free list.
+    pub fn fits_back(&self, world: &World) -> bool
+        ensures { IsTrue result ↔ FitsBack self.now world.now.world }
+    {
+        match self {
+            Delta::Spawned {
+                entity,
+                cells,
+                fresh,
+            } => fits_back::can_drop(world, *entity, cells, *fresh),
+            Delta::Despawned {
+                entity,
+                place,
+                cells,
+                link,
+                retired,
+            } => fits_back::can_uncut(world, *entity, *place, cells, *link, *retired),
+            Delta::Shifted {
+                entity,
+                place,
+                kind,
+                cell,
+                inward,
+            } => fits_back::can_unshift(world, *entity, *place, *kind, cell, *inward),
+            Delta::CellSet {
+                entity,
+                kind,
+                before,
+                after,
+            } => fits::can_set_cell(world, *entity, *kind, after, before),
+            Delta::Linked {
+                entity,
+                before,
+                after,
+            } => fits::can_set_link(world, *entity, *after, *before),
+            Delta::ResourceSet {
+                name,
+                before,
+                after,
+            } => fits::can_set_resource(world, name, after, before),
+        }
     }
 }

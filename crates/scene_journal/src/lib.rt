@@ -10,8 +10,11 @@
 
 mod delta;
 mod examples;
+mod fits;
+mod fits_back;
 mod laws;
 mod record;
+mod same;
 
 pub use delta::Delta;
 pub use examples::worked_records_hold;

@@ -109,9 +109,10 @@ impl World {
         self.resources.room_holds();
     }
 
-    /// The tick of the last frame; 0 in a new world.
+    /// The tick of the last frame; 0 in a new world. And every world is valid (docs/MODEL.md, "A valid world").
     pub fn tick(&self) -> u64
-        ensures { result ≡ self.now.world.tick }
+        ensures tick { result ≡ self.now.world.tick }
+        ensures valid { IsValid self.now.world }
     {
         self.tick
     }
