@@ -1,14 +1,15 @@
 pub mod Ascending
 pub mod Commands
 pub mod Copies
-pub mod Counts
 pub mod CountWithout
+pub mod Counts
 pub mod Deltas
 pub mod Ends
 pub mod Folds
 pub mod FrameLaws
 pub mod LastRow
 pub mod NextEntity
+pub mod Ready
 pub mod Records
 pub mod RowCells
 pub mod ShiftedKinds

@@ -1,9 +1,10 @@
+pub mod Ascending
+pub mod CommandLaws
 pub mod Deltas
-pub mod Records
+pub mod Examples
+pub mod Frames
 pub mod Laws
 pub mod Notes
-pub mod CommandLaws
-pub mod Frames
-pub mod Examples
+pub mod Ready
+pub mod Records
 pub mod Standing
-pub mod Ascending

@@ -5,7 +5,8 @@
 //! before it all that is needed to go on. A `FrameRecord` holds the deltas of one frame (docs/JOURNAL.md).
 //!
 //! `specs/Deltas.antt` says what each delta does to a world and where it fits, and `specs/Records.antt` the same of
-//! records; `laws` says that each takes the other direction back exactly.
+//! records; `laws` says that each takes the other direction back exactly. `make_again` and `take_back` do a delta to a
+//! `World` that has room for it.
 #![tactic(auto)]
 
 mod delta;
@@ -15,8 +16,10 @@ mod fits_back;
 mod laws;
 mod record;
 mod same;
+mod steps;
 
 pub use delta::Delta;
 pub use examples::worked_records_hold;
 pub use laws::{commands_are_deltas, deltas_come_back, frames_are_records, records_come_back};
 pub use record::FrameRecord;
+pub use steps::{make_again, take_all_back, take_back};

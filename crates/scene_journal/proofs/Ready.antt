@@ -1,0 +1,29 @@
+-- Lists of deltas that are taken back from the last, and the cells of a last row.
+use Rattle.std.proofs.Common.{◌≡◌, ℕ, List, [], ◌∷◌, ◌++◌, refl, ap, subst}
+use Rattle.scene_kinds.specs.declared.entity.Entity.{Entity}
+use Rattle.scene_kinds.specs.declared.cell.Cell.{Cell}
+use Rattle.scene_table.specs.Tables.{row_for}
+use Rattle.scene_model.specs.World.{World}
+use Rattle.scene_model.specs.Raw.{listed_cells, cells_of}
+use Rattle.scene_model.specs.Can.{HasLastRow}
+use Rattle.scene_model.specs.Valid.{IsValid}
+use Rattle.scene_model.proofs.LastRows.{last_home, last_row_there}
+use Rattle.scene_model.proofs.RowOf.{row_stands}
+use Rattle.scene_world.specs.Room.{Room}
+use Rattle.scene_journal.specs.declared.delta.Delta.{Delta}
+use Rattle.scene_journal.specs.Deltas.{back}
+use Rattle.scene_journal.specs.Records.{back_all}
+use Rattle.scene_journal.specs.Ready.{IsReady, AreReady}
+
+-- the last delta goes first
+pub back_pushed : (ds : List Delta) (d : Delta) (w : World) → back_all (ds ++ d ∷ []) w ≡ back_all ds (back d w)
+back_pushed [] d w = refl
+back_pushed (x ∷ ds) d w = ap (back x) (back_pushed ds d w)
+
+pub ready_pushed : (room : Room) (ds : List Delta) (d : Delta) (w : World) → AreReady room (ds ++ d ∷ []) w → IsReady room d w × AreReady room ds (back d w)
+ready_pushed room [] d w h = (h.1, tt)
+ready_pushed room (x ∷ ds) d w h = let k = ready_pushed room ds d w h.0 in (k.0, (k.1, subst (IsReady room x) (back_pushed ds d w) h.1))
+
+-- an entity whose row is the last of a table has just that row's cells
+pub cells_last : (w : World) (e : Entity) (cells : List (ℕ × Cell)) → IsValid w → HasLastRow w e cells → cells_of w e ≡ cells
+cells_last w e cells v last = ap listed_cells (row_stands w e (last_home w.tables (row_for e cells)) (row_for e cells) v.rows.once (last_row_there w.tables (row_for e cells) last) refl)
