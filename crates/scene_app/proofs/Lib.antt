@@ -2,4 +2,3 @@ pub mod PlayLaws
 pub mod ReportLaws
 pub mod ResourceLaws
 pub mod ShowLaws
-pub mod Stacks

@@ -1,9 +1,9 @@
 pub mod Fault
 pub mod Listed
+pub mod MachineCode
 pub mod OpenFrame
 pub mod Play
 pub mod Reports
 pub mod ShowSteps
 pub mod Shown
 pub mod Steps
-pub mod Saved

@@ -60,7 +60,7 @@ pub(crate) fn answer_frame(
     requires { length queues.now ≤ 4294967295 }
     ensures { OnOk result (Replies (string_bytes out.old) (string_bytes out.new) state.new None (submit_reply state.old (frame_of queues.now))) }
 {
-    match state.machine.submit(alloc, queues) {
+    match state.machine.submit(queues) {
         Ok(entities) => write_made(out, entities.as_slice()),
         Err(refusal) => answer_refused(out, refusal),
     }

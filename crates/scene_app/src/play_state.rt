@@ -3,8 +3,8 @@ ghost use Rattle.std.specs.Prelude.{◌≡◌};
 ghost use Rattle.scene_app.specs.Play.{opening_state, cursor_of, with_cursor, since};
 
 use crate::cursor::Cursor;
+use crate::machine::Machine;
 use crate::open_frame::OpenFrame;
-use crate::saved::Saved;
 use scene_kinds::{Fault, Refusal};
 use scene_world::World;
 use std::alloc::Global;
@@ -12,7 +12,7 @@ use std::alloc::Global;
 /// The machine, the cursor that the last mark took, and the frame that is open.
 #[derive(Drop)]
 pub(crate) struct PlayState {
-    pub(crate) machine: Saved,
+    pub(crate) machine: Machine,
     pub(crate) cursor: Cursor,
     pub(crate) frame: Option<OpenFrame>,
 }
@@ -23,7 +23,7 @@ impl PlayState {
         ensures { result ≡ opening_state world.world }
     {
         PlayState {
-            machine: Saved::new(alloc, world),
+            machine: Machine::new(alloc, world),
             cursor: Cursor {
                 rewinds: 0,
                 tick: 0,

@@ -20,3 +20,4 @@ pub mod Spawns
 pub mod Stages
 pub mod Standing
 pub mod Truncated
+pub mod Turns

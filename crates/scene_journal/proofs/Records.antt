@@ -29,7 +29,7 @@ module _ (r : Record) (w : World) (v : IsValid w) (fits : RecordFitsOn r w) wher
   can_tick : (w.tick ≡ w.tick) × CanSetTick w (w.tick + 1)
   can_tick = (refl, can_raise w v fits.low)
 
-  raised_valid : IsValid (raised w)
+  pub raised_valid : IsValid (raised w)
   raised_valid = (ticks_come_back w.tick (w.tick + 1)).keeps w v can_tick
 
   redone_valid : IsValid (redone r w)
@@ -66,7 +66,7 @@ module _ (r : Record) (w : World) (v : IsValid w) (fits : RecordFitsBack r w) wh
   undone_valid : IsValid (undone r w)
   undone_valid = (ticks_come_back (r.tick_before + 1) r.tick_before).keeps bare bare_valid can_lower
 
-  raised_again : raised (undone r w) ≡ bare
+  pub raised_again : raised (undone r w) ≡ bare
   raised_again = (ticks_come_back (r.tick_before + 1) r.tick_before).comes_back bare bare_valid can_lower
 
   undone_fits : RecordFitsOn r (undone r w)

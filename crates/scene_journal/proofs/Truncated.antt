@@ -1,5 +1,5 @@
--- Where it is known that deltas can be taken back, but not how, it is found how.
-use Rattle.std.proofs.Common.{◌≡◌, ◌≤◌, ℕ, Bool, true, false, List, [], ◌∷◌, length}
+-- Where it is known that deltas and records can be taken back or made again, but not how, it is found how.
+use Rattle.std.proofs.Common.{◌≡◌, ◌≤◌, ◌<◌, ◌+◌, ℕ, Bool, true, false, List, [], ◌∷◌, length}
 use Rattle.std.specs.List.{list_any}
 use Rattle.std.proofs.Math.Logic.{∥∥₁_elim}
 use Rattle.std.proofs.Props.{props}
@@ -12,13 +12,14 @@ use Rattle.scene_kinds.proofs.Maps.{equal_keys}
 use Rattle.scene_resources.specs.Resources.{name_cmp, name_cmp_total, name_cmp_exact}
 use Rattle.scene_links.specs.Room.{Holds as HoldsLinks}
 use Rattle.scene_model.specs.World.{World}
-use Rattle.scene_model.specs.Can.{CanMove}
+use Rattle.scene_model.specs.Can.{CanMove, CanSetTick}
+use Rattle.scene_model.specs.Commands.{highest_tick}
 use Rattle.scene_world.specs.Room.{Room, Holds}
 use Rattle.scene_journal.specs.declared.delta.Delta.{Delta}
 use Rattle.scene_journal.specs.declared.delta.Delta.TheVariants.{Spawned, Despawned, Shifted, CellSet, Linked, ResourceSet}
-use Rattle.scene_journal.specs.Deltas.{FitsBack, back}
-use Rattle.scene_journal.specs.Records.{back_all}
-use Rattle.scene_journal.specs.Ready.{AreReady}
+use Rattle.scene_journal.specs.Deltas.{FitsBack, FitsOn, back, fwd}
+use Rattle.scene_journal.specs.Records.{Record, back_all, raised, AllFitBack, AllFitOn, RecordFitsBack, RecordFitsOn}
+use Rattle.scene_journal.specs.Ready.{AreReady, AreReadyOn}
 
 -- that a delta fits back has one proof at most
 
@@ -33,6 +34,23 @@ fits-prop (Shifted e place kind cell inward) w = Prim.hlevel (moves-prop, props)
 fits-prop (CellSet e kind before after) w = Prim.hlevel props
 fits-prop (Linked e before after) w = Prim.hlevel props
 fits-prop (ResourceSet name before after) w = Prim.hlevel props
+
+on-prop : (d : Delta) (w : World) → IsProp (FitsOn d w)
+on-prop (Spawned e cells fresh) w = Prim.hlevel props
+on-prop (Despawned e place cells link retired) w = Prim.hlevel props
+on-prop (Shifted e place kind cell inward) w = Prim.hlevel (moves-prop, props)
+on-prop (CellSet e kind before after) w = Prim.hlevel props
+on-prop (Linked e before after) w = Prim.hlevel props
+on-prop (ResourceSet name before after) w = Prim.hlevel props
+
+tick-prop : (w : World) (tick : ℕ) → IsProp (CanSetTick w tick)
+tick-prop w tick = Prim.hlevel props
+
+same-prop : (m n : ℕ) → IsProp (m ≡ n)
+same-prop m n = Prim.hlevel props
+
+below-prop : (m n : ℕ) → IsProp (m < n)
+below-prop m n = Prim.hlevel props
 
 at_most-prop : (m n : ℕ) → IsProp (m ≤ n)
 at_most-prop m n = Prim.hlevel props
@@ -62,7 +80,7 @@ module _ (P : Type 0) (known : ∥ P ∥₁) where
     names = record { each = λ name some. names_found room.names name (∥∥₁_elim known (named-prop (is_kept room.names name)) (λ p. name_told room.names name ((get p).names.each name some))) };
   }
 
-  each_ready : (room : Room) (ds : List Delta) (w : World) → (P → AreReady room ds w) → AreReady room ds w
+  pub each_ready : (room : Room) (ds : List Delta) (w : World) → (P → AreReady room ds w) → AreReady room ds w
   each_ready room [] w get = tt
   each_ready room (d ∷ ds) w get = (
     each_ready room ds w (λ p. (get p).0),
@@ -71,6 +89,38 @@ module _ (P : Type 0) (known : ∥ P ∥₁) where
       held = held room (back d (back_all ds w)) (λ p. (get p).1.held);
     },
   )
+
+  each_fits_back : (ds : List Delta) (w : World) → (P → AllFitBack ds w) → AllFitBack ds w
+  each_fits_back [] w get = tt
+  each_fits_back (d ∷ ds) w get = (each_fits_back ds w (λ p. (get p).0), ∥∥₁_elim known (fits-prop d (back_all ds w)) (λ p. (get p).1))
+
+  each_fits_on : (ds : List Delta) (w : World) → (P → AllFitOn ds w) → AllFitOn ds w
+  each_fits_on [] w get = tt
+  each_fits_on (d ∷ ds) w get = (∥∥₁_elim known (on-prop d w) (λ p. (get p).0), each_fits_on ds (fwd d w) (λ p. (get p).1))
+
+  pub each_ready_on : (room : Room) (ds : List Delta) (w : World) → (P → AreReadyOn room ds w) → AreReadyOn room ds w
+  each_ready_on room [] w get = tt
+  each_ready_on room (d ∷ ds) w get = (
+    record {
+      fits = ∥∥₁_elim known (on-prop d w) (λ p. (get p).0.fits);
+      held = held room (fwd d w) (λ p. (get p).0.held);
+    },
+    each_ready_on room ds (fwd d w) (λ p. (get p).1),
+  )
+
+  pub fits_back_from : (r : Record) (w : World) → (P → RecordFitsBack r w) → RecordFitsBack r w
+  fits_back_from r w get = record {
+    tick = ∥∥₁_elim known (same-prop w.tick (r.tick_before + 1)) (λ p. (get p).tick);
+    deltas = each_fits_back r.deltas w (λ p. (get p).deltas);
+    timely = ∥∥₁_elim known (tick-prop (back_all r.deltas w) r.tick_before) (λ p. (get p).timely);
+  }
+
+  pub fits_on_from : (r : Record) (w : World) → (P → RecordFitsOn r w) → RecordFitsOn r w
+  fits_on_from r w get = record {
+    tick = ∥∥₁_elim known (same-prop w.tick r.tick_before) (λ p. (get p).tick);
+    low = ∥∥₁_elim known (below-prop w.tick highest_tick) (λ p. (get p).low);
+    deltas = each_fits_on r.deltas (raised w) (λ p. (get p).deltas);
+  }
 
 pub found_ready : (room : Room) (ds : List Delta) (w : World) → ∥ AreReady room ds w ∥₁ → AreReady room ds w
 found_ready room ds w known = each_ready (AreReady room ds w) known room ds w (λ r. r)

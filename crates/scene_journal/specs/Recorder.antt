@@ -1,13 +1,18 @@
 -- A recorder: a world, and the record of what was done to it.
 use Rattle.scene_model.specs.World.{World}
+use Rattle.scene_world.specs.Room.{Room, Housed}
 use Rattle.scene_world.specs.Stage.{Staged}
 use Rattle.scene_journal.specs.declared.delta.Delta.{Delta}
 use Rattle.scene_journal.specs.Records.{Record, back_all}
 
--- the world as it is now, and the record of its frame so far
+-- the world as it is now, the record of its frame so far, and the room of the world
 pub record Recording : Type 0 where
   pub world : World
   pub frame : Record
+  pub room : Room
+
+abbrev pub recording : Housed → Record → Recording
+recording h frame = record { world = h.world; frame = frame; room = h.room }
 
 -- as a stage it is the world with the deltas
 abbrev pub staged_of : Recording → Staged Delta

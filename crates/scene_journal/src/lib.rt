@@ -28,4 +28,4 @@ pub use examples::worked_records_hold;
 pub use laws::{commands_are_deltas, deltas_come_back, frames_are_records, records_come_back};
 pub use record::FrameRecord;
 pub use recorder::Recorder;
-pub use steps::{make_again, take_all_back, take_back};
+pub use steps::{make_again, make_all_again, take_all_back, take_back};

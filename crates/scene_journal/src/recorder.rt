@@ -2,7 +2,7 @@
 ghost use Rattle.std.specs.Prelude.{◌≡◌, Some};
 ghost use Rattle.scene_journal.specs.Notes.{deltas_of};
 ghost use Rattle.scene_journal.specs.Ready.{AreReady};
-ghost use Rattle.scene_journal.specs.Recorder.{opening_of, staged_of};
+ghost use Rattle.scene_journal.specs.Recorder.{opening_of, recording, staged_of};
 
 use crate::cuts::cut_each;
 use crate::delta::Delta;
@@ -31,11 +31,11 @@ pub struct Recorder {
 impl Model for Recorder {
     ghost use Rattle.scene_journal.specs.Ready.{AreReady};
     ghost use Rattle.scene_journal.specs.Records.{record_of};
-    ghost use Rattle.scene_journal.specs.Recorder.{Recording};
+    ghost use Rattle.scene_journal.specs.Recorder.{Recording, recording};
 
     ghost Value = { Recording };
 
-    ghost view = { λ r. record { world = r.world.world; frame = record_of r.tick_before r.deltas.items } };
+    ghost view = { λ r. recording r.world (record_of r.tick_before r.deltas.items) };
 
     // Each delta can be taken back at its turn, with the memory that the world has.
     ghost invariant = { λ r. ∥ AreReady r.world.room r.deltas.items r.world.world ∥₁ };
@@ -46,8 +46,7 @@ impl Recorder {
     /// takes no memory.
     pub fn new(alloc: Global, world: World, frame: FrameRecord) -> Recorder
         requires { AreReady world.room frame.deltas world.world }
-        ensures world { result.world ≡ world.world }
-        ensures frame { result.frame ≡ frame }
+        ensures { result ≡ recording world frame }
     {
         let (tick_before, deltas) = frame.into_parts();
         Recorder {
@@ -60,8 +59,7 @@ impl Recorder {
 
     /// The world as it is now, and the record. It takes no memory.
     pub fn into_parts(self) -> (World, FrameRecord)
-        ensures world { result.0.world ≡ self.world }
-        ensures frame { result.1 ≡ self.frame }
+        ensures parts { recording result.0 result.1 ≡ self }
         ensures ready { AreReady result.0.room result.1.deltas result.0.world }
     {
         let Recorder {
@@ -76,7 +74,8 @@ impl Recorder {
     /// The world from before all deltas: entities, rows and their order, ticks, the free list, links and resources
     /// (docs/JOURNAL.md, "The recorder"). It takes no memory, and costs what the deltas changed.
     pub fn revert(self) -> World
-        ensures { result.world ≡ opening_of self }
+        ensures world { result.world ≡ opening_of self }
+        ensures room { result.room ≡ self.room }
     {
         let Recorder { world, deltas, .. } = self;
         let mut before = world;
@@ -94,6 +93,8 @@ impl Stage for Recorder {
     ghost note = { deltas_of };
 
     ghost opening = { λ r. Some (opening_of r) };
+
+    ghost room = { λ r. r.room };
 
     fn world(&self) -> &World {
         &self.world

@@ -1,8 +1,8 @@
 //! Deltas that are made again and taken back in a world that has room for them.
 ghost use Rattle.std.specs.Prelude.{◌≡◌};
 ghost use Rattle.scene_journal.specs.Deltas.{back, fwd, FitsBack, FitsOn};
-ghost use Rattle.scene_journal.specs.Ready.{AreReady};
-ghost use Rattle.scene_journal.specs.Records.{back_all};
+ghost use Rattle.scene_journal.specs.Ready.{AreReady, AreReadyOn};
+ghost use Rattle.scene_journal.specs.Records.{back_all, fwd_all};
 ghost use Rattle.scene_world.specs.Room.{Holds};
 
 use crate::delta::Delta;
@@ -104,5 +104,18 @@ pub fn take_all_back(world: &mut World, deltas: Vec<Delta>)
     let mut left = deltas;
     while let Some(delta) = left.pop() {
         take_back(world, delta);
+    }
+}
+
+/// Makes deltas again, the first first, where each is ready at its turn. It takes no memory.
+pub fn make_all_again(world: &mut World, deltas: Vec<Delta>)
+    requires { AreReadyOn world.old.room deltas.items world.old.world }
+    ensures world { world.new.world ≡ fwd_all deltas.items world.old.world }
+    ensures room { world.new.room ≡ world.old.room }
+{
+    let mut left = deltas;
+    left.reverse();
+    while let Some(delta) = left.pop() {
+        make_again(world, delta);
     }
 }

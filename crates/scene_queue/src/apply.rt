@@ -5,6 +5,7 @@ ghost use Rattle.scene_kinds.specs.declared.fault.Fault.TheVariants.{NoMemory};
 ghost use Rattle.scene_model.specs.Queue.{and_spawned, play, reached, refused_at, request, whole};
 ghost use Rattle.scene_model.specs.Perform.{SetParent, perform};
 ghost use Rattle.scene_model.specs.Frame.{queue as one_queue};
+ghost use Rattle.scene_world.specs.Room.{IsWider};
 ghost use Rattle.scene_world.specs.Stage.{act};
 ghost use Rattle.scene_queue.specs.Requests.{on_both, request_of, requests};
 ghost use Rattle.scene_queue.specs.Queue.{IsPassed, Stops};
@@ -25,6 +26,7 @@ fn link<S: Stage>(
 ) -> Result<Option<Entity>, Refusal>
     ensures answer { Answers result (S.seen stage.old) (S.seen stage.new) (request (act S.note) (on_both child parent SetParent) (reached (S.seen stage.old) spawned.now)) }
     ensures opening { S.opening stage.new ≡ S.opening stage.old }
+    ensures wide { IsWider (S.room stage.old) (S.room stage.new) }
 {
     let (child, parent) = Target::entities(child, parent, spawned)?;
     match stage.set_parent(child, parent) {
@@ -41,6 +43,7 @@ fn do_command<S: Stage>(
 ) -> Result<Option<Entity>, Refusal>
     ensures answer { Answers result (S.seen stage.old) (S.seen stage.new) (request (act S.note) (request_of command.now) (reached (S.seen stage.old) spawned.now)) }
     ensures opening { S.opening stage.new ≡ S.opening stage.old }
+    ensures wide { IsWider (S.room stage.old) (S.room stage.new) }
 {
     match command {
         Command::Spawn(components) => {
@@ -110,6 +113,7 @@ fn apply_commands<S: Stage>(
     ensures passed { OnErr result (IsPassed (act S.note) (requests commands.now) (S.seen stage.old) (S.seen stage.new)) }
     ensures refused { IfErr result (λ r. r ≢ refusal_of NoMemory → Stops (act S.note) queue (requests commands.now) (S.seen stage.old) (S.seen stage.new) r) }
     ensures opening { S.opening stage.new ≡ S.opening stage.old }
+    ensures wide { IsWider (S.room stage.old) (S.room stage.new) }
 {
     let mut spawned = Vec::new(alloc);
     let mut at: u32 = 0;
@@ -133,7 +137,8 @@ impl Queue {
     ///
     /// Refused: the first command's `BadLocal`, where a target isn't spawned yet, or else its own refusal, with the
     /// phase 0, the queue 0 and its place in this queue; `NoMemory` without a place. After a refusal the stage is as
-    /// the commands before left it. The world to which it can be taken back, if it keeps a way back, stays.
+    /// the commands before left it. The world to which it can be taken back, if it keeps a way back, stays,
+    /// and no room is lost.
     pub fn apply<S: Stage>(&self, stage: &mut S) -> Result<Vec<Entity>, Refusal>
         ensures whole { IfOk result (λ spawned. play (act S.note) (requests self.now.commands) (S.seen stage.old) ≡ whole (reached (S.seen stage.new) spawned.items)) }
         ensures passed { OnErr result (IsPassed (act S.note) (requests self.now.commands) (S.seen stage.old) (S.seen stage.new)) }
@@ -141,6 +146,7 @@ impl Queue {
         ensures world { IfOk result (λ spawned. one_queue perform 0 (requests self.now.commands) (S.seen stage.old).world ≡ Ok (spawned.items, (S.seen stage.new).world)) }
         ensures world_refused { IfErr result (λ r. r ≢ refusal_of NoMemory → one_queue perform 0 (requests self.now.commands) (S.seen stage.old).world ≡ Err r) }
         ensures opening { S.opening stage.new ≡ S.opening stage.old }
+        ensures wide { IsWider (S.room stage.old) (S.room stage.new) }
     {
         self.apply_at(0, stage)
     }
@@ -155,6 +161,7 @@ impl Queue {
         ensures passed { OnErr result (IsPassed (act S.note) (requests self.now.commands) (S.seen stage.old) (S.seen stage.new)) }
         ensures refused { IfErr result (λ r. r ≢ refusal_of NoMemory → Stops (act S.note) queue (requests self.now.commands) (S.seen stage.old) (S.seen stage.new) r) }
         ensures opening { S.opening stage.new ≡ S.opening stage.old }
+        ensures wide { IsWider (S.room stage.old) (S.room stage.new) }
     {
         apply_commands(self.alloc, queue, self.commands.as_slice(), stage)
     }

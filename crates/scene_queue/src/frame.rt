@@ -4,6 +4,7 @@ ghost use Rattle.scene_kinds.specs.Answers.{refusal_of};
 ghost use Rattle.scene_kinds.specs.declared.fault.Fault.TheVariants.{NoMemory};
 ghost use Rattle.scene_model.specs.Perform.{perform};
 ghost use Rattle.scene_model.specs.Frame.{queues_from};
+ghost use Rattle.scene_world.specs.Room.{IsWider};
 ghost use Rattle.scene_world.specs.Stage.{act};
 ghost use Rattle.scene_queue.specs.Frames.{frame_of, ArePassed};
 
@@ -18,7 +19,8 @@ use std::alloc::Global;
 ///
 /// Refused: the first command's `BadLocal`, where a target isn't spawned yet, or else its own refusal, with the phase
 /// 0, its queue's place and its own in that queue; `NoMemory` without a place. After a refusal the stage is as the
-/// commands before left it. The world to which it can be taken back, if it keeps a way back, stays.
+/// commands before left it. The world to which it can be taken back, if it keeps a way back, stays,
+/// and no room is lost.
 pub fn apply_all<S: Stage>(
     alloc: Global,
     queues: &[Queue],
@@ -31,6 +33,7 @@ pub fn apply_all<S: Stage>(
     ensures world { IfOk result (λ spawned. queues_from perform 0 (frame_of queues.now) (S.seen stage.old).world ≡ Ok (spawned.items, (S.seen stage.new).world)) }
     ensures world_refused { IfErr result (λ r. r ≢ refusal_of NoMemory → queues_from perform 0 (frame_of queues.now) (S.seen stage.old).world ≡ Err r) }
     ensures opening { S.opening stage.new ≡ S.opening stage.old }
+    ensures wide { IsWider (S.room stage.old) (S.room stage.new) }
 {
     let mut spawned = Vec::new(alloc);
     let mut at: u32 = 0;

@@ -1,5 +1,6 @@
 use Rattle.std.proofs.Common.{◌≡◌, take}
 use Rattle.scene_model.specs.Queue.{reached, whole, play}
+use Rattle.scene_world.specs.Room.{IsWider}
 use Rattle.scene_world.specs.Stage.{act}
 use Rattle.scene_queue.specs.Requests.{requests}
 use Rattle.scene_queue.proofs.apply.apply_commands.Given as goal
@@ -10,4 +11,4 @@ invariant-loop-command g l =
     let s = g.S.Stage in
     (l.at ≡ l.command-index)
     × ((play (act s.note) (requests (take l.command-index l.commands)) (s.seen l.fn.stage) ≡ whole (reached (s.seen l.stage) l.spawned.items))
-    × (s.opening l.stage ≡ s.opening l.fn.stage))
+    × ((s.opening l.stage ≡ s.opening l.fn.stage) × IsWider (s.room l.fn.stage) (s.room l.stage)))

@@ -7,6 +7,7 @@ use Rattle.scene_queue.specs.Queue.{QueueState}
 use Rattle.scene_queue.specs.Frames.{frame_of, on_world}
 use Rattle.scene_queue.proofs.Frames.{whole_one, refused_one, passed_some, passed_whole}
 use Rattle.scene_queue.proofs.Worlds.{queues_world}
+use Rattle.scene_world.proofs.Room.{wider_wider}
 use Rattle.scene_queue.proofs.frame.apply_all.Goals as goal
 
 pub returns-in-Err-clause-refused : goal.returns-in-Err-clause-refused
@@ -45,6 +46,13 @@ loop-queue-preserved g c = (
     whole_one (act g.S.Stage.note) (λ (q : QueueState). requests q.commands) c.args.queues.now c.loop-queue.queue-index c.queue-item.result _ _ _ _ _
         c.loop-queue-test.true c.queue-item.is c.loop-queue.invariant.1.0 c.in-Ok.ensures.whole
         ∙ ap (λ es. Ok (es, g.S.Stage.seen c.apply_at.new.stage)) (sym (c.append.ensures.items ∙ ap (λ b. cond b (c.loop-queue.spawned.items ++ c.in-Ok.made.items) c.loop-queue.spawned.items) c.if-is_err.ensures.negation)),
-    c.apply_at.ensures.opening ∙ c.loop-queue.invariant.1.1,
+    (
+      c.apply_at.ensures.opening ∙ c.loop-queue.invariant.1.1.0,
+      wider_wider (g.S.Stage.room c.args.stage.now) (g.S.Stage.room c.loop-queue.stage) (g.S.Stage.room c.apply_at.new.stage) c.loop-queue.invariant.1.1.1 c.apply_at.ensures.wide,
+    ),
   ),
 )
+
+pub returns-in-Err-clause-wide : goal.returns-in-Err-clause-wide
+returns-in-Err-clause-wide g c =
+    wider_wider (g.S.Stage.room c.args.stage.now) (g.S.Stage.room c.loop-queue.stage) (g.S.Stage.room c.apply_at.new.stage) c.loop-queue.invariant.1.1.1 c.in-Err.ensures.wide

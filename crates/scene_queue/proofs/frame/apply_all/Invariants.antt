@@ -1,5 +1,6 @@
 use Rattle.std.proofs.Common.{◌≡◌, take, Ok}
 use Rattle.scene_model.specs.Frame.{queues_from}
+use Rattle.scene_world.specs.Room.{IsWider}
 use Rattle.scene_world.specs.Stage.{act}
 use Rattle.scene_queue.specs.Frames.{frame_of}
 use Rattle.scene_queue.proofs.frame.apply_all.Given as goal
@@ -10,4 +11,4 @@ invariant-loop-queue g l =
     let s = g.S.Stage in
     (l.at ≡ l.queue-index)
     × ((queues_from (act s.note) 0 (frame_of (take l.queue-index l.queues)) (s.seen l.fn.stage) ≡ Ok (l.spawned.items, s.seen l.stage))
-    × (s.opening l.stage ≡ s.opening l.fn.stage))
+    × ((s.opening l.stage ≡ s.opening l.fn.stage) × IsWider (s.room l.fn.stage) (s.room l.stage)))

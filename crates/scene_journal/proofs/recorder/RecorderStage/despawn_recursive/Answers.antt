@@ -39,7 +39,7 @@ returns-clause-answer c =
     let es = c.in_ok-made.made.items in
     let order = c.as_slice.ensures.value ∙ c.in_ok-order.ensures.value ∙ ap (λ f. post f c.args.entity) c.links.ensures in
     let kept = c.append.ensures.items ∙ ap (λ b. cond b (ds ++ es) ds) c.if-is_err.ensures.negation in
-    let start : Recording = record { world = w; frame = record_of c.self.inside.tick_before ds } in
+    let start : Recording = record { world = w; frame = record_of c.self.inside.tick_before ds; room = c.self.inside.world.room } in
     let whole = recursive_each w c.args.entity c.is_sound.ensures.valid (sym c.is_alive.ensures ∙ c.if-not-is_alive.false) in
     subst (λ (s : Recording). noting (staged_of s) (deltas_of s.world (DespawnRecursive c.args.entity)) (despawn_recursive s.world c.args.entity) ≡ Ok (tt, record { world = v; notes = c.append.new.self.items })) c.self.view_is
     (noted_ok (staged_of start) (deltas_of w (DespawnRecursive c.args.entity)) (despawn_recursive w c.args.entity) tt v (cut_each (post w.children c.args.entity) w) c.append.new.self.items whole.1

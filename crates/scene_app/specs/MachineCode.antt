@@ -1,16 +1,11 @@
--- Saved worlds in memory: stacks whose last world is the next one, with rooms that nobody sees.
-use Rattle.std.specs.Prelude.{ℕ, List, [], map as each, refl}
+-- How the values of a machine are told apart.
+use Rattle.std.specs.Prelude.{ℕ, List, [], refl}
 use Rattle.std.specs.Coded.{Coded, code_by, coded×, coded_list, coded_ℕ}
-use mathlib.Core.List.{reverse}
 use Rattle.scene_kinds.specs.Map as map
 use Rattle.scene_world.specs.contracts.world.World as world
 use Rattle.scene_world.specs.Room.{Housed}
 use Rattle.scene_model.specs.World.{World}
 use Rattle.scene_model.specs.Machine.{Machine}
-
--- the worlds of a stack, the next one first
-abbrev pub worlds : List Housed → List World
-worlds hs = reverse (each (λ h. h.world) hs)
 
 -- a world is told apart as one with no room
 abbrev pub world_code : Coded World

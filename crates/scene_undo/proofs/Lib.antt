@@ -1,0 +1,4 @@
+pub mod EditorLaws
+pub mod Kept
+pub mod Machines
+pub mod WholeFrames

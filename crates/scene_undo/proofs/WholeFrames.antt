@@ -1,0 +1,91 @@
+-- A frame that a recorder accepted, as a record: the deltas that it noted, and the way back.
+use Rattle.std.proofs.Common.{◌≡◌, ℕ, ◌+◌, List, [], ◌∷◌, ◌++◌, refl, ap, sym, subst, ◌∙◌, Option, Some, None, Ok}
+use Rattle.std.specs.Prelude.{Err}
+use Rattle.scene_kinds.specs.declared.entity.Entity.{Entity}
+use Rattle.scene_kinds.specs.declared.refusal.Refusal.{Refusal}
+use Rattle.scene_kinds.specs.Answers.{Outcome}
+use Rattle.scene_model.specs.World.{World}
+use Rattle.scene_model.specs.Can.{CanSetTick}
+use Rattle.scene_model.specs.Commands.{and_then, raise_tick}
+use Rattle.scene_model.specs.Frame.{all_or_refused, frame, queues_from}
+use Rattle.scene_model.specs.Perform.{perform}
+use Rattle.scene_model.specs.Queue.{Request, play}
+use Rattle.scene_model.specs.Raw.{set_tick}
+use Rattle.scene_model.specs.Valid.{IsValid}
+use Rattle.scene_model.proofs.Outcomes.{not_ok, same_world}
+use Rattle.scene_model.proofs.PartCommands.{raise_sets_tick}
+use Rattle.scene_model.proofs.ResourceBack.{ticks_come_back}
+use Rattle.scene_world.specs.Room.{Room}
+use Rattle.scene_world.specs.Stage.{Staged, Note, act}
+use Rattle.scene_journal.specs.declared.delta.Delta.{Delta}
+use Rattle.scene_journal.specs.Frames.{after_queues, frame_record}
+use Rattle.scene_journal.specs.Notes.{deltas_of}
+use Rattle.scene_journal.specs.Ready.{AreReady}
+use Rattle.scene_journal.specs.Records.{record_of, back_all, raised, undone}
+use Rattle.scene_journal.proofs.Deltas.{back_all_keeps_tick}
+use Rattle.scene_journal.proofs.Turns.{ready_fits_back}
+use Rattle.scene_undo.specs.Kept.{CanUndo}
+
+-- ---- a frame that was accepted is the fold of its queues
+
+rest_of : {S : Type 0} (q : ℕ) (s t : S) (es fs : List Entity) (r : Option (ℕ × Refusal)) (rest : List Entity → S → Outcome (List Entity) S)
+    → and_then (all_or_refused q s es r) rest ≡ Ok (fs, t) → rest es s ≡ Ok (fs, t)
+rest_of q s t es fs None rest h = h
+rest_of q s t es fs (Some x) rest h = absurd (not_ok (fs, t) _ h)
+
+others_of : {S : Type 0} (t : S) (es fs : List Entity) (o : Outcome (List Entity) S) → and_then o (λ gs u. Ok (es ++ gs, u)) ≡ Ok (fs, t) → (gs : List Entity) × (o ≡ Ok (gs, t))
+others_of t es fs (Ok p) h = (p.0, λ i. Ok (p.0, (same_world (es ++ p.0) fs p.1 t h).1 i))
+others_of t es fs (Err r) h = absurd (not_ok (fs, t) r h)
+
+pub after_whole : {N : Type 0} (note : Note N) (q : ℕ) (rss : List (List Request)) (s t : Staged N) (es : List Entity) → queues_from (act note) q rss s ≡ Ok (es, t) → after_queues note rss s ≡ t
+after_whole note q [] s t es h = (same_world [] es s t h).1
+after_whole note q (rs ∷ rss) s t es h =
+    let e = play (act note) rs s in
+    let u = e.progress.state in
+    let rest = rest_of q u t e.progress.spawned es e.refused (λ fs v. and_then (queues_from (act note) (q + 1) rss v) (λ gs w. Ok (fs ++ gs, w))) h in
+    let others = others_of t e.progress.spawned es (queues_from (act note) (q + 1) rss u) rest in
+    after_whole note (q + 1) rss u t others.0 others.1
+
+-- ---- the frame of a world whose tick was raised
+
+pub frame_goes : (queues : List (List Request)) (w u : World) → raise_tick w ≡ Ok (tt, u) → frame queues w ≡ queues_from perform 0 queues u
+frame_goes queues w u is = ap (λ o. and_then o (λ a v. queues_from perform 0 queues v)) is
+
+pub frame_stops : (queues : List (List Request)) (w : World) (r : Refusal) → raise_tick w ≡ Err r → frame queues w ≡ Err r
+frame_stops queues w r is = ap (λ o. and_then o (λ a v. queues_from perform 0 queues v)) is
+
+module _ (w u : World) (valid : IsValid w) (raises : raise_tick w ≡ Ok (tt, u)) where
+  is_raised : u ≡ raised w
+  is_raised = (raise_sets_tick w u valid raises).1
+
+  can : (w.tick ≡ w.tick) × CanSetTick w (w.tick + 1)
+  can = (refl, (raise_sets_tick w u valid raises).0)
+
+  -- the tick can be set back, which gives the world from before
+  pub lowers : CanSetTick u w.tick
+  lowers = subst (λ x. CanSetTick x w.tick) (sym is_raised) ((ticks_come_back w.tick (w.tick + 1)).can_come_back w valid can).1
+
+  pub lowered : set_tick u w.tick ≡ w
+  lowered = ap (λ x. set_tick x w.tick) is_raised ∙ (ticks_come_back w.tick (w.tick + 1)).comes_back w valid can
+
+  -- the record that was noted on the way is that of the frame
+  pub record_is : (queues : List (List Request)) (es : List Entity) (v : World) (ds : List Delta) → queues_from (act deltas_of) 0 queues (record { world = u; notes = [] }) ≡ Ok (es, record { world = v; notes = ds })
+      → record_of w.tick ds ≡ frame_record queues w
+  record_is queues es v ds whole =
+      ap (record_of w.tick) (sym (ap (λ (s : Staged Delta). s.notes)
+      (ap (λ x. after_queues deltas_of queues (record { world = x; notes = [] })) (sym is_raised) ∙ after_whole deltas_of 0 queues (record { world = u; notes = [] }) (record { world = v; notes = ds }) es whole)))
+
+  -- and it can be undone, which gives the world from before
+  module _ (room : Room) (v : World) (ds : List Delta) (ready : AreReady room ds v) (back : back_all ds v ≡ u) where
+    pub record_can : CanUndo room (record_of w.tick ds) v
+    record_can = record {
+      fits = record {
+        tick = sym (back_all_keeps_tick ds v) ∙ ap (λ (x : World). x.tick) (back ∙ is_raised);
+        deltas = ready_fits_back room ds v ready;
+        timely = subst (λ x. CanSetTick x w.tick) (sym back) lowers;
+      };
+      ready = ready;
+    }
+
+    pub record_undoes : undone (record_of w.tick ds) v ≡ w
+    record_undoes = ap (λ x. set_tick x w.tick) back ∙ lowered

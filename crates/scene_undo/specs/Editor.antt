@@ -1,0 +1,34 @@
+-- An editor as its contracts see it, and the machine of saved worlds that it is.
+use Rattle.std.specs.Prelude.{◌≡◌, ℕ, List, [], ◌∷◌, Result, Ok, Err}
+use Rattle.scene_kinds.specs.declared.entity.Entity.{Entity}
+use Rattle.scene_kinds.specs.declared.refusal.Refusal.{Refusal}
+use Rattle.scene_model.specs.World.{World}
+use Rattle.scene_model.specs.Machine.{Machine}
+use Rattle.scene_journal.specs.Records.{Record, redone, undone}
+use Rattle.scene_undo.specs.declared.made.Made.{Made}
+
+-- the world now, the records of the frames before it, the newest first, those of the frames that were undone, the next one first, and
+-- how many undos there were
+pub record EditorState : Type 0 where
+  pub world : World
+  pub past : List Record
+  pub future : List Record
+  pub rewinds : ℕ
+
+-- the worlds that records lead to, one after another
+abbrev pub worlds_along : (Record → World → World) → List Record → World → List World
+worlds_along step [] w = []
+worlds_along step (r ∷ rs) w = step r w ∷ worlds_along step rs (step r w)
+
+-- the machine: each world of its past is what undoing the records leads to, and each of its future what redoing does
+abbrev pub machine_of : EditorState → Machine World
+machine_of s = record { past = worlds_along undone s.past s.world; now = s.world; future = worlds_along redone s.future s.world; rewinds = s.rewinds }
+
+-- the entities that a frame spawned, or its refusal
+abbrev pub entities_of : Result Made Refusal → Result (List Entity) Refusal
+entities_of (Ok made) = Ok made.entities.items
+entities_of (Err r) = Err r
+
+-- a record goes from the one list to the other
+abbrev pub IsMoved : (from to old_from old_to : List Record) → Type 0
+IsMoved from to old_from old_to = (r : Record) × ((old_from ≡ r ∷ from) × (to ≡ r ∷ old_to))

@@ -1,0 +1,171 @@
+//! The editor.
+ghost use Rattle.std.specs.Prelude.{◌≡◌, ◌≤◌, ◌∷◌, [], length, IfOk, OnOk, OnErr};
+ghost use Rattle.scene_kinds.specs.Answers.{Answers};
+ghost use Rattle.scene_model.specs.Frame.{Submit, call};
+ghost use Rattle.scene_model.specs.Machine.{opening, redo, undo};
+ghost use Rattle.scene_queue.specs.Frames.{frame_of};
+ghost use Rattle.scene_journal.specs.Frames.{frame_record};
+ghost use Rattle.scene_undo.specs.Editor.{IsMoved, entities_of, machine_of};
+
+use crate::framed::{Framed, frame};
+use crate::made::Made;
+use crate::records::{redo_record, undo_record};
+use scene_journal::FrameRecord;
+use scene_kinds::{Fault, Refusal, Schema};
+use scene_queue::Queue;
+use scene_world::World;
+use std::alloc::Global;
+use std::marker::Model;
+
+/// A world that frames change, all or nothing, with every change taken back and made again on demand
+/// (docs/JOURNAL.md, "The editor").
+///
+/// Contracts see the world, the records of the frames before it and of those that were undone, and the count of undos;
+/// `machine_of` makes of them the machine of saved worlds. Nothing but the world now is kept as a world.
+#[derive(Drop, Debug)]
+pub struct Editor {
+    alloc: Global,
+    world: World,
+    /// The records of the frames so far, the newest last.
+    past: Vec<FrameRecord>,
+    /// Those of the frames that were undone, the next one last.
+    future: Vec<FrameRecord>,
+    rewinds: u64,
+}
+
+impl Model for Editor {
+    ghost use Rattle.std.specs.Prelude.{reverse};
+    ghost use Rattle.scene_undo.specs.Editor.{EditorState};
+    ghost use Rattle.scene_undo.specs.Kept.{CanRedoAll, CanUndoAll};
+
+    ghost Value = { EditorState };
+
+    ghost view = { λ e. record { world = e.world.world; past = reverse e.past.items; future = reverse e.future.items; rewinds = e.rewinds } };
+
+    // Each record can be undone, or redone, at its turn, with the memory that the world has.
+    ghost invariant = { λ e. ∥ CanUndoAll e.world.room (reverse e.past.items) e.world.world × CanRedoAll e.world.room (reverse e.future.items) e.world.world ∥₁ };
+}
+
+impl Editor {
+    /// An editor of this world, with no past and no future, and no undos so far. It takes no memory.
+    pub fn new(alloc: Global, world: World) -> Editor
+        ensures state { result ≡ record { world = world.world; past = []; future = []; rewinds = 0 } }
+        ensures machine { machine_of result ≡ opening world.world }
+    {
+        Editor {
+            alloc,
+            world,
+            past: Vec::new(alloc),
+            future: Vec::new(alloc),
+            rewinds: 0,
+        }
+    }
+
+    /// The world now.
+    pub fn world(&self) -> &World
+        ensures { result.now.world ≡ self.now.world }
+    {
+        &self.world
+    }
+
+    /// How many frames can be undone, one after another.
+    pub fn undo_len(&self) -> usize
+        ensures { result ≡ length self.now.past }
+    {
+        self.past.len()
+    }
+
+    /// How many undone frames can be redone, one after another.
+    pub fn redo_len(&self) -> usize
+        ensures { result ≡ length self.now.future }
+    {
+        self.future.len()
+    }
+
+    /// How many undos there were. It never falls.
+    pub fn rewinds(&self) -> u64
+        ensures { result ≡ self.now.rewinds }
+    {
+        self.rewinds
+    }
+
+    /// Does a frame, all or nothing: it raises the world's tick by one and applies the queues in order
+    /// (docs/MODEL.md, "The rule of frames"). What was undone is forgotten. It costs what the frame changes.
+    ///
+    /// Refused, in this order, and then the editor is as it was: `TickFull`; the first command's refusal, with its
+    /// place; `NoMemory`.
+    pub fn submit(&mut self, queues: &[Queue]) -> Result<Made, Refusal>
+        requires { length queues.now ≤ 4294967295 }
+        ensures machine { Answers (entities_of result) (machine_of self.old) (machine_of self.new) (call (machine_of self.old) (Submit (frame_of queues.now))) }
+        ensures copy { IfOk result (λ m. m.copy.items ≡ m.entities.items) }
+        ensures records { OnOk result ((self.new.past ≡ frame_record (frame_of queues.now) self.old.world ∷ self.old.past) × (self.new.future ≡ [])) }
+        ensures same { OnErr result (self.new ≡ self.old) }
+    {
+        self.past.reserve(1)?;
+        let nothing = World::new(self.alloc, Schema::new(self.alloc), 1);
+        let world = std::mem::replace(&mut self.world, nothing);
+        let (world, framed) = frame(self.alloc, world, queues);
+        self.world = world;
+        match framed {
+            Ok(done) => {
+                let Framed { made, kept } = done;
+                self.past.push_reserved(kept);
+                self.future = Vec::new(self.alloc);
+                Ok(made)
+            }
+            Err(refusal) => Err(refusal),
+        }
+    }
+
+    /// Takes the newest frame back: entities, rows and their order, ticks, the free list, links and resources. It costs
+    /// what the frame changed, and a copy of its deltas.
+    ///
+    /// Refused, in this order, and then the editor is as it was: `NothingToUndo`; `TickFull` where there were
+    /// 18,446,744,073,709,551,615 undos; `NoMemory`.
+    pub fn undo(&mut self) -> Result<(), Refusal>
+        ensures machine { Answers result (machine_of self.old) (machine_of self.new) (undo (machine_of self.old)) }
+        ensures records { OnOk result (IsMoved self.new.past self.new.future self.old.past self.old.future) }
+        ensures same { OnErr result (self.new ≡ self.old) }
+    {
+        self.world.room_holds();
+        let _tick = self.world.tick();
+        match self.past.last() {
+            None => return Err(Refusal::from(Fault::NothingToUndo)),
+            Some(record) => {
+                if self.rewinds == u64::MAX {
+                    return Err(Refusal::from(Fault::TickFull));
+                }
+                self.future.reserve(1)?;
+                undo_record(&mut self.world, record)?;
+            }
+        }
+        if let Some(record) = self.past.pop() {
+            self.future.push_reserved(record);
+            self.rewinds += 1;
+        }
+        Ok(())
+    }
+
+    /// Does the newest undone frame again. It costs what the frame changes, and a copy of its deltas.
+    ///
+    /// Refused, in this order, and then the editor is as it was: `NothingToRedo`; `NoMemory`.
+    pub fn redo(&mut self) -> Result<(), Refusal>
+        ensures machine { Answers result (machine_of self.old) (machine_of self.new) (redo (machine_of self.old)) }
+        ensures records { OnOk result (IsMoved self.new.future self.new.past self.old.future self.old.past) }
+        ensures same { OnErr result (self.new ≡ self.old) }
+    {
+        self.world.room_holds();
+        let _tick = self.world.tick();
+        match self.future.last() {
+            None => return Err(Refusal::from(Fault::NothingToRedo)),
+            Some(record) => {
+                self.past.reserve(1)?;
+                redo_record(&mut self.world, record)?;
+            }
+        }
+        if let Some(record) = self.future.pop() {
+            self.past.push_reserved(record);
+        }
+        Ok(())
+    }
+}

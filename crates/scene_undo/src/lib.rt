@@ -1,0 +1,14 @@
+//! The editor: a world with a past and a future, kept as records of what each frame changed.
+//!
+//! `Editor::submit` does the queues of a frame, all or nothing; `undo` takes the newest frame back and `redo` does the
+//! newest undone one again. Contracts speak of the machine of saved worlds (`machine_of` in `specs/Editor.antt`), but no
+//! world is saved: what was before and after the world now is told by the records (docs/JOURNAL.md, "The editor").
+#![tactic(auto)]
+
+mod editor;
+mod framed;
+mod made;
+mod records;
+
+pub use editor::Editor;
+pub use made::Made;
