@@ -23,7 +23,8 @@ fn link<S: Stage>(
     spawned: &[Entity],
     stage: &mut S,
 ) -> Result<Option<Entity>, Refusal>
-    ensures { Answers result (S.seen stage.old) (S.seen stage.new) (request (act S.note) (on_both child parent SetParent) (reached (S.seen stage.old) spawned.now)) }
+    ensures answer { Answers result (S.seen stage.old) (S.seen stage.new) (request (act S.note) (on_both child parent SetParent) (reached (S.seen stage.old) spawned.now)) }
+    ensures opening { S.opening stage.new ≡ S.opening stage.old }
 {
     let (child, parent) = Target::entities(child, parent, spawned)?;
     match stage.set_parent(child, parent) {
@@ -38,7 +39,8 @@ fn do_command<S: Stage>(
     spawned: &[Entity],
     stage: &mut S,
 ) -> Result<Option<Entity>, Refusal>
-    ensures { Answers result (S.seen stage.old) (S.seen stage.new) (request (act S.note) (request_of command.now) (reached (S.seen stage.old) spawned.now)) }
+    ensures answer { Answers result (S.seen stage.old) (S.seen stage.new) (request (act S.note) (request_of command.now) (reached (S.seen stage.old) spawned.now)) }
+    ensures opening { S.opening stage.new ≡ S.opening stage.old }
 {
     match command {
         Command::Spawn(components) => {
@@ -107,6 +109,7 @@ fn apply_commands<S: Stage>(
     ensures whole { IfOk result (λ spawned. play (act S.note) (requests commands.now) (S.seen stage.old) ≡ whole (reached (S.seen stage.new) spawned.items)) }
     ensures passed { OnErr result (IsPassed (act S.note) (requests commands.now) (S.seen stage.old) (S.seen stage.new)) }
     ensures refused { IfErr result (λ r. r ≢ refusal_of NoMemory → Stops (act S.note) queue (requests commands.now) (S.seen stage.old) (S.seen stage.new) r) }
+    ensures opening { S.opening stage.new ≡ S.opening stage.old }
 {
     let mut spawned = Vec::new(alloc);
     let mut at: u32 = 0;
@@ -130,13 +133,14 @@ impl Queue {
     ///
     /// Refused: the first command's `BadLocal`, where a target isn't spawned yet, or else its own refusal, with the
     /// phase 0, the queue 0 and its place in this queue; `NoMemory` without a place. After a refusal the stage is as
-    /// the commands before left it.
+    /// the commands before left it. The world to which it can be taken back, if it keeps a way back, stays.
     pub fn apply<S: Stage>(&self, stage: &mut S) -> Result<Vec<Entity>, Refusal>
         ensures whole { IfOk result (λ spawned. play (act S.note) (requests self.now.commands) (S.seen stage.old) ≡ whole (reached (S.seen stage.new) spawned.items)) }
         ensures passed { OnErr result (IsPassed (act S.note) (requests self.now.commands) (S.seen stage.old) (S.seen stage.new)) }
         ensures refused { IfErr result (λ r. r ≢ refusal_of NoMemory → Stops (act S.note) 0 (requests self.now.commands) (S.seen stage.old) (S.seen stage.new) r) }
         ensures world { IfOk result (λ spawned. one_queue perform 0 (requests self.now.commands) (S.seen stage.old).world ≡ Ok (spawned.items, (S.seen stage.new).world)) }
         ensures world_refused { IfErr result (λ r. r ≢ refusal_of NoMemory → one_queue perform 0 (requests self.now.commands) (S.seen stage.old).world ≡ Err r) }
+        ensures opening { S.opening stage.new ≡ S.opening stage.old }
     {
         self.apply_at(0, stage)
     }
@@ -150,6 +154,7 @@ impl Queue {
         ensures whole { IfOk result (λ spawned. play (act S.note) (requests self.now.commands) (S.seen stage.old) ≡ whole (reached (S.seen stage.new) spawned.items)) }
         ensures passed { OnErr result (IsPassed (act S.note) (requests self.now.commands) (S.seen stage.old) (S.seen stage.new)) }
         ensures refused { IfErr result (λ r. r ≢ refusal_of NoMemory → Stops (act S.note) queue (requests self.now.commands) (S.seen stage.old) (S.seen stage.new) r) }
+        ensures opening { S.opening stage.new ≡ S.opening stage.old }
     {
         apply_commands(self.alloc, queue, self.commands.as_slice(), stage)
     }

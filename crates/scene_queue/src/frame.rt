@@ -18,7 +18,7 @@ use std::alloc::Global;
 ///
 /// Refused: the first command's `BadLocal`, where a target isn't spawned yet, or else its own refusal, with the phase
 /// 0, its queue's place and its own in that queue; `NoMemory` without a place. After a refusal the stage is as the
-/// commands before left it.
+/// commands before left it. The world to which it can be taken back, if it keeps a way back, stays.
 pub fn apply_all<S: Stage>(
     alloc: Global,
     queues: &[Queue],
@@ -30,6 +30,7 @@ pub fn apply_all<S: Stage>(
     ensures passed { OnErr result (ArePassed (act S.note) (frame_of queues.now) (S.seen stage.old) (S.seen stage.new)) }
     ensures world { IfOk result (λ spawned. queues_from perform 0 (frame_of queues.now) (S.seen stage.old).world ≡ Ok (spawned.items, (S.seen stage.new).world)) }
     ensures world_refused { IfErr result (λ r. r ≢ refusal_of NoMemory → queues_from perform 0 (frame_of queues.now) (S.seen stage.old).world ≡ Err r) }
+    ensures opening { S.opening stage.new ≡ S.opening stage.old }
 {
     let mut spawned = Vec::new(alloc);
     let mut at: u32 = 0;

@@ -17,6 +17,10 @@ seen_world e = ap (λ (h : Housed). h.world) e
 pub seen_room : {a b : Housed} → a ≡ b → a.room ≡ b.room
 seen_room e = ap (λ (h : Housed). h.room) e
 
+-- a fact of what contracts see, of the inside
+pub inside : {a b : Housed} → a ≡ b → (P : World → Type 0) → P b.world → P a.world
+inside e P h = subst P (sym (seen_world e)) h
+
 -- what is held after a change, as the inside has it
 pub held_inside : {a b : Housed} → a ≡ b → (f : World → World) → Holds b.room (f b.world) → Holds a.room (f a.world)
 held_inside e f h = subst (λ (x : Housed). Holds x.room (f x.world)) (sym e) h
@@ -49,9 +53,3 @@ pub wide_tables : (slots : StoredSlots) (old new : ArchetypesState) (links : Lin
     → IsWider room (room_of slots new links resources)
 wide_tables slots old new links resources room e rows homes = subst (λ r. IsWider r (room_of slots new links resources)) e
     (record { slots = omega arith; rows = rows; homes = homes; links = links_self links.room; names = record { each = λ name kept. kept } })
-
--- that of the slots and the tables
-pub wide_slots : (before after : StoredSlots) (old new : ArchetypesState) (links : LinksState) (resources : StoredResources) (room : Room) → room_of before old links resources ≡ room → before.capacity ≤ after.capacity
-    → IsWiderForRows old.rooms new.rooms → old.homes ≤ new.homes → IsWider room (room_of after new links resources)
-wide_slots before after old new links resources room e slots rows homes = subst (λ r. IsWider r (room_of after new links resources)) e
-    (record { slots = slots; rows = rows; homes = homes; links = links_self links.room; names = record { each = λ name kept. kept } })

@@ -40,3 +40,11 @@ pub record IsWider (old new : Room) : Type 0 where
   pub homes : old.homes ≤ new.homes
   pub links : IsWiderForLinks old.lists new.lists
   pub names : IsWiderForNames old.names new.names
+
+-- ---- the parts of what contracts see, as those of the parts see them
+
+abbrev pub stored_slots : Housed → StoredSlots
+stored_slots h = record { state = h.world.slots; capacity = h.room.slots }
+
+abbrev pub stored_rows : Housed → ArchetypesState
+stored_rows h = record { tables = h.world.tables; rooms = h.room.rows; homes = h.room.homes }

@@ -1,5 +1,6 @@
 //! What commands can be applied to: a world, or whatever keeps notes of what is done to one.
-ghost use Rattle.std.specs.Prelude.{◌≡◌, List, []};
+ghost use Rattle.std.specs.Prelude.{◌≡◌, List, [], Option, None};
+ghost use Rattle.scene_model.specs.World.{World as Whole};
 ghost use Rattle.scene_model.specs.Commands.{spawn, despawn, despawn_recursive, insert, remove, set_parent, remove_parent, put_resource, remove_resource};
 ghost use Rattle.scene_model.specs.Perform.{Spawn, Despawn, DespawnRecursive, Insert, Remove, SetParent, RemoveParent, PutResource, RemoveResource};
 ghost use Rattle.scene_world.specs.Stage.{Staged, Note as NoteOf, AnswersNoted};
@@ -12,6 +13,7 @@ use std::convert::Infallible;
 ///
 /// Each command answers what it answers on the world itself, refusals included, and want of memory. An accepted one
 /// appends the notes that the world before it and the command fix; after a refusal world and notes are as they were.
+/// The world to which the stage can be taken back, if it keeps a way back, is the same after every command.
 pub trait Stage {
     /// What is noted of a command. A `World` notes nothing.
     type Note;
@@ -22,45 +24,57 @@ pub trait Stage {
     // What it notes of a command that is accepted on a world.
     ghost note: { NoteOf Self.Note };
 
+    // The world to which it can be taken back. A `World` keeps no way back.
+    ghost opening: { Self → Option Whole };
+
     /// The world as it is now.
     fn world(&self) -> &World
         ensures { result.now.world ≡ (seen self.now).world };
 
     /// Spawns an entity with these components, as `World::spawn` does.
     fn spawn(&mut self, cells: Vec<(u8, Value)>) -> Result<Entity, Refusal>
-        ensures { AnswersNoted result (seen self.old) (seen self.new) note (Spawn cells.items) (λ w. spawn w cells.items) };
+        ensures answer { AnswersNoted result (seen self.old) (seen self.new) note (Spawn cells.items) (λ w. spawn w cells.items) }
+        ensures opening { opening self.new ≡ opening self.old };
 
     /// Despawns an entity without children, as `World::despawn` does.
     fn despawn(&mut self, entity: Entity) -> Result<(), Refusal>
-        ensures { AnswersNoted result (seen self.old) (seen self.new) note (Despawn entity) (λ w. despawn w entity) };
+        ensures answer { AnswersNoted result (seen self.old) (seen self.new) note (Despawn entity) (λ w. despawn w entity) }
+        ensures opening { opening self.new ≡ opening self.old };
 
     /// Despawns an entity and all below it, as `World::despawn_recursive` does.
     fn despawn_recursive(&mut self, entity: Entity) -> Result<(), Refusal>
-        ensures { AnswersNoted result (seen self.old) (seen self.new) note (DespawnRecursive entity) (λ w. despawn_recursive w entity) };
+        ensures answer { AnswersNoted result (seen self.old) (seen self.new) note (DespawnRecursive entity) (λ w. despawn_recursive w entity) }
+        ensures opening { opening self.new ≡ opening self.old };
 
     /// Gives an entity a component, or writes the one that is there, as `World::insert` does.
     fn insert(&mut self, entity: Entity, kind: u8, value: Value) -> Result<(), Refusal>
-        ensures { AnswersNoted result (seen self.old) (seen self.new) note (Insert entity kind value) (λ w. insert w entity kind value) };
+        ensures answer { AnswersNoted result (seen self.old) (seen self.new) note (Insert entity kind value) (λ w. insert w entity kind value) }
+        ensures opening { opening self.new ≡ opening self.old };
 
     /// Takes a component from an entity, as `World::remove` does.
     fn remove(&mut self, entity: Entity, kind: u8) -> Result<(), Refusal>
-        ensures { AnswersNoted result (seen self.old) (seen self.new) note (Remove entity kind) (λ w. remove w entity kind) };
+        ensures answer { AnswersNoted result (seen self.old) (seen self.new) note (Remove entity kind) (λ w. remove w entity kind) }
+        ensures opening { opening self.new ≡ opening self.old };
 
     /// Makes an entity the last child of another, as `World::set_parent` does.
     fn set_parent(&mut self, child: Entity, parent: Entity) -> Result<(), Refusal>
-        ensures { AnswersNoted result (seen self.old) (seen self.new) note (SetParent child parent) (λ w. set_parent w child parent) };
+        ensures answer { AnswersNoted result (seen self.old) (seen self.new) note (SetParent child parent) (λ w. set_parent w child parent) }
+        ensures opening { opening self.new ≡ opening self.old };
 
     /// Takes an entity from its parent, as `World::remove_parent` does.
     fn remove_parent(&mut self, child: Entity) -> Result<(), Refusal>
-        ensures { AnswersNoted result (seen self.old) (seen self.new) note (RemoveParent child) (λ w. remove_parent w child) };
+        ensures answer { AnswersNoted result (seen self.old) (seen self.new) note (RemoveParent child) (λ w. remove_parent w child) }
+        ensures opening { opening self.new ≡ opening self.old };
 
     /// Puts a value at a name, as `World::put_resource` does.
     fn put_resource(&mut self, name: &str, value: Value) -> Result<(), Refusal>
-        ensures { AnswersNoted result (seen self.old) (seen self.new) note (PutResource name.now value) (λ w. put_resource w name.now value) };
+        ensures answer { AnswersNoted result (seen self.old) (seen self.new) note (PutResource name.now value) (λ w. put_resource w name.now value) }
+        ensures opening { opening self.new ≡ opening self.old };
 
     /// Takes the value of a name away, as `World::remove_resource` does.
     fn remove_resource(&mut self, name: &str) -> Result<(), Refusal>
-        ensures { AnswersNoted result (seen self.old) (seen self.new) note (RemoveResource name.now) (λ w. remove_resource w name.now) };
+        ensures answer { AnswersNoted result (seen self.old) (seen self.new) note (RemoveResource name.now) (λ w. remove_resource w name.now) }
+        ensures opening { opening self.new ≡ opening self.old };
 }
 
 /// A world is a stage that notes nothing.
@@ -70,6 +84,8 @@ impl Stage for World {
     ghost seen = { λ w. record { world = w.world; notes = [] } };
 
     ghost note = { λ _ _. [] };
+
+    ghost opening = { λ _. None };
 
     fn world(&self) -> &World {
         self

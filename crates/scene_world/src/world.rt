@@ -18,6 +18,7 @@ mod put_row;
 mod remove;
 mod remove_parent;
 mod remove_resource;
+mod reserve;
 mod set_cell;
 mod set_link;
 mod set_parent;

@@ -1,13 +1,14 @@
 //! A row that leaves, with its slot and its link, and comes back to its place.
-ghost use Rattle.std.specs.Prelude.{◌≡◌, [], true};
+ghost use Rattle.std.specs.Prelude.{◌≡◌, [], true, OnOk, OnErr, IsOk};
 ghost use Rattle.scene_links.specs.Forest.{children_of};
 ghost use Rattle.scene_model.specs.World.{is_live};
 ghost use Rattle.scene_model.specs.Raw.{cut_row, uncut_row};
 ghost use Rattle.scene_model.specs.Can.{CanUncut};
-ghost use Rattle.scene_world.specs.Room.{Holds};
+ghost use Rattle.scene_world.specs.Room.{Holds, IsWider};
 
 use crate::world::World;
 use scene_kinds::{Cells, Entity, Row};
+use std::alloc::AllocError;
 
 impl World {
     /// Takes a live entity without children out of the world, as a despawn does (docs/MODEL.md, "Raw changes"). It takes
@@ -47,5 +48,28 @@ impl World {
             Some((parent, at)) => self.links.relink_reserved(entity, parent, at),
             None => {}
         }
+    }
+
+    /// Makes its room, and then does what `uncut_row_reserved` does (docs/MODEL.md, "Raw changes").
+    ///
+    /// It fails only where that room isn't there and no memory was found: then the world is as it was, and the cells are
+    /// dropped.
+    pub fn uncut_row(
+        &mut self,
+        entity: Entity,
+        place: usize,
+        cells: Cells,
+        link: Option<(Entity, usize)>,
+        retired: bool,
+    ) -> Result<(), AllocError>
+        requires { CanUncut self.old.world entity place cells link retired }
+        ensures done { OnOk result (self.new.world ≡ uncut_row self.old.world entity place cells link retired) }
+        ensures full { OnErr result (self.new.world ≡ self.old.world) }
+        ensures there { Holds self.old.room (uncut_row self.old.world entity place cells link retired) → IsOk result }
+        ensures wide { IsWider self.old.room self.new.room }
+    {
+        self.reserve_uncut_row(entity, place, &cells, link, retired)?;
+        self.uncut_row_reserved(entity, place, cells, link, retired);
+        Ok(())
     }
 }

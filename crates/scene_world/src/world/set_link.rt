@@ -1,12 +1,13 @@
 //! Setting the link of an entity.
-ghost use Rattle.std.specs.Prelude.{◌≡◌};
+ghost use Rattle.std.specs.Prelude.{◌≡◌, OnOk, OnErr, IsOk};
 ghost use Rattle.scene_links.specs.Forest.{link_in};
 ghost use Rattle.scene_model.specs.Raw.{set_link};
 ghost use Rattle.scene_model.specs.Can.{CanSetLink};
-ghost use Rattle.scene_world.specs.Room.{Holds};
+ghost use Rattle.scene_world.specs.Room.{Holds, IsWider};
 
 use crate::world::World;
 use scene_kinds::Entity;
+use std::alloc::AllocError;
 
 impl World {
     /// Takes a live entity out of its parent's list, if it stands in one, and puts it at a place of another's, or leaves
@@ -23,5 +24,24 @@ impl World {
             Some((parent, place)) => self.links.relink_reserved(entity, parent, place),
             None => {}
         }
+    }
+
+    /// Makes its room, and then does what `set_link_reserved` does (docs/MODEL.md, "Raw changes").
+    ///
+    /// It fails only where that room isn't there and no memory was found: then the world is as it was.
+    pub fn set_link(
+        &mut self,
+        entity: Entity,
+        link: Option<(Entity, usize)>,
+    ) -> Result<(), AllocError>
+        requires { CanSetLink self.old.world entity (link_in self.old.world.children entity) link }
+        ensures done { OnOk result (self.new.world ≡ set_link self.old.world entity link) }
+        ensures full { OnErr result (self.new.world ≡ self.old.world) }
+        ensures there { Holds self.old.room (set_link self.old.world entity link) → IsOk result }
+        ensures wide { IsWider self.old.room self.new.room }
+    {
+        self.reserve_set_link(entity, link)?;
+        self.set_link_reserved(entity, link);
+        Ok(())
     }
 }

@@ -1,12 +1,13 @@
 //! Setting a resource.
-ghost use Rattle.std.specs.Prelude.{◌≡◌};
+ghost use Rattle.std.specs.Prelude.{◌≡◌, IfOk, OnOk, OnErr, IsOk};
 ghost use Rattle.scene_resources.specs.Resources.{cell_of};
 ghost use Rattle.scene_model.specs.Raw.{set_resource};
 ghost use Rattle.scene_model.specs.Can.{CanSetResource};
-ghost use Rattle.scene_world.specs.Room.{Holds};
+ghost use Rattle.scene_world.specs.Room.{Holds, IsWider};
 
 use crate::world::World;
 use scene_kinds::Cell;
+use std::alloc::AllocError;
 
 impl World {
     /// Gives a name this cell, with its ticks, or none, and gives the one that it had (docs/MODEL.md, "Raw changes"). It
@@ -19,5 +20,25 @@ impl World {
         ensures room { self.new.room ≡ self.old.room }
     {
         self.resources.restore_reserved(name, cell)
+    }
+
+    /// Makes its room, and then does what `set_resource_reserved` does (docs/MODEL.md, "Raw changes"); no cell takes none.
+    ///
+    /// It fails only where that room isn't there and no memory was found: then the world is as it was, and the cell is
+    /// dropped.
+    pub fn set_resource(
+        &mut self,
+        name: &str,
+        cell: Option<Cell>,
+    ) -> Result<Option<Cell>, AllocError>
+        requires { CanSetResource self.old.world name.now (cell_of self.old.world.resources name.now) cell }
+        ensures old { IfOk result (λ old. old ≡ cell_of self.old.world.resources name.now) }
+        ensures done { OnOk result (self.new.world ≡ set_resource self.old.world name.now cell) }
+        ensures full { OnErr result (self.new.world ≡ self.old.world) }
+        ensures there { Holds self.old.room (set_resource self.old.world name.now cell) → IsOk result }
+        ensures wide { IsWider self.old.room self.new.room }
+    {
+        self.reserve_set_resource(name, &cell)?;
+        Ok(self.set_resource_reserved(name, cell))
     }
 }

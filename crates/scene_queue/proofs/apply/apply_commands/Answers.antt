@@ -6,20 +6,23 @@ use Rattle.scene_queue.proofs.Folds.{goes_on, passed_over, stops_there}
 use Rattle.scene_queue.proofs.apply.apply_commands.Goals as goal
 
 pub returns-then-is_err-clause-passed : goal.returns-then-is_err-clause-passed
-returns-then-is_err-clause-passed g c = passed_over (act g.S.Stage.note) request_of _ c.loop-command.command-index _ _ _ _ refl c.loop-command.invariant.1
+returns-then-is_err-clause-passed g c = passed_over (act g.S.Stage.note) request_of _ c.loop-command.command-index _ _ _ _ refl c.loop-command.invariant.1.0
 
 pub returns-in-Err-clause-passed : goal.returns-in-Err-clause-passed
-returns-in-Err-clause-passed g c = passed_over (act g.S.Stage.note) request_of _ c.loop-command.command-index _ _ _ _ (c.in-Err.ensures.0) c.loop-command.invariant.1
+returns-in-Err-clause-passed g c = passed_over (act g.S.Stage.note) request_of _ c.loop-command.command-index _ _ _ _ (c.in-Err.ensures.answer.0) c.loop-command.invariant.1.0
 
 pub returns-in-Err-clause-refused : goal.returns-in-Err-clause-refused
 returns-in-Err-clause-refused g c =
     stops_there (act g.S.Stage.note) request_of c.args.queue _ c.loop-command.command-index _ c.command-item.result _ _ _ _ _ _ _ c.loop-command-test.true
-    c.loop-command.invariant.0 c.command-item.is (c.as_slice.ensures.value ∙ c.reserve.ensures.items) c.in-Err.ensures.0 c.loop-command.invariant.1
-    c.in-Err.ensures.1 c.placed.ensures
+    c.loop-command.invariant.0 c.command-item.is (c.as_slice.ensures.value ∙ c.reserve.ensures.items) c.in-Err.ensures.answer.0 c.loop-command.invariant.1.0
+    c.in-Err.ensures.answer.1 c.placed.ensures
 
 pub loop-command-preserved : goal.loop-command-preserved
 loop-command-preserved g c = (
   ap (λ k. k + 1) c.loop-command.invariant.0,
-  goes_on (act g.S.Stage.note) request_of _ c.loop-command.command-index c.command-item.result _ _ _ _ _ _ _ c.loop-command-test.true
-      c.command-item.is (c.as_slice.ensures.value ∙ c.reserve.ensures.items) c.loop-command.invariant.1 c.in-Ok.ensures (c.note_spawned.ensures ∙ ap (λ es. and_spawned es c.in-Ok.made) c.reserve.ensures.items),
+  (
+    goes_on (act g.S.Stage.note) request_of _ c.loop-command.command-index c.command-item.result _ _ _ _ _ _ _ c.loop-command-test.true
+        c.command-item.is (c.as_slice.ensures.value ∙ c.reserve.ensures.items) c.loop-command.invariant.1.0 c.in-Ok.ensures.answer (c.note_spawned.ensures ∙ ap (λ es. and_spawned es c.in-Ok.made) c.reserve.ensures.items),
+    c.in-Ok.ensures.opening ∙ c.loop-command.invariant.1.1,
+  ),
 )

@@ -9,4 +9,5 @@ abbrev pub invariant-loop-command : goal.invariant-loop-command
 invariant-loop-command g l =
     let s = g.S.Stage in
     (l.at ≡ l.command-index)
-    × (play (act s.note) (requests (take l.command-index l.commands)) (s.seen l.fn.stage) ≡ whole (reached (s.seen l.stage) l.spawned.items))
+    × ((play (act s.note) (requests (take l.command-index l.commands)) (s.seen l.fn.stage) ≡ whole (reached (s.seen l.stage) l.spawned.items))
+    × (s.opening l.stage ≡ s.opening l.fn.stage))

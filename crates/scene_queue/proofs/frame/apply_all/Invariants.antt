@@ -9,4 +9,5 @@ abbrev pub invariant-loop-queue : goal.invariant-loop-queue
 invariant-loop-queue g l =
     let s = g.S.Stage in
     (l.at ≡ l.queue-index)
-    × (queues_from (act s.note) 0 (frame_of (take l.queue-index l.queues)) (s.seen l.fn.stage) ≡ Ok (l.spawned.items, s.seen l.stage))
+    × ((queues_from (act s.note) 0 (frame_of (take l.queue-index l.queues)) (s.seen l.fn.stage) ≡ Ok (l.spawned.items, s.seen l.stage))
+    × (s.opening l.stage ≡ s.opening l.fn.stage))
