@@ -12,6 +12,7 @@ ghost use Rattle.scene_world.specs.Room.{Holds, IsWider};
 mod cut_row;
 mod despawn;
 mod despawn_recursive;
+mod from_parts;
 mod insert;
 mod put_resource;
 mod put_row;
