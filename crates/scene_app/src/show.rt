@@ -1,7 +1,7 @@
 //! The printed text of a whole world.
 ghost use Rattle.std.specs.Prelude.{◌≡◌, ◌++◌, ◌<◌, OnOk, IfOk, Some, length, map, slice_get, string_bytes, option_map};
 ghost use Rattle.scene_kinds.specs.declared.cells.Row.{Row};
-ghost use Rattle.scene_model.specs.World.{kind_sets, row_of};
+ghost use Rattle.scene_model.specs.World.{kind_sets};
 ghost use Rattle.scene_table.specs.Tables.{rows_at};
 ghost use Rattle.scene_links.specs.Forest.{parents};
 ghost use Rattle.scene_resources.specs.Resources.{cell_of};
@@ -296,14 +296,4 @@ pub(crate) fn write_show(alloc: Global, out: &mut String, world: &World) -> Resu
     write_archetypes(alloc, out, world)?;
     write_forest(out, world.links())?;
     write_resources(alloc, out, world.resources())
-}
-
-/// The table and the place of an entity's row, or `None` where it isn't alive.
-pub(crate) fn row_of(world: &World, entity: Entity) -> Option<(&Table, usize)>
-    ensures { option_map (λ at. slice_get at.0.now.rows at.1) result ≡ option_map (λ p. Some p.1) (row_of world.now.world entity) }
-{
-    let mask = world.mask_of(entity)?;
-    let place = world.place_of(entity)?;
-    let table = world.rows_of(mask)?;
-    Some((table, place as usize))
 }

@@ -1,5 +1,5 @@
 -- Lists of deltas that are taken back from the last, and the cells of a last row.
-use Rattle.std.proofs.Common.{◌≡◌, ℕ, List, [], ◌∷◌, ◌++◌, refl, ap, subst}
+use Rattle.std.proofs.Common.{◌≡◌, ℕ, List, [], ◌∷◌, ◌++◌, refl, ap, sym, subst}
 use Rattle.scene_kinds.specs.declared.entity.Entity.{Entity}
 use Rattle.scene_kinds.specs.declared.cell.Cell.{Cell}
 use Rattle.scene_table.specs.Tables.{row_for}
@@ -15,10 +15,17 @@ use Rattle.scene_journal.specs.Deltas.{back}
 use Rattle.scene_journal.specs.Records.{back_all}
 use Rattle.scene_journal.specs.Ready.{IsReady, AreReady}
 
--- the last delta goes first
+-- later deltas go first
+pub back_appended : (ds es : List Delta) (w : World) → back_all (ds ++ es) w ≡ back_all ds (back_all es w)
+back_appended [] es w = refl
+back_appended (d ∷ ds) es w = ap (back d) (back_appended ds es w)
+
 pub back_pushed : (ds : List Delta) (d : Delta) (w : World) → back_all (ds ++ d ∷ []) w ≡ back_all ds (back d w)
-back_pushed [] d w = refl
-back_pushed (x ∷ ds) d w = ap (back x) (back_pushed ds d w)
+back_pushed ds d w = back_appended ds (d ∷ []) w
+
+pub ready_appended : (room : Room) (ds es : List Delta) (w : World) → AreReady room es w → AreReady room ds (back_all es w) → AreReady room (ds ++ es) w
+ready_appended room [] es w last first = last
+ready_appended room (d ∷ ds) es w last first = (ready_appended room ds es w last first.0, subst (IsReady room d) (sym (back_appended ds es w)) first.1)
 
 pub ready_pushed : (room : Room) (ds : List Delta) (d : Delta) (w : World) → AreReady room (ds ++ d ∷ []) w → IsReady room d w × AreReady room ds (back d w)
 ready_pushed room [] d w h = (h.1, tt)

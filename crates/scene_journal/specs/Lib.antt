@@ -6,5 +6,6 @@ pub mod Frames
 pub mod Laws
 pub mod Notes
 pub mod Ready
+pub mod Recorder
 pub mod Records
 pub mod Standing

@@ -1,5 +1,5 @@
 -- The deltas that a command makes, where it is accepted, each field as it stands at that point.
-use Rattle.std.specs.Prelude.{ℕ, List, [], ◌∷◌, ◌++◌, true, false, Option, Some, None, if◌then◌else◌}
+use Rattle.std.specs.Prelude.{◌≡◌, ℕ, List, [], ◌∷◌, ◌++◌, true, false, Option, Some, None, if◌then◌else◌}
 use Rattle.scene_kinds.specs.declared.entity.Entity.{Entity}
 use Rattle.scene_kinds.specs.declared.cell.Cell.{Cell}
 use Rattle.scene_kinds.specs.declared.cells.Row.{Row}
@@ -14,9 +14,15 @@ use Rattle.scene_model.specs.Commands.{new_cells}
 use Rattle.scene_model.specs.CommandRaw.{last_link}
 use Rattle.scene_model.specs.Perform.{Spawn, Despawn, DespawnRecursive, DespawnRecursiveIfAlive, Insert, Remove, SetParent, RemoveParent, PutResource, RemoveResource}
 use Rattle.scene_model.specs.Raw.{taken_entity, cut_row}
+use Rattle.scene_model.specs.RawLists.{CutNote, CanCutNoted, MayAll, after_all}
 use Rattle.scene_world.specs.Stage.{Note}
 use Rattle.scene_journal.specs.declared.delta.Delta.{Delta}
 use Rattle.scene_journal.specs.declared.delta.Delta.TheVariants.{Spawned, Despawned, Shifted, CellSet, Linked, ResourceSet}
+
+-- a delta, where there is one, as a list
+abbrev pub listed_delta : Option Delta → List Delta
+listed_delta None = []
+listed_delta (Some d) = d ∷ []
 
 -- what is noted of an entity's row, by its place and its cells: nothing where the entity has none
 abbrev pub of_row : Option (Home × Row) → (ℕ → List (ℕ × Cell) → List Delta) → List Delta
@@ -40,6 +46,13 @@ despawned w e = of_row (row_of w e) (λ place cells. Despawned e place cells (li
 abbrev pub despawned_each : List Entity → World → List Delta
 despawned_each [] w = []
 despawned_each (e ∷ es) w = despawned w e ++ despawned_each es (cut_row w e)
+
+-- rows that are cut one after another: the world after them, and that each may be cut at its turn
+abbrev pub cut_each : List Entity → World → World
+cut_each es w = after_all (λ e u. cut_row u e) es w
+
+abbrev pub CanCutEach : List Entity → World → Type 0
+CanCutEach es w = MayAll (λ e u. (n : CutNote) × ((n.entity ≡ e) × CanCutNoted n u)) (λ e u. cut_row u e) es w
 
 -- an insert: the row shifts where it hasn't the kind, else its cell is set
 abbrev pub inserted : ℕ → Entity → ℕ → Value → ℕ → Option Cell → Delta

@@ -187,7 +187,7 @@ pub(crate) fn has_link(links: &Links, entity: Entity, link: Option<(Entity, u32)
 }
 
 /// How many children a parent has beside this one.
-fn count_without(links: &Links, parent: Entity, child: Entity) -> usize
+pub(crate) fn count_without(links: &Links, parent: Entity, child: Entity) -> usize
     ensures { result ≡ length (children_of (cut links.now.forest child) parent) }
 {
     let count = links.children_of(parent).len();

@@ -9,17 +9,23 @@
 //! `World` that has room for it.
 #![tactic(auto)]
 
+mod cuts;
 mod delta;
 mod examples;
 mod fits;
 mod fits_back;
 mod laws;
+mod notes;
 mod record;
+mod recorder;
 mod same;
+mod sound;
+mod spawned;
 mod steps;
 
 pub use delta::Delta;
 pub use examples::worked_records_hold;
 pub use laws::{commands_are_deltas, deltas_come_back, frames_are_records, records_come_back};
 pub use record::FrameRecord;
+pub use recorder::Recorder;
 pub use steps::{make_again, take_all_back, take_back};

@@ -1,3 +1,4 @@
+pub mod Homes
 pub mod Moves
 pub mod Onto
 pub mod Room

@@ -1,0 +1,18 @@
+-- A recorder: a world, and the record of what was done to it.
+use Rattle.scene_model.specs.World.{World}
+use Rattle.scene_world.specs.Stage.{Staged}
+use Rattle.scene_journal.specs.declared.delta.Delta.{Delta}
+use Rattle.scene_journal.specs.Records.{Record, back_all}
+
+-- the world as it is now, and the record of its frame so far
+pub record Recording : Type 0 where
+  pub world : World
+  pub frame : Record
+
+-- as a stage it is the world with the deltas
+abbrev pub staged_of : Recording → Staged Delta
+staged_of r = record { world = r.world; notes = r.frame.deltas }
+
+-- the world to which it can be taken back: the one before the deltas
+abbrev pub opening_of : Recording → World
+opening_of r = back_all r.frame.deltas r.world

@@ -1,0 +1,47 @@
+//! A spawn with its delta.
+ghost use Rattle.std.specs.Prelude.{◌≡◌, ◌≢◌, ◌∷◌, [], Ok, Err, IfOk, IfErr, OnErr};
+ghost use Rattle.scene_kinds.specs.Answers.{refusal_of};
+ghost use Rattle.scene_kinds.specs.declared.fault.Fault.TheVariants.{NoMemory};
+ghost use Rattle.scene_model.specs.Commands.{spawn};
+ghost use Rattle.scene_model.specs.Perform.{Spawn};
+ghost use Rattle.scene_world.specs.Room.{IsWider};
+ghost use Rattle.scene_journal.specs.Notes.{deltas_of};
+
+use crate::delta::Delta;
+use crate::notes::cells_of;
+use crate::sound::is_sound;
+use scene_kinds::{Entity, Fault, Refusal, Value};
+use scene_world::World;
+use std::alloc::Global;
+
+/// Spawns an entity as `World::spawn` does, and gives it with its delta, which has a copy of the row's cells. Where no
+/// memory is found for the copy, the entity is taken back.
+pub(crate) fn spawn(
+    alloc: Global,
+    world: &mut World,
+    cells: Vec<(u8, Value)>,
+) -> Result<(Entity, Delta), Refusal>
+    ensures made { IfOk result (λ p. spawn world.old.world cells.items ≡ Ok (p.0, world.new.world)) }
+    ensures noted { IfOk result (λ p. p.1 ∷ [] ≡ deltas_of world.old.world (Spawn cells.items)) }
+    ensures refused { IfErr result (λ r. r ≢ refusal_of NoMemory → spawn world.old.world cells.items ≡ Err r) }
+    ensures back { OnErr result (world.new.world ≡ world.old.world) }
+    ensures wide { IsWider world.old.room world.new.room }
+{
+    is_sound(world);
+    let fresh = world.slots().takes_new_slot();
+    let entity = world.spawn(cells)?;
+    match cells_of(alloc, world, entity) {
+        Ok(cells) => Ok((
+            entity,
+            Delta::Spawned {
+                entity,
+                cells,
+                fresh,
+            },
+        )),
+        Err(_) => {
+            world.drop_last(entity, fresh);
+            Err(Refusal::from(Fault::NoMemory))
+        }
+    }
+}
