@@ -96,7 +96,8 @@ fn write_row_cells(
     at: usize,
 ) -> Result<(), AllocError>
     requires { at < length table.now.rows }
-    ensures { OnOk result ((row : Row) → slice_get table.now.rows at ≡ Some row → string_bytes out.new ≡ string_bytes out.old ++ cells_text schema.now row.cells) }
+    ensures { OnOk result ((row : Row) → slice_get table.now.rows at ≡ Some row
+        → string_bytes out.new ≡ string_bytes out.old ++ cells_text schema.now row.cells) }
 {
     'cells: for number in 0..table.cell_count(at) {
         let (kind, cell) = table.nth_cell(at, number);
@@ -114,7 +115,8 @@ pub(crate) fn write_row(
     at: usize,
 ) -> Result<(), AllocError>
     requires { at < length table.now.rows }
-    ensures { OnOk result ((row : Row) → slice_get table.now.rows at ≡ Some row → string_bytes out.new ≡ string_bytes out.old ++ row_text schema.now row) }
+    ensures { OnOk result ((row : Row) → slice_get table.now.rows at ≡ Some row
+        → string_bytes out.new ≡ string_bytes out.old ++ row_text schema.now row) }
 {
     write_row_head(out, table.entity_at(at))?;
     write_row_cells(alloc, out, schema, table, at)
@@ -153,7 +155,8 @@ fn write_rows_of(
 
 /// Adds a table: the names of its kind set, and its rows.
 fn write_table(alloc: Global, out: &mut String, world: &World, mask: u64) -> Result<(), AllocError>
-    ensures { OnOk result (string_bytes out.new ≡ string_bytes out.old ++ table_text world.now.world.schema mask (rows_at world.now.world.tables mask)) }
+    ensures { OnOk result (string_bytes out.new ≡ string_bytes out.old ++ table_text world.now.world.schema mask
+        (rows_at world.now.world.tables mask)) }
 {
     let names = names_of(alloc, world.schema(), mask)?;
     out.push_str("table ")?;
