@@ -4,3 +4,4 @@ pub mod Onto
 pub mod Room
 pub mod Stage
 pub mod Stored
+pub mod Built

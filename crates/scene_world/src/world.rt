@@ -14,6 +14,7 @@ ghost use Rattle.std.specs.Option.{option_flatten};
 mod cut_row;
 mod despawn;
 mod despawn_recursive;
+mod from_parts;
 mod insert;
 mod put_resource;
 mod put_row;
