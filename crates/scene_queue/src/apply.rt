@@ -10,9 +10,8 @@ ghost use Rattle.scene_world.specs.Stage.{act};
 ghost use Rattle.scene_queue.specs.Requests.{on_both, request_of, requests};
 ghost use Rattle.scene_queue.specs.Queue.{IsPassed, Stops};
 
-use crate::command::Command;
 use crate::queue::Queue;
-use crate::target::Target;
+use scene_commands::{Command, Target};
 use scene_kinds::{Entity, Fault, Place, Refusal};
 use scene_world::Stage;
 use std::alloc::Global;
@@ -24,7 +23,8 @@ fn link<S: Stage>(
     spawned: &[Entity],
     stage: &mut S,
 ) -> Result<Option<Entity>, Refusal>
-    ensures answer { Answers result (S.seen stage.old) (S.seen stage.new) (request (act S.note) (on_both child parent SetParent) (reached (S.seen stage.old) spawned.now)) }
+    ensures answer { Answers result (S.seen stage.old) (S.seen stage.new)
+        (request (act S.note) (on_both child parent SetParent) (reached (S.seen stage.old) spawned.now)) }
     ensures opening { S.opening stage.new ≡ S.opening stage.old }
     ensures wide { IsWider (S.room stage.old) (S.room stage.new) }
 {
@@ -41,7 +41,8 @@ fn do_command<S: Stage>(
     spawned: &[Entity],
     stage: &mut S,
 ) -> Result<Option<Entity>, Refusal>
-    ensures answer { Answers result (S.seen stage.old) (S.seen stage.new) (request (act S.note) (request_of command.now) (reached (S.seen stage.old) spawned.now)) }
+    ensures answer { Answers result (S.seen stage.old) (S.seen stage.new)
+        (request (act S.note) (request_of command.now) (reached (S.seen stage.old) spawned.now)) }
     ensures opening { S.opening stage.new ≡ S.opening stage.old }
     ensures wide { IsWider (S.room stage.old) (S.room stage.new) }
 {
@@ -109,9 +110,11 @@ fn apply_commands<S: Stage>(
     stage: &mut S,
 ) -> Result<Vec<Entity>, Refusal>
     requires { length commands.now < 2 ^ 32 }
-    ensures whole { IfOk result (λ spawned. play (act S.note) (requests commands.now) (S.seen stage.old) ≡ whole (reached (S.seen stage.new) spawned.items)) }
+    ensures whole { IfOk result (λ spawned. play (act S.note) (requests commands.now) (S.seen stage.old)
+        ≡ whole (reached (S.seen stage.new) spawned.items)) }
     ensures passed { OnErr result (IsPassed (act S.note) (requests commands.now) (S.seen stage.old) (S.seen stage.new)) }
-    ensures refused { IfErr result (λ r. r ≢ refusal_of NoMemory → Stops (act S.note) queue (requests commands.now) (S.seen stage.old) (S.seen stage.new) r) }
+    ensures refused { IfErr result (λ r. r ≢ refusal_of NoMemory
+        → Stops (act S.note) queue (requests commands.now) (S.seen stage.old) (S.seen stage.new) r) }
     ensures opening { S.opening stage.new ≡ S.opening stage.old }
     ensures wide { IsWider (S.room stage.old) (S.room stage.new) }
 {
@@ -140,11 +143,15 @@ impl Queue {
     /// the commands before left it. The world to which it can be taken back, if it keeps a way back, stays,
     /// and no room is lost.
     pub fn apply<S: Stage>(&self, stage: &mut S) -> Result<Vec<Entity>, Refusal>
-        ensures whole { IfOk result (λ spawned. play (act S.note) (requests self.now.commands) (S.seen stage.old) ≡ whole (reached (S.seen stage.new) spawned.items)) }
+        ensures whole { IfOk result (λ spawned. play (act S.note) (requests self.now.commands) (S.seen stage.old)
+            ≡ whole (reached (S.seen stage.new) spawned.items)) }
         ensures passed { OnErr result (IsPassed (act S.note) (requests self.now.commands) (S.seen stage.old) (S.seen stage.new)) }
-        ensures refused { IfErr result (λ r. r ≢ refusal_of NoMemory → Stops (act S.note) 0 (requests self.now.commands) (S.seen stage.old) (S.seen stage.new) r) }
-        ensures world { IfOk result (λ spawned. one_queue perform 0 (requests self.now.commands) (S.seen stage.old).world ≡ Ok (spawned.items, (S.seen stage.new).world)) }
-        ensures world_refused { IfErr result (λ r. r ≢ refusal_of NoMemory → one_queue perform 0 (requests self.now.commands) (S.seen stage.old).world ≡ Err r) }
+        ensures refused { IfErr result (λ r. r ≢ refusal_of NoMemory
+            → Stops (act S.note) 0 (requests self.now.commands) (S.seen stage.old) (S.seen stage.new) r) }
+        ensures world { IfOk result (λ spawned. one_queue perform 0 (requests self.now.commands) (S.seen stage.old).world
+            ≡ Ok (spawned.items, (S.seen stage.new).world)) }
+        ensures world_refused { IfErr result (λ r. r ≢ refusal_of NoMemory
+            → one_queue perform 0 (requests self.now.commands) (S.seen stage.old).world ≡ Err r) }
         ensures opening { S.opening stage.new ≡ S.opening stage.old }
         ensures wide { IsWider (S.room stage.old) (S.room stage.new) }
     {
@@ -157,9 +164,11 @@ impl Queue {
         queue: u32,
         stage: &mut S,
     ) -> Result<Vec<Entity>, Refusal>
-        ensures whole { IfOk result (λ spawned. play (act S.note) (requests self.now.commands) (S.seen stage.old) ≡ whole (reached (S.seen stage.new) spawned.items)) }
+        ensures whole { IfOk result (λ spawned. play (act S.note) (requests self.now.commands) (S.seen stage.old)
+            ≡ whole (reached (S.seen stage.new) spawned.items)) }
         ensures passed { OnErr result (IsPassed (act S.note) (requests self.now.commands) (S.seen stage.old) (S.seen stage.new)) }
-        ensures refused { IfErr result (λ r. r ≢ refusal_of NoMemory → Stops (act S.note) queue (requests self.now.commands) (S.seen stage.old) (S.seen stage.new) r) }
+        ensures refused { IfErr result (λ r. r ≢ refusal_of NoMemory
+            → Stops (act S.note) queue (requests self.now.commands) (S.seen stage.old) (S.seen stage.new) r) }
         ensures opening { S.opening stage.new ≡ S.opening stage.old }
         ensures wide { IsWider (S.room stage.old) (S.room stage.new) }
     {
