@@ -10,3 +10,4 @@ pub mod Ready
 pub mod Recorder
 pub mod Records
 pub mod Standing
+pub mod Timely

@@ -11,7 +11,9 @@
 
 mod cuts;
 mod delta;
+mod drafts;
 mod examples;
+mod faults;
 mod fits;
 mod fits_back;
 mod laws;
@@ -23,9 +25,11 @@ mod same;
 mod sound;
 mod spawned;
 mod steps;
+mod timely;
 
 pub use delta::Delta;
 pub use examples::worked_records_hold;
+pub use faults::faults_are_faults;
 pub use laws::{commands_are_deltas, deltas_come_back, frames_are_records, records_come_back};
 pub use record::FrameRecord;
 pub use recorder::Recorder;
