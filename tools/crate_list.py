@@ -23,3 +23,9 @@ def with_all_below(names):
             wanted.add(name)
             left.extend(named[name])
     return wanted
+
+
+def lists_only(names):
+    """The text of a crates.txt that has only these crates."""
+    lines = (TOP / "crates.txt").read_text().splitlines()
+    return "".join(f"{line}\n" for line in lines if line.partition(":")[0].split(" ")[0] in names)

@@ -8,7 +8,7 @@ use Rattle.scene_app.specs.declared.play_state.PlayState.{PlayState}
 use Rattle.scene_script.specs.declared.script_line.Line.{Line}
 use Rattle.scene_script.specs.declared.script_line.Line.TheVariants.{Empty, Kind, Slots, Do, Begin, Queue, Commit}
 use Rattle.scene_kinds.specs.Answers.{Outcome}
-use Rattle.scene_queue.specs.declared.command.Command.{Command}
+use Rattle.scene_commands.specs.declared.command.Command.{Command}
 use Rattle.scene_queue.specs.Queue.{QueueState, push_of}
 use Rattle.scene_script.specs.declared.bad_line.BadLine.{BadLine}
 use Rattle.scene_app.specs.OpenFrame.{Opened, and_last, with_command, queue_count}

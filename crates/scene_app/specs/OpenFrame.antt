@@ -2,7 +2,7 @@
 use Rattle.std.specs.Prelude.{ℕ, ◌+◌, List, [], ◌∷◌, ◌++◌, Option, Some, None, Ok, Err, length}
 use Rattle.scene_kinds.specs.Answers.{Outcome}
 use Rattle.scene_model.specs.Queue.{Request}
-use Rattle.scene_queue.specs.declared.command.Command.{Command}
+use Rattle.scene_commands.specs.declared.command.Command.{Command}
 use Rattle.scene_queue.specs.Queue.{QueueState, usual_limit, empty_queue, push_of}
 use Rattle.scene_queue.specs.Requests.{requests}
 
@@ -15,6 +15,7 @@ pub record Opened : Type 0 where
 abbrev pub new_frame : Opened
 new_frame = record { complete = []; last = empty_queue usual_limit }
 
+-- what a call on the last queue makes of the frame; a refused one leaves it
 abbrev pub and_last : Opened → Outcome (Unit {0}) QueueState → Outcome (Unit {0}) Opened
 and_last f (Ok p) = Ok (p.0, record f { last = p.1 })
 and_last f (Err r) = Err r

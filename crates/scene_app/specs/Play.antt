@@ -45,6 +45,7 @@ with_machine s m = record s { machine = m }
 abbrev pub with_cursor : PlayState → Cursor → PlayState
 with_cursor s c = record s { cursor = c }
 
+-- the state with another open frame, or with none
 abbrev pub with_frame : PlayState → Option Opened → PlayState
 with_frame s f = record s { frame = f }
 
@@ -159,6 +160,7 @@ frame_reply s f (Kind name shape) = bad_reply (with_frame s (Some f)) SetupEnded
 frame_reply s f (Slots n) = bad_reply (with_frame s (Some f)) SetupEnded
 frame_reply s f line = bad_reply (with_frame s (Some f)) FrameOpen
 
+-- the reply to a line after the setup, by the frame that is open, if one is
 abbrev pub reply_within : PlayState → Line → Option Opened → Reply
 reply_within s line None = lone_reply s line
 reply_within s line (Some f) = frame_reply s f line
@@ -233,6 +235,7 @@ setup_line number kinds limit rest begin Queue = setup_bad number NoFrame (rest 
 setup_line number kinds limit rest begin Commit = setup_bad number NoFrame (rest kinds limit)
 setup_line number kinds limit rest begin line = begin
 
+-- a line of the setup by what it says; a bad one doesn't end it
 abbrev pub setup_said : ℕ → Kinds → ℕ → (Kinds → ℕ → Printed) → Printed → Result Line BadLine → Printed
 setup_said number kinds limit rest begin (Ok line) = setup_line number kinds limit rest begin line
 setup_said number kinds limit rest begin (Err reason) = setup_bad number reason (rest kinds limit)
@@ -241,7 +244,8 @@ setup_said number kinds limit rest begin (Err reason) = setup_bad number reason 
 abbrev pub setup_from : ℕ → Kinds → ℕ → List (List ℕ) → Printed
 setup_from number kinds limit [] = nothing
 setup_from number kinds limit (l ∷ ls) =
-    setup_said number kinds limit (λ k n. setup_from (number + 1) k n ls) (run_from number (opening_state (new_world kinds limit)) (l ∷ ls)) (line_in kinds l)
+    setup_said number kinds limit (λ k n. setup_from (number + 1) k n ls)
+    (run_from number (opening_state (new_world kinds limit)) (l ∷ ls)) (line_in kinds l)
 
 -- all of a script, from its first line, with no kinds yet and the greatest slot limit
 abbrev pub printed : List ℕ → Printed

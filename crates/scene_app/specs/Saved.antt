@@ -14,9 +14,11 @@ worlds hs = reverse (each (λ h. h.world) hs)
 
 -- a world is told apart as one with no room
 abbrev pub world_code : Coded World
-world_code = code_by Housed world.the_row.coded (λ w. record { world = w; room = record { slots = 0; rows = map.empty; homes = 0; lists = []; names = [] } }) (λ h. h.world) (λ _. refl)
+world_code = code_by Housed world.the_row.coded
+    (λ w. record { world = w; room = record { slots = 0; rows = map.empty; homes = 0; lists = []; names = [] } }) (λ h. h.world) (λ _. refl)
 
 -- and a machine by its parts
 abbrev pub machine_code : Coded (Machine World)
 machine_code = code_by (List World × (World × (List World × ℕ))) (coded× (coded_list world_code) (coded× world_code (coded× (coded_list world_code) coded_ℕ)))
-    (λ m. (m.past, (m.now, (m.future, m.rewinds)))) (λ p. record { past = p.0; now = p.1.0; future = p.1.1.0; rewinds = p.1.1.1 }) (λ _. refl)
+    (λ m. (m.past, (m.now, (m.future, m.rewinds))))
+    (λ p. record { past = p.0; now = p.1.0; future = p.1.1.0; rewinds = p.1.1.1 }) (λ _. refl)

@@ -14,10 +14,11 @@ use crate::framed_answer::answer_in_frame;
 use crate::listed::write_listed;
 use crate::open_frame::OpenFrame;
 use crate::play_state::PlayState;
-use crate::show::{row_of, write_entities, write_row, write_show};
+use crate::show::{write_entities, write_row, write_show};
+use scene_commands::Command;
 use scene_kinds::{Entity, Fault, Refusal};
 use scene_pass::{Filter, added_since, changed_since};
-use scene_queue::{Command, Queue};
+use scene_queue::Queue;
 use scene_script::{BadLine, Line};
 use scene_world::World;
 use std::alloc::{AllocError, Global};
@@ -130,9 +131,10 @@ fn answer_get(
     world: &World,
     entity: Entity,
 ) -> Result<(), AllocError>
-    ensures { OnOk result (string_bytes out.new ≡ string_bytes out.old ++ row_answer world.now.world.schema (option_map (λ p. p.1) (row_of world.now.world entity))) }
+    ensures { OnOk result (string_bytes out.new ≡ string_bytes out.old ++ row_answer world.now.world.schema
+        (option_map (λ p. p.1) (row_of world.now.world entity))) }
 {
-    match row_of(world, entity) {
+    match world.row_of(entity) {
         None => write_refused(out, Refusal::from(Fault::NoSuchEntity)),
         Some((table, at)) => {
             write_row(alloc, out, world.schema(), table, at)?;

@@ -8,7 +8,7 @@ ghost use Rattle.scene_app.specs.Steps.{Replies};
 use crate::answer::{answer_bad, answer_frame, answer_refused};
 use crate::open_frame::OpenFrame;
 use crate::play_state::PlayState;
-use scene_queue::Command;
+use scene_commands::Command;
 use scene_script::{BadLine, Line};
 use std::alloc::{AllocError, Global};
 
@@ -19,7 +19,8 @@ fn answer_queued(
     frame: OpenFrame,
     command: Command,
 ) -> Result<(), AllocError>
-    ensures { OnOk result (Replies (string_bytes out.old) (string_bytes out.new) state.new None (queued_reply state.old frame (with_command frame command))) }
+    ensures { OnOk result (Replies (string_bytes out.old) (string_bytes out.new) state.new None
+        (queued_reply state.old frame (with_command frame command))) }
 {
     let mut frame = frame;
     let pushed = frame.push(command);
@@ -67,7 +68,8 @@ fn answer_unfit(
     frame: OpenFrame,
     reason: BadLine,
 ) -> Result<Option<BadLine>, AllocError>
-    ensures { IfOk result (λ bad. Replies (string_bytes out.old) (string_bytes out.new) state.new bad (bad_reply (with_frame state.old (Some frame)) reason)) }
+    ensures { IfOk result (λ bad. Replies (string_bytes out.old) (string_bytes out.new) state.new bad
+        (bad_reply (with_frame state.old (Some frame)) reason)) }
 {
     state.frame = Some(frame);
     answer_bad(out, reason)

@@ -1,8 +1,9 @@
 //! Scripts played: the bytes that a script prints, as one function of the bytes that it is.
 //!
 //! A script is read to its end and played line by line on a machine that keeps whole saved worlds; what it prints
-//! goes to a writer in one piece, and its bad lines are handed out with their reasons. What a line says is scene_script's; what it does and answers is here, exact against
-//! `output` and `bad_lines` in `specs/Play.antt` (docs/SCRIPTS.md explains the language).
+//! goes to a writer in one piece, and its bad lines are handed out with their reasons. What a line says is
+//! scene_script's; what it does and answers is here, exact against `output` and `bad_lines` in `specs/Play.antt`
+//! (docs/SCRIPTS.md explains the language).
 #![tactic(auto)]
 
 mod answer;

@@ -3,8 +3,9 @@ ghost use Rattle.std.specs.Prelude.{◌≡◌, OnOk, IfOk};
 ghost use Rattle.scene_kinds.specs.Answers.{Answers};
 ghost use Rattle.scene_app.specs.OpenFrame.{new_frame, with_command, with_queue, queues_of};
 
+use scene_commands::Command;
 use scene_kinds::Refusal;
-use scene_queue::{Command, Queue};
+use scene_queue::Queue;
 use std::alloc::{AllocError, Global};
 use std::marker::Model;
 

@@ -42,7 +42,8 @@ fn play_line(
 ) -> Result<(), AllocError>
     requires room { reports.old.count + 1 < 2 ^ 64 }
     requires opened { queue_count state.old.frame ≤ 4294967295 }
-    ensures played { OnOk result (LinePlayed (string_bytes out.old) (string_bytes out.new) reports.old reports.new state.new number (said_reply state.old said)) }
+    ensures played { OnOk result (LinePlayed (string_bytes out.old) (string_bytes out.new) reports.old reports.new state.new number
+        (said_reply state.old said)) }
     ensures few { OnOk result (reports.new.count ≤ reports.old.count + 1) }
     ensures opened { OnOk result (queue_count state.new.frame ≤ queue_count state.old.frame + 1) }
 {
@@ -62,7 +63,8 @@ fn play_lines(
     requires few { reports.old.count < first }
     requires opened { queue_count state.old.frame < first }
     requires room { first + length script.now < 2 ^ 32 }
-    ensures printed { OnOk result (Prints (string_bytes out.old) (string_bytes out.new) reports.old reports.new (run_from first state.old (lines script.now))) }
+    ensures printed { OnOk result (Prints (string_bytes out.old) (string_bytes out.new) reports.old reports.new
+        (run_from first state.old (lines script.now))) }
     ensures few { OnOk result (reports.new.count < first + length script.now) }
 {
     let mut rest = script;
@@ -89,7 +91,8 @@ fn play_run(
 ) -> Result<(), AllocError>
     requires few { reports.old.count < number }
     requires room { number + 1 + length after.now < 2 ^ 32 }
-    ensures printed { OnOk result (Prints (string_bytes out.old) (string_bytes out.new) reports.old reports.new (then_rest number (said_reply (opening_state world.world) (Ok line)) (λ s. run_from (number + 1) s (lines after.now)))) }
+    ensures printed { OnOk result (Prints (string_bytes out.old) (string_bytes out.new) reports.old reports.new
+        (then_rest number (said_reply (opening_state world.world) (Ok line)) (λ s. run_from (number + 1) s (lines after.now)))) }
     ensures few { OnOk result (reports.new.count < number + 1 + length after.now) }
 {
     let mut state = PlayState::new(alloc, world);

@@ -54,12 +54,14 @@ pub fn run_script<R: Read, W: Write>(
     source: &mut Source<R>,
     sink: &mut Sink<W>,
 ) -> Result<RunEnd, AppFault>
-    ensures printed { OnOk result (IfSome (R.remaining (reader_of source.old)) (λ script. Appends (W.contents (writer_of sink.old)) (W.contents (writer_of sink.new)) (output script))) }
+    ensures printed { OnOk result (IfSome (R.remaining (reader_of source.old))
+        (λ script. Appends (W.contents (writer_of sink.old)) (W.contents (writer_of sink.new)) (output script))) }
     ensures bad { IfOk result (λ end. IfSome (R.remaining (reader_of source.old)) (λ script. end.bad_lines ≡ length (bad_lines script))) }
     ensures reports { IfOk result (λ end. IfSome (R.remaining (reader_of source.old)) (λ script. end.reports.items ≡ take 10 (bad_lines script))) }
     ensures within { OnOk result (IfSome (R.remaining (reader_of source.old)) (λ script. length script ≤ most_bytes)) }
     ensures end { OnOk result (IsAtEnd (R.remaining (reader_of source.new))) }
-    ensures prefix { OnErr result (IfSome (R.remaining (reader_of source.old)) (λ script. AppendsPrefix (W.contents (writer_of sink.old)) (W.contents (writer_of sink.new)) (output script))) }
+    ensures prefix { OnErr result (IfSome (R.remaining (reader_of source.old))
+        (λ script. AppendsPrefix (W.contents (writer_of sink.old)) (W.contents (writer_of sink.new)) (output script))) }
     ensures nothing { IfErr result (λ f. f ≢ WriteFault → sink.new ≡ sink.old) }
     ensures read { (result ≡ Err ReadFault) ↔ (read_failed source.new ≡ true) }
     ensures marked { read_failed source.old ≡ true → source.new ≡ source.old }

@@ -37,7 +37,8 @@ impl Model for Saved {
 /// Does a frame on a world that is dropped where the frame is refused.
 fn do_frame(alloc: Global, world: &mut World, queues: &[Queue]) -> Result<Vec<Entity>, Refusal>
     requires { length queues.now ≤ 4294967295 }
-    ensures { MatchResult result (λ es. frame (frame_of queues.now) world.old.world ≡ Ok (es.items, world.new.world)) (λ r. r ≢ refusal_of NoMemory → frame (frame_of queues.now) world.old.world ≡ Err r) }
+    ensures { MatchResult result (λ es. frame (frame_of queues.now) world.old.world ≡ Ok (es.items, world.new.world))
+        (λ r. r ≢ refusal_of NoMemory → frame (frame_of queues.now) world.old.world ≡ Err r) }
 {
     world.raise_tick()?;
     apply_all(alloc, queues, world)
@@ -46,7 +47,8 @@ fn do_frame(alloc: Global, world: &mut World, queues: &[Queue]) -> Result<Vec<En
 /// The world after a frame, with the entities that it spawned. It costs a copy of the world.
 fn framed(alloc: Global, world: &World, queues: &[Queue]) -> Result<(World, Vec<Entity>), Refusal>
     requires { length queues.now ≤ 4294967295 }
-    ensures { MatchResult result (λ p. frame (frame_of queues.now) world.now.world ≡ Ok (p.1.items, p.0.world)) (λ r. r ≢ refusal_of NoMemory → frame (frame_of queues.now) world.now.world ≡ Err r) }
+    ensures { MatchResult result (λ p. frame (frame_of queues.now) world.now.world ≡ Ok (p.1.items, p.0.world))
+        (λ r. r ≢ refusal_of NoMemory → frame (frame_of queues.now) world.now.world ≡ Err r) }
 {
     let mut next = world.try_clone()?;
     match do_frame(alloc, &mut next, queues) {

@@ -1,7 +1,7 @@
 //! The printed text of a whole world.
 ghost use Rattle.std.specs.Prelude.{◌≡◌, ◌++◌, ◌<◌, OnOk, IfOk, Some, length, map, slice_get, string_bytes, option_map};
 ghost use Rattle.scene_kinds.specs.declared.cells.Row.{Row};
-ghost use Rattle.scene_model.specs.World.{kind_sets, row_of};
+ghost use Rattle.scene_model.specs.World.{kind_sets};
 ghost use Rattle.scene_table.specs.Tables.{rows_at};
 ghost use Rattle.scene_links.specs.Forest.{parents};
 ghost use Rattle.scene_resources.specs.Resources.{cell_of};
@@ -96,7 +96,8 @@ fn write_row_cells(
     at: usize,
 ) -> Result<(), AllocError>
     requires { at < length table.now.rows }
-    ensures { OnOk result ((row : Row) → slice_get table.now.rows at ≡ Some row → string_bytes out.new ≡ string_bytes out.old ++ cells_text schema.now row.cells) }
+    ensures { OnOk result ((row : Row) → slice_get table.now.rows at ≡ Some row
+        → string_bytes out.new ≡ string_bytes out.old ++ cells_text schema.now row.cells) }
 {
     'cells: for number in 0..table.cell_count(at) {
         let (kind, cell) = table.nth_cell(at, number);
@@ -114,7 +115,8 @@ pub(crate) fn write_row(
     at: usize,
 ) -> Result<(), AllocError>
     requires { at < length table.now.rows }
-    ensures { OnOk result ((row : Row) → slice_get table.now.rows at ≡ Some row → string_bytes out.new ≡ string_bytes out.old ++ row_text schema.now row) }
+    ensures { OnOk result ((row : Row) → slice_get table.now.rows at ≡ Some row
+        → string_bytes out.new ≡ string_bytes out.old ++ row_text schema.now row) }
 {
     write_row_head(out, table.entity_at(at))?;
     write_row_cells(alloc, out, schema, table, at)
@@ -153,7 +155,8 @@ fn write_rows_of(
 
 /// Adds a table: the names of its kind set, and its rows.
 fn write_table(alloc: Global, out: &mut String, world: &World, mask: u64) -> Result<(), AllocError>
-    ensures { OnOk result (string_bytes out.new ≡ string_bytes out.old ++ table_text world.now.world.schema mask (rows_at world.now.world.tables mask)) }
+    ensures { OnOk result (string_bytes out.new ≡ string_bytes out.old ++ table_text world.now.world.schema mask
+        (rows_at world.now.world.tables mask)) }
 {
     let names = names_of(alloc, world.schema(), mask)?;
     out.push_str("table ")?;
@@ -296,14 +299,4 @@ pub(crate) fn write_show(alloc: Global, out: &mut String, world: &World) -> Resu
     write_archetypes(alloc, out, world)?;
     write_forest(out, world.links())?;
     write_resources(alloc, out, world.resources())
-}
-
-/// The table and the place of an entity's row, or `None` where it isn't alive.
-pub(crate) fn row_of(world: &World, entity: Entity) -> Option<(&Table, usize)>
-    ensures { option_map (λ at. slice_get at.0.now.rows at.1) result ≡ option_map (λ p. Some p.1) (row_of world.now.world entity) }
-{
-    let mask = world.mask_of(entity)?;
-    let place = world.place_of(entity)?;
-    let table = world.rows_of(mask)?;
-    Some((table, place as usize))
 }

@@ -10,7 +10,7 @@ ghost use Rattle.scene_table.specs.Table.{cell_at, row_with_cell, row_without_ce
 ghost use Rattle.scene_table.specs.Tables.{rows_at, row_at, home_in, with_rows, without_row, masks_of};
 ghost use Rattle.scene_table.specs.Tables.{row_for, with_row_back};
 ghost use Rattle.scene_archetypes.specs.KindTables.{IsWider, IsWithin, capacity_at};
-ghost use Rattle.scene_archetypes.specs.Archetypes.{ArchetypesState, HoldsRows, HasRoomOf, SameHomes, homes_left, homes_come};
+ghost use Rattle.scene_archetypes.specs.Archetypes.{ArchetypesState, AreHomes, HoldsRows, HasRoomOf, SameHomes, homes_left, homes_come};
 ghost use Rattle.scene_table.specs.Tables.{NoneOf, StandsIn};
 
 use crate::kind_tables::KindTables;
@@ -243,6 +243,14 @@ impl Archetypes {
         self.tables.room_holds();
     }
 
+    /// Where each entity's row stands, by the entity's index: `None` where the index is that of no row, as is each behind
+    /// the last.
+    pub fn homes(&self) -> &[Option<Home>]
+        ensures { AreHomes self.now.tables result.now }
+    {
+        self.homes.as_slice()
+    }
+
     /// How many rows of a kind set there are.
     pub fn len(&self, mask: KindSet) -> usize
         ensures { result ≡ length (rows_at self.now.tables mask) }
@@ -256,6 +264,15 @@ impl Archetypes {
         ensures mask { IfSome result (λ table. table.now.mask ≡ mask) }
     {
         self.tables.table(mask)
+    }
+
+    /// The table in which a row stands.
+    pub fn table_of_row(&self, home: Home) -> &Table
+        requires { IsWithin self.now.tables home }
+        ensures rows { result.now.rows ≡ rows_at self.now.tables home.mask }
+        ensures mask { result.now.mask ≡ home.mask }
+    {
+        self.tables.table_of_row(home)
     }
 
     /// The cell of a kind in the row at a home, or `None` where the row doesn't have that kind. It costs a walk over the

@@ -19,6 +19,7 @@ chain =
     let under_first : _ = λ e. SetParent e (ent 0 1) in
     (spawn_tag ∷ spawn_tag ∷ spawn_tag ∷ local 1 under_first ∷ local 2 under_first ∷ []) ∷ []
 
+-- a frame of one recursive despawn
 abbrev pub felling : List (List Request)
 felling = (known (DespawnRecursive (ent 0 1)) ∷ []) ∷ []
 
@@ -26,24 +27,30 @@ felling = (known (DespawnRecursive (ent 0 1)) ∷ []) ∷ []
 abbrev pub one_tag : List (ℕ × Cell)
 one_tag = (1, cell value.Tag 1 1) ∷ []
 
+-- the delta of a spawn of one tag, from a fresh slot
 abbrev pub spawned_tag : Entity → Delta
 spawned_tag e = Spawned e one_tag true
 
+-- the delta of a despawn of such an entity, with its place and its link
 abbrev pub despawned_tag : Entity → ℕ → Option (Entity × ℕ) → Delta
 despawned_tag e place link = Despawned e place one_tag link false
 
+-- what the first frame notes
 abbrev pub chain_record : Record
 chain_record = record_of 0 (
     spawned_tag (ent 0 1) ∷ spawned_tag (ent 1 1) ∷ spawned_tag (ent 2 1)
     ∷ Linked (ent 1 1) None (Some (ent 0 1, 0)) ∷ Linked (ent 2 1) None (Some (ent 0 1, 1)) ∷ [])
 
+-- what the second one notes
 abbrev pub felling_record : Record
 felling_record = record_of 1 (
     despawned_tag (ent 1 1) 1 (Some (ent 0 1, 0)) ∷ despawned_tag (ent 2 1) 1 (Some (ent 0 1, 0)) ∷ despawned_tag (ent 0 1) 0 None ∷ [])
 
+-- the world before both
 abbrev pub empty : World
 empty = new_world schema 100
 
+-- the world between them
 abbrev pub with_chain : World
 with_chain = redone chain_record empty
 
@@ -61,6 +68,7 @@ FellingIsNoted =
 abbrev pub with_one : World
 with_one = world 1 (1 ∷ []) [] ((1, (int_row (ent 0 1) 5 1 1, [])) ∷ []) tt
 
+-- the delta of the first spawn of an Int
 abbrev pub spawned_int : ℕ → Delta
 spawned_int n = Spawned (ent 0 1) ((0, cell (int n) 1 1) ∷ []) true
 

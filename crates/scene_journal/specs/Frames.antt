@@ -11,10 +11,11 @@ use Rattle.scene_journal.specs.Records.{Record, record_of, raised, redone, Recor
 use Rattle.scene_journal.specs.Notes.{deltas_of}
 use Rattle.scene_journal.specs.CommandLaws.{along}
 
--- the stage after a queue of commands, as far as they are accepted, and after queues one after another
+-- the stage after a queue of commands, as far as they are accepted
 abbrev pub after_queue : {N : Type 0} → Note N → List Request → Staged N → Staged N
 after_queue note requests s = (play (act note) requests s).progress.state
 
+-- the same of queues one after another
 abbrev pub after_queues : {N : Type 0} → Note N → List (List Request) → Staged N → Staged N
 after_queues note [] s = s
 after_queues note (q ∷ qs) s = after_queues note qs (after_queue note q s)

@@ -6,11 +6,14 @@ use Rattle.scene_journal.specs.declared.delta.Delta.{Delta}
 use Rattle.scene_journal.specs.Deltas.{fwd, back, FitsOn, FitsBack}
 use Rattle.scene_journal.specs.Records.{Record, redone, undone, RecordFitsOn, RecordFitsBack}
 
+-- a delta comes back
 abbrev pub DeltasComeBack : Type 0
 DeltasComeBack = (d : Delta) → TakeEachOtherBack (FitsOn d) (fwd d) (FitsBack d) (back d)
 
+-- deltas one after another come back
 abbrev pub DeltaListsComeBack : Type 0
 DeltaListsComeBack = ListsComeBack FitsOn fwd FitsBack back
 
+-- a record comes back, tick included
 abbrev pub RecordsComeBack : Type 0
 RecordsComeBack = (r : Record) → TakeEachOtherBack (RecordFitsOn r) (redone r) (RecordFitsBack r) (undone r)

@@ -39,6 +39,7 @@ abbrev pub spawned : World → List (ℕ × Cell) → Option Entity → List Del
 spawned w cells None = []
 spawned w cells (Some e) = Spawned e cells (takes_new_slot w.slots) ∷ []
 
+-- a despawn, with all that has to come back
 abbrev pub despawned : World → Entity → List Delta
 despawned w e = of_row (row_of w e) (λ place cells. Despawned e place cells (link_in w.children e) (retires e) ∷ [])
 

@@ -13,27 +13,31 @@ pub record Record : Type 0 where
   pub tick_before : ℕ
   pub deltas : List Delta
 
+-- a record by its parts
 abbrev pub record_of : ℕ → List Delta → Record
 record_of tick deltas = record { tick_before = tick; deltas = deltas }
 
--- deltas one after another, and that each fits at its turn
+-- deltas one after another
 abbrev pub fwd_all : List Delta → World → World
 fwd_all ds w = after_all fwd ds w
 
+-- each delta fits at its turn
 abbrev pub AllFitOn : List Delta → World → Type 0
 AllFitOn ds w = MayAll FitsOn fwd ds w
 
--- deltas taken back, the last first, and that each fits back at its turn
+-- deltas taken back, the last first
 abbrev pub back_all : List Delta → World → World
 back_all ds w = before_all back ds w
 
+-- each fits back at its turn
 abbrev pub AllFitBack : List Delta → World → Type 0
 AllFitBack ds w = MayUndoAll FitsBack back ds w
 
--- the tick is raised, and then the deltas are made
+-- the world with its tick raised
 abbrev pub raised : World → World
 raised w = set_tick w (w.tick + 1)
 
+-- a record is made again: the tick is raised, and then come the deltas
 abbrev pub redone : Record → World → World
 redone r w = fwd_all r.deltas (raised w)
 

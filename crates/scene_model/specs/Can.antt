@@ -74,18 +74,21 @@ pub record CanPut (w : World) (e : Entity) (cells : List (ℕ × Cell)) (fresh :
   pub slot : fresh ≡ takes_new_slot w.slots
   pub good : AreGoodCells w cells
 
+-- the row stands last in its table, and the entity has no parent and no child; a fresh slot is the newest
 pub record CanDrop (w : World) (e : Entity) (cells : List (ℕ × Cell)) (fresh : Bool) : Type 0 where
   pub row : HasLastRow w e cells
   pub parentless : parent_of w.children e ≡ None
   pub childless : children_of w.children e ≡ []
   pub newest : fresh ≡ true → IsFresh w.slots e
 
+-- the row stands at this place with these cells, and the entity has this link, no child, and an index that retires or not
 pub record CanCut (w : World) (e : Entity) (place : ℕ) (cells : List (ℕ × Cell)) (link : Option (Entity × ℕ)) (retired : Bool) : Type 0 where
   pub row : HasRow w e place cells
   pub childless : children_of w.children e ≡ []
   pub linked : link_in w.children e ≡ link
   pub retires : retired ≡ retires e
 
+-- the slot can come back as that of the dead entity, and its row, cells and link have their places
 pub record CanUncut (w : World) (e : Entity) (place : ℕ) (cells : List (ℕ × Cell)) (link : Option (Entity × ℕ)) (retired : Bool) : Type 0 where
   pub slot : CanUnrelease w.slots e retired
   pub dead : is_live w e ≡ false
@@ -95,10 +98,12 @@ pub record CanUncut (w : World) (e : Entity) (place : ℕ) (cells : List (ℕ ×
 
 -- ---- rows that move
 
+-- the row stands at this place, and the cell may come into it or leave it
 pub record CanShift (w : World) (e : Entity) (place kind : ℕ) (cell : Cell) (inward : Bool) : Type 0 where
   pub row : HasRow w e place (cells_of w e)
   pub moves : CanMove w (cells_of w e) kind cell inward
 
+-- the row stands last in its table, and its place in the other table is one that it may have
 pub record CanUnshift (w : World) (e : Entity) (place kind : ℕ) (cell : Cell) (inward : Bool) : Type 0 where
   pub row : HasLastRow w e (cells_of w e)
   pub moves : CanMove w (cells_of w e) kind cell (not inward)
@@ -106,15 +111,18 @@ pub record CanUnshift (w : World) (e : Entity) (place kind : ℕ) (cell : Cell) 
 
 -- ---- what is written in its place
 
+-- the entity has the cell from before, and the other one may stand in its place
 pub record CanSetCell (w : World) (e : Entity) (kind : ℕ) (before after : Cell) : Type 0 where
   pub now : cell_of (cells_of w e) kind ≡ Some before
   pub good : IsGoodCell w kind after
 
+-- the entity lives and has the link from before, or none, and may have the other one
 pub record CanSetLink (w : World) (e : Entity) (before after : Option (Entity × ℕ)) : Type 0 where
   pub live : is_live w e ≡ true
   pub now : link_in w.children e ≡ before
   pub good : IfSome after (CanHaveLink w e)
 
+-- the name has the cell from before, or none, and may have the other one
 pub record CanSetResource (w : World) (name : List ℕ) (before after : Option Cell) : Type 0 where
   pub named : is_good_name name ≡ true
   pub now : resource_of w.resources name ≡ before

@@ -29,6 +29,7 @@ abbrev pub Inserts : World → World → Entity → ℕ → Value → Option Cel
 Inserts w v e kind value None = (place : ℕ) × (CanShift w e place kind (new_cell w.tick value) true × (v ≡ shift_row w e kind (new_cell w.tick value) true))
 Inserts w v e kind value (Some c) = CanSetCell w e kind c (put_over (Some c) value w.tick) × (v ≡ set_cell w e kind (put_over (Some c) value w.tick))
 
+-- an insert shifts the row or sets the cell, by what the entity has
 abbrev pub InsertShiftsOrSets : Type 0
 InsertShiftsOrSets = (w v : World) (e : Entity) (kind : ℕ) (value : Value) → IsValid w → insert w e kind value ≡ Ok (tt, v)
     → Inserts w v e kind value (cell_of (cells_of w e) kind)
@@ -42,22 +43,27 @@ RemoveShifts = (w v : World) (e : Entity) (kind : ℕ) → IsValid w → remove 
 abbrev pub last_link : Forest → Entity → Entity → Entity × ℕ
 last_link f child parent = (parent, length (children_of (cut f child) parent))
 
+-- a set of a parent sets the link to the last place below it
 abbrev pub SetParentSetsLink : Type 0
 SetParentSetsLink = (w v : World) (child parent : Entity) → IsValid w → set_parent w child parent ≡ Ok (tt, v)
     → CanSetLink w child (link_in w.children child) (Some (last_link w.children child parent)) × (v ≡ set_link w child (Some (last_link w.children child parent)))
 
+-- a removal of a parent sets that there is no link
 abbrev pub RemoveParentSetsLink : Type 0
 RemoveParentSetsLink = (w v : World) (child : Entity) → IsValid w → remove_parent w child ≡ Ok (tt, v)
     → CanSetLink w child (link_in w.children child) None × (v ≡ set_link w child None)
 
+-- a put sets the resource, with the added tick of the one that was there
 abbrev pub PutSetsResource : Type 0
 PutSetsResource = (w v : World) (name : List ℕ) (value : Value) → IsValid w → is_in_range value ≡ true → put_resource w name value ≡ Ok (tt, v)
     → (let cell = put_over (resource_of w.resources name) value w.tick in
     CanSetResource w name (resource_of w.resources name) (Some cell) × (v ≡ set_resource w name (Some cell)))
 
+-- a removal of a resource sets that there is none
 abbrev pub RemoveSetsResource : Type 0
 RemoveSetsResource = (w v : World) (name : List ℕ) → IsValid w → remove_resource w name ≡ Ok (tt, v)
     → CanSetResource w name (resource_of w.resources name) None × (v ≡ set_resource w name None)
 
+-- raising the tick sets the next one
 abbrev pub RaiseSetsTick : Type 0
 RaiseSetsTick = (w v : World) → IsValid w → raise_tick w ≡ Ok (tt, v) → CanSetTick w (w.tick + 1) × (v ≡ set_tick w (w.tick + 1))

@@ -48,6 +48,7 @@ with_live (Some p) rest = rest p.0 p.1
 abbrev pub highest_tick : ℕ
 highest_tick = 18446744073709551615
 
+-- the tick goes up by one, unless it is the highest
 abbrev pub raise_tick : World → Outcome (Unit {0}) World
 raise_tick w = if nat_eq w.tick highest_tick then refuse TickFull else Ok (tt, record w { tick = w.tick + 1 })
 
@@ -69,10 +70,12 @@ abbrev pub new_cells : ℕ → List (ℕ × Value) → List (ℕ × Cell)
 new_cells tick [] = []
 new_cells tick (c ∷ cs) = with_cell (new_cells tick cs) c.0 (new_cell tick c.1)
 
+-- a new row for the entity that the slots gave, or their refusal
 abbrev pub after_take : World → List (ℕ × Cell) → Outcome Entity SlotState → Outcome Entity World
 after_take w cells (Ok p) = Ok (p.0, record w { slots = p.1; tables = with_row w.tables (record { entity = p.0; cells = cells }) })
 after_take w cells (Err r) = Err r
 
+-- the refusals of the cells come before that of the slots
 abbrev pub spawn : World → List (ℕ × Value) → Outcome Entity World
 spawn w cells = unless (spawn_fault w.schema cells) (after_take w (new_cells w.tick cells) (take_of w.slots))
 
@@ -80,6 +83,7 @@ spawn w cells = unless (spawn_fault w.schema cells) (after_take w (new_cells w.t
 abbrev pub after_despawn : World → Home → Entity → World
 after_despawn w h e = record w { slots = release_of w.slots e; tables = without_row w.tables h; children = cut w.children e }
 
+-- an entity with children is refused
 abbrev pub despawn : World → Entity → Outcome (Unit {0}) World
 despawn w e = with_live (row_of w e) (λ h row. if is_some (map.get w.children e) then refuse HasChildren else Ok (tt, after_despawn w h e))
 
@@ -88,6 +92,7 @@ abbrev pub despawn_each : List Entity → World → Outcome (Unit {0}) World
 despawn_each [] w = Ok (tt, w)
 despawn_each (e ∷ es) w = and_then (despawn w e) (λ a v. despawn_each es v)
 
+-- the entity and all below it
 abbrev pub despawn_recursive : World → Entity → Outcome (Unit {0}) World
 despawn_recursive w e = with_live (row_of w e) (λ h row. despawn_each (post w.children e) w)
 
@@ -104,12 +109,14 @@ abbrev pub after_insert : ℕ → Tables → Home → Row → ℕ → Value → 
 after_insert tick tables h row kind value None = after_move tables h row (with_cell row.cells kind (new_cell tick value))
 after_insert tick tables h row kind value (Some c) = with_row_at tables h (row_with_cell row kind (put_over (Some c) value tick))
 
+-- the refusals of an insert, in their order
 abbrev pub insert_fault : Kinds → ℕ → Value → Option Fault
 insert_fault schema kind value =
     if is_unknown schema kind then Some NoSuchKind
     else if not (fits_kind schema value kind) then Some WrongShape
     else None
 
+-- the cell is written, or the row moves with it
 abbrev pub insert : World → Entity → ℕ → Value → Outcome (Unit {0}) World
 insert w e kind value = with_live (row_of w e) (λ h row. unless (insert_fault w.schema kind value)
     (Ok (tt, record w { tables = after_insert w.tick w.tables h row kind value (cell_of row.cells kind) })))
@@ -121,6 +128,7 @@ remove_fault schema cells kind =
     else if not (is_some (cell_of cells kind)) then Some NotPresent
     else None
 
+-- the row moves without the cell
 abbrev pub remove : World → Entity → ℕ → Outcome (Unit {0}) World
 remove w e kind = with_live (row_of w e) (λ h row. unless (remove_fault w.schema row.cells kind)
     (Ok (tt, record w { tables = after_move w.tables h row (without_cell row.cells kind) })))
@@ -129,10 +137,12 @@ remove w e kind = with_live (row_of w e) (λ h row. unless (remove_fault w.schem
 abbrev pub with_children : World → Forest → World
 with_children w forest = record w { children = forest }
 
+-- both have to live; then the links refuse or take it
 abbrev pub set_parent : World → Entity → Entity → Outcome (Unit {0}) World
 set_parent w child parent =
     if is_live w child && is_live w parent then in_world (link_of w.children child parent) (with_children w) else refuse NoSuchEntity
 
+-- the child has to live, and to have a parent
 abbrev pub remove_parent : World → Entity → Outcome (Unit {0}) World
 remove_parent w child = if is_live w child then without_answer (in_world (unlink_of w.children child) (with_children w)) else refuse NoSuchEntity
 
@@ -140,8 +150,10 @@ remove_parent w child = if is_live w child then without_answer (in_world (unlink
 abbrev pub with_resources : World → NamedCells → World
 with_resources w named = record w { resources = named }
 
+-- the name has to be good
 abbrev pub put_resource : World → List ℕ → Value → Outcome (Unit {0}) World
 put_resource w name value = if is_good_name name then Ok (tt, with_resources w (put_of w.resources name value w.tick)) else refuse BadName
 
+-- the name has to have a value
 abbrev pub remove_resource : World → List ℕ → Outcome (Unit {0}) World
 remove_resource w name = without_answer (in_world (taken_name w.resources name) (with_resources w))

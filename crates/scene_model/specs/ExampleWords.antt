@@ -18,15 +18,19 @@ use Rattle.scene_model.specs.Machine.{Machine, opening}
 use Rattle.scene_model.specs.Queue.{Request, known, refused_at}
 use Rattle.scene_model.specs.Frame.{Call, Submit, Reply, after_calls}
 
+-- an entity by its index and its generation
 abbrev pub ent : ℕ → ℕ → Entity
 ent i g = record { index = i; generation = g }
 
+-- a cell by its value, its added tick and its changed tick
 abbrev pub cell : Value → ℕ → ℕ → Cell
 cell v a c = record { value = v; added = a; changed = c }
 
+-- a row by its entity and its cells
 abbrev pub row : Entity → List (ℕ × Cell) → Row
 row e cells = record { entity = e; cells = cells }
 
+-- the value of a whole number
 abbrev pub int : ℕ → Value
 int n = value.Int (pos n)
 
@@ -45,19 +49,23 @@ world tick generations free ts rising = record {
   resources = map.empty;
 }
 
+-- the machine before the first call, over a world with no entities
 abbrev pub fresh : Machine World
 fresh = opening (new_world schema 100)
 
--- the row of an Int, and of a Tag
+-- the row of an Int, with both ticks
 abbrev pub int_row : Entity → ℕ → ℕ → ℕ → Row
 int_row e n a c = row e ((0, cell (int n) a c) ∷ [])
 
+-- the row of a tag, with its tick
 abbrev pub tag_row : Entity → ℕ → Row
 tag_row e a = row e ((1, cell value.Tag a a) ∷ [])
 
+-- a spawn of one Int
 abbrev pub spawn_int : ℕ → Request
 spawn_int n = known (Spawn ((0, int n) ∷ []))
 
+-- a spawn of one Tag
 abbrev pub spawn_tag : Request
 spawn_tag = known (Spawn ((1, value.Tag) ∷ []))
 
@@ -73,6 +81,7 @@ frame_of requests = Submit (requests ∷ [])
 abbrev pub one : Request → Call
 one r = frame_of (r ∷ [])
 
+-- a frame of one command that names no entity of its queue
 abbrev pub only : Command → Call
 only c = one (known c)
 
@@ -80,18 +89,22 @@ only c = one (known c)
 abbrev pub empty_frame : Call
 empty_frame = Submit []
 
+-- the world that calls lead to
 abbrev pub ends : List Call → World
 ends calls = (after_calls fresh calls).now
 
--- the answers: the entities that a frame spawned; nothing, as of an undo too; a refusal, and that of a frame of one command
+-- what a frame answers that spawned these entities
 abbrev pub made : List Entity → Reply
 made es = Ok es
 
+-- what a frame that spawns nothing answers, and an undo too
 abbrev pub done : Reply
 done = Ok []
 
+-- a refusal without a place
 abbrev pub refused : Fault → Reply
 refused f = Err (refusal_of f)
 
+-- the refusal of the first command of the first queue
 abbrev pub refused_first : Fault → Reply
 refused_first f = Err (refused_at 0 0 f)

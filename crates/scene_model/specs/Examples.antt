@@ -48,9 +48,11 @@ QueuesCountTheirOwn =
     (replies fresh (two_queues ∷ []) ≡ made (ent 0 1 ∷ ent 1 1 ∷ []) ∷ [])
     × (ends (two_queues ∷ []) ≡ world 1 (1 ∷ 1 ∷ []) [] ((1, (int_row (ent 0 1) 1 1 1, int_row (ent 1 1) 3 1 1 ∷ [])) ∷ []) tt)
 
+-- three spawns, each a frame
 abbrev pub three : List Call
 three = one (spawn_int 0) ∷ one (spawn_int 1) ∷ one (spawn_int 2) ∷ []
 
+-- the world after them
 abbrev pub after_three : World
 after_three =
     let rows : _ = (int_row (ent 0 1) 0 1 1, int_row (ent 1 1) 1 2 2 ∷ int_row (ent 2 1) 2 3 3 ∷ []) in
@@ -99,11 +101,13 @@ chain =
     let under_first : _ = λ e. SetParent e (ent 0 1) in
     frame_of (spawn_tag ∷ spawn_tag ∷ spawn_tag ∷ local 1 under_first ∷ local 2 under_first ∷ [])
 
+-- the world after that frame
 abbrev pub family : World
 family =
     let rows : _ = (tag_row (ent 0 1) 1, tag_row (ent 1 1) 1 ∷ tag_row (ent 2 1) 1 ∷ []) in
     record (world 1 (1 ∷ 1 ∷ 1 ∷ []) [] ((2, rows) ∷ []) tt) { children = map.of ((ent 0 1, (ent 1 1, ent 2 1 ∷ [])) ∷ []) tt }
 
+-- the chain is felled, an index of it is used again, and two undos bring it back
 abbrev pub RecursiveDespawnComesBack : Type 0
 RecursiveDespawnComesBack =
     let felled : List Call = chain ∷ only (DespawnRecursive (ent 0 1)) ∷ [] in
@@ -125,6 +129,7 @@ DeadArePassedOver =
 abbrev pub three_tags : World
 three_tags = world 3 (1 ∷ 1 ∷ 1 ∷ []) [] ((2, (tag_row (ent 0 1) 1, tag_row (ent 1 1) 2 ∷ tag_row (ent 2 1) 3 ∷ [])) ∷ []) tt
 
+-- the answers of six such calls, the order of the children, and an undo of the last call
 abbrev pub ParentsInOrder : Type 0
 ParentsInOrder =
     let spawns : List Call = one spawn_tag ∷ one spawn_tag ∷ one spawn_tag ∷ [] in
@@ -140,6 +145,7 @@ ParentsInOrder =
 abbrev pub with_n : ℕ → ℕ → World
 with_n tick changed = record (world tick [] [] [] tt) { resources = map.of (((110 ∷ []), cell (int 1) 1 changed) ∷ []) tt }
 
+-- a put, one over it, two drops and an undo
 abbrev pub ResourcesKeepAdded : Type 0
 ResourcesKeepAdded =
     let put_n : Call = only (PutResource (110 ∷ []) (int 1)) in

@@ -9,10 +9,12 @@ use Rattle.scene_model.specs.Perform.{perform}
 use Rattle.scene_model.specs.Queue.{Request, Act, Ended, play, refused_at}
 use Rattle.scene_model.specs.Machine.{Machine, submitted, undo, redo}
 
+-- what a queue came to, by the first refusal, if there is one, with its place
 abbrev pub all_or_refused : {S : Type 0} → ℕ → S → List Entity → Option (ℕ × Refusal) → Outcome (List Entity) S
 all_or_refused q s es None = Ok (es, s)
 all_or_refused q s es (Some r) = Err (refused_at q r.0 r.1.fault)
 
+-- the same of the way that its commands went
 abbrev pub whole_or_refused : {S : Type 0} → ℕ → Ended S → Outcome (List Entity) S
 whole_or_refused q e = all_or_refused q e.progress.state e.progress.spawned e.refused
 
@@ -40,10 +42,12 @@ pub data Call : Type 0 where
 abbrev pub Reply : Type 0
 Reply = Result (List Entity) Refusal
 
+-- an undo or a redo as a call, which spawns nothing
 abbrev pub spawning_none : Outcome (Unit {0}) (Machine World) → Outcome (List Entity) (Machine World)
 spawning_none (Ok p) = Ok ([], p.1)
 spawning_none (Err r) = Err r
 
+-- what a call does to the machine
 abbrev pub call : Machine World → Call → Outcome (List Entity) (Machine World)
 call m (Submit queues) = submitted m (frame queues m.now)
 call m Undo = spawning_none (undo m)
@@ -58,11 +62,12 @@ replied m (Err r) = (m, Err r)
 abbrev pub step : Machine World → Call → Machine World × Reply
 step m c = replied m (call m c)
 
--- the machine after calls, and their replies in order
+-- the machine after calls
 abbrev pub after_calls : Machine World → List Call → Machine World
 after_calls m [] = m
 after_calls m (c ∷ cs) = after_calls (step m c).0 cs
 
+-- the replies to calls, one after another
 abbrev pub replies : Machine World → List Call → List Reply
 replies m [] = []
 replies m (c ∷ cs) = (step m c).1 ∷ replies (step m c).0 cs

@@ -8,10 +8,11 @@ use Rattle.scene_model.specs.Queue.{Request}
 use Rattle.scene_model.specs.Frame.{frame}
 use Rattle.scene_model.specs.Valid.{IsValid}
 
+-- raising the tick keeps a valid world valid
 abbrev pub RaiseKeeps : Type 0
 RaiseKeeps = (w v : World) → IsValid w → raise_tick w ≡ Ok (tt, v) → IsValid v
 
--- whichever it is, given values that their types can hold
+-- an accepted command keeps a valid world valid, whichever it is, given values that their types can hold
 abbrev pub CommandsKeep : Type 0
 CommandsKeep = (w v : World) (c : Command) (a : Option Entity) → IsValid w → are_in_range c ≡ true → perform w c ≡ Ok (a, v) → IsValid v
 
@@ -19,10 +20,12 @@ CommandsKeep = (w v : World) (c : Command) (a : Option Entity) → IsValid w →
 abbrev pub IsInRange : Request → Type 0
 IsInRange r = (spawned : List Entity) (c : Command) → r spawned ≡ Some c → are_in_range c ≡ true
 
+-- the same of each request of a queue
 abbrev pub AreInRange : List Request → Type 0
 AreInRange [] = ⊤
 AreInRange (r ∷ rs) = IsInRange r × AreInRange rs
 
+-- and of each queue of a frame
 abbrev pub QueuesAreInRange : List (List Request) → Type 0
 QueuesAreInRange [] = ⊤
 QueuesAreInRange (rs ∷ rss) = AreInRange rs × QueuesAreInRange rss

@@ -11,6 +11,7 @@ pub record Machine (W : Type 0) : Type 0 where
   pub future : List W
   pub rewinds : ℕ
 
+-- the machine before the first call
 abbrev pub opening : {W : Type 0} → W → Machine W
 opening w = record { past = []; now = w; future = []; rewinds = 0 }
 
@@ -23,6 +24,7 @@ abbrev pub submitted : {A W : Type 0} → Machine W → Outcome A W → Outcome 
 submitted m (Ok p) = Ok (p.0, accepted m p.1)
 submitted m (Err r) = Err r
 
+-- an undo, by the past worlds, the newest first
 abbrev pub undone_to : {W : Type 0} → Machine W → List W → Outcome (Unit {0}) (Machine W)
 undone_to m [] = refuse NothingToUndo
 undone_to m (w ∷ ws) =
@@ -33,6 +35,7 @@ undone_to m (w ∷ ws) =
 abbrev pub undo : {W : Type 0} → Machine W → Outcome (Unit {0}) (Machine W)
 undo m = undone_to m m.past
 
+-- a redo, by the worlds that were undone, the next one first
 abbrev pub redone_to : {W : Type 0} → Machine W → List W → Outcome (Unit {0}) (Machine W)
 redone_to m [] = refuse NothingToRedo
 redone_to m (w ∷ ws) = Ok (tt, record { past = m.now ∷ m.past; now = w; future = ws; rewinds = m.rewinds })

@@ -8,6 +8,7 @@ use Rattle.scene_kinds.specs.Ranges.{is_in_range}
 use Rattle.scene_model.specs.World.{World}
 use Rattle.scene_model.specs.Commands.{spawn, despawn, despawn_recursive, despawn_recursive_if_alive, insert, remove, set_parent, remove_parent, put_resource, remove_resource}
 
+-- a command on a world, with all that it is given
 pub data Command : Type 0 where
   -- the cells, each with its kind
   Spawn : List (ℕ × Value) → Command

@@ -25,9 +25,11 @@ pub record Progress (S : Type 0) : Type 0 where
   pub state : S
   pub spawned : List Entity
 
+-- a state with the entities spawned on the way to it
 abbrev pub reached : {S : Type 0} → S → List Entity → Progress S
 reached s es = record { state = s; spawned = es }
 
+-- the entities with the one that a command made, if it made one
 abbrev pub and_spawned : List Entity → Option Entity → List Entity
 and_spawned es None = es
 and_spawned es (Some e) = es ++ e ∷ []
@@ -37,9 +39,11 @@ pub record Ended (S : Type 0) : Type 0 where
   pub progress : Progress S
   pub refused : Option (ℕ × Refusal)
 
+-- a queue of which each command was accepted
 abbrev pub whole : {S : Type 0} → Progress S → Ended S
 whole p = record { progress = p; refused = None }
 
+-- a queue that stopped at its i-th command, with the refusal
 abbrev pub stopped : {S : Type 0} → Progress S → ℕ → Refusal → Ended S
 stopped p i r = record { progress = p; refused = Some (i, r) }
 

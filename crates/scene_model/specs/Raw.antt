@@ -27,6 +27,7 @@ abbrev pub listed_cells : Option (Home × Row) → List (ℕ × Cell)
 listed_cells None = []
 listed_cells (Some p) = p.1.cells
 
+-- the cells of an entity of a world
 abbrev pub cells_of : World → Entity → List (ℕ × Cell)
 cells_of w e = listed_cells (row_of w e)
 
@@ -40,6 +41,7 @@ abbrev pub taken_entity : Outcome Entity SlotState → Option Entity
 taken_entity (Ok p) = Some p.0
 taken_entity (Err r) = None
 
+-- the slots after a take that may be refused, which then leaves them
 abbrev pub taken_slots : SlotState → Outcome Entity SlotState → SlotState
 taken_slots s (Ok p) = p.1
 taken_slots s (Err r) = s
@@ -78,14 +80,18 @@ unshift_row w e place kind cell inward = by_row w (row_of w e) (λ h row. record
 
 -- ---- what is written in its place
 
+-- the cell of a kind that the entity has is exchanged
 abbrev pub set_cell : World → Entity → ℕ → Cell → World
 set_cell w e kind cell = by_row w (row_of w e) (λ h row. record w { tables = with_row_at w.tables h (row_with_cell row kind cell) })
 
+-- the entity gets this link, or none
 abbrev pub set_link : World → Entity → Option (Entity × ℕ) → World
 set_link w e link = record w { children = with_link w.children e link }
 
+-- the name gets this cell, or none
 abbrev pub set_resource : World → List ℕ → Option Cell → World
 set_resource w name cell = record w { resources = restore_of w.resources name cell }
 
+-- the tick is exchanged
 abbrev pub set_tick : World → ℕ → World
 set_tick w tick = record w { tick = tick }

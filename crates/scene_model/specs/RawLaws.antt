@@ -37,14 +37,17 @@ ShiftedRowsComeBack = (e : Entity) (place kind : ℕ) (cell : Cell) (inward : Bo
 
 -- a cell, a link and a resource that are set, and set to what they were: this is one change, so one way says both
 
+-- setting a cell is taken back by setting the one from before
 abbrev pub CellsComeBack : Type 0
 CellsComeBack = (e : Entity) (kind : ℕ) (before after : Cell)
     → IsTakenBack (λ w. CanSetCell w e kind before after) (λ w. set_cell w e kind after) (λ w. CanSetCell w e kind after before) (λ w. set_cell w e kind before)
 
+-- setting a link is taken back by setting the one from before
 abbrev pub LinksComeBack : Type 0
 LinksComeBack = (e : Entity) (before after : Option (Entity × ℕ))
     → IsTakenBack (λ w. CanSetLink w e before after) (λ w. set_link w e after) (λ w. CanSetLink w e after before) (λ w. set_link w e before)
 
+-- setting a resource is taken back by setting the one from before
 abbrev pub ResourcesComeBack : Type 0
 ResourcesComeBack = (name : List ℕ) (before after : Option Cell)
     → IsTakenBack (λ w. CanSetResource w name before after) (λ w. set_resource w name after) (λ w. CanSetResource w name after before) (λ w. set_resource w name before)

@@ -42,18 +42,23 @@ pub record CutNote : Type 0 where
   pub link : Option (Entity × ℕ)
   pub retired : Bool
 
+-- where a row that is noted may be cut
 abbrev pub CanCutNoted : CutNote → World → Type 0
 CanCutNoted n w = CanCut w n.entity n.place n.cells n.link n.retired
 
+-- the world without it
 abbrev pub cut_noted : CutNote → World → World
 cut_noted n w = cut_row w n.entity
 
+-- where it may come back
 abbrev pub CanUncutNoted : CutNote → World → Type 0
 CanUncutNoted n w = CanUncut w n.entity n.place n.cells n.link n.retired
 
+-- the world with it again
 abbrev pub uncut_noted : CutNote → World → World
 uncut_noted n w = uncut_row w n.entity n.place n.cells n.link n.retired
 
+-- rows that are cut one after another come back in the other order
 abbrev pub CutListsComeBack : Type 0
 CutListsComeBack = ListsComeBack CanCutNoted cut_noted CanUncutNoted uncut_noted
 

@@ -68,6 +68,7 @@ pub record IsResource (tick : ℕ) (name : List ℕ) (cell : Cell) : Type 0 wher
 abbrev pub ResourcesAreSound : ℕ → NamedCells → Type 0
 ResourcesAreSound tick resources = (name : List ℕ) (cell : Cell) → map.get resources name ≡ Some cell → IsResource tick name cell
 
+-- a valid world, by the ten rules of docs/MODEL.md
 pub record IsValid (w : World) : Type 0 where
   pub schema : IsSchema w.schema
   -- rules 1, 2 and 5

@@ -16,6 +16,7 @@ use Rattle.scene_links.specs.Forest.{Forest}
 use Rattle.scene_resources.specs.Resources.{NamedCells}
 use Rattle.scene_table.specs.declared.home.Home.{Home}
 
+-- a world: its kinds, its slots, its tick, the rows of each kind set, each parent's children, and its resources
 pub record World : Type 0 where
   pub schema : Kinds
   pub slots : SlotState
@@ -32,10 +33,11 @@ home_of w e = home_in e w.tables.entries
 abbrev pub is_live : World → Entity → Bool
 is_live w e = lives w.tables e
 
--- the kind set, and the place in its list, of a live entity
+-- the kind set of a live entity
 abbrev pub mask_at : World → Entity → Option ℕ
 mask_at w e = option_map (λ h. h.mask) (home_of w e)
 
+-- the place of a live entity's row in the list of its kind set
 abbrev pub place_at : World → Entity → Option ℕ
 place_at w e = option_map (λ h. h.place) (home_of w e)
 
@@ -43,6 +45,7 @@ place_at w e = option_map (λ h. h.place) (home_of w e)
 abbrev pub rows_of : World → ℕ → Option (List Row)
 rows_of w mask = option_map whole (map.get w.tables mask)
 
+-- the kind sets that have rows, ascending
 abbrev pub kind_sets : World → List ℕ
 kind_sets w = masks_of w.tables
 
@@ -59,10 +62,12 @@ abbrev pub present : Option Cell → Result Cell Refusal
 present None = Err (refusal_of NotPresent)
 present (Some cell) = Ok cell
 
+-- the cell of a kind in a row, or why there is none
 abbrev pub component_in : Kinds → ℕ → Option (Home × Row) → Result Cell Refusal
 component_in schema kind None = Err (refusal_of NoSuchEntity)
 component_in schema kind (Some p) = if is_unknown schema kind then Err (refusal_of NoSuchKind) else present (cell_of p.1.cells kind)
 
+-- the cell of a kind that an entity has, or why it has none
 abbrev pub component_of : World → Entity → ℕ → Result Cell Refusal
 component_of w e kind = component_in w.schema kind (row_of w e)
 

@@ -29,7 +29,7 @@ split P [] ys n y h one other = other n h
 split P (x ∷ xs) ys zero y h one other = one zero h
 split P (x ∷ xs) ys (suc n) y h one other = split P xs ys n y h (λ p g. one (suc p) g) other
 
-from_mapped : {X Y : Type 0} (f : X → Y) (xs : List X) (p : ℕ) (y : Y) → slice_get (map f xs) p ≡ Some y → (x : X) × ((slice_get xs p ≡ Some x) × (f x ≡ y))
+pub from_mapped : {X Y : Type 0} (f : X → Y) (xs : List X) (p : ℕ) (y : Y) → slice_get (map f xs) p ≡ Some y → (x : X) × ((slice_get xs p ≡ Some x) × (f x ≡ y))
 from_mapped f [] p y h = absurd (let g : None ≡ Some y = h in cc)
 from_mapped f (x ∷ xs) zero y h = (x, (refl, (let g : Some (f x) ≡ Some y = h in cc)))
 from_mapped f (x ∷ xs) (suc p) y h = from_mapped f xs p y h

@@ -2,7 +2,7 @@
 use Rattle.std.proofs.Common.{◌≡◌, ℕ, Bool, true, false, cond, not, length, refl, ap, sym, subst, ◌∙◌, Some, None, Option, map}
 use Rattle.std.specs.Prelude.{◌&&◌, ◌||◌, slice_get, slice_index}
 use Rattle.std.specs.Ordering.{nat_cmp, eq_by_cmp}
-use Rattle.std.specs.List.{list_all}
+use Rattle.std.specs.List.{list_all, IsDistinct}
 use Rattle.scene_kinds.specs.declared.entity.Entity.{Entity}
 use Rattle.scene_kinds.specs.declared.cells.Row.{Row}
 use Rattle.scene_kinds.specs.Entity.{is_same}
@@ -85,6 +85,10 @@ link_tests p h =
     let a = and_is (lists && parents && children) (walks_end (forest_of p.children)) h in
     let b = and_is (lists && parents) children a.0 in
     let c = and_is lists parents b.0 in record { lists = c.0; parents = c.1; children = b.1; walks = a.1 }
+
+-- parents differ
+pub parents_apart : (p : Parts) → links_are_sound p ≡ true → IsDistinct is_same (keys p.children)
+parents_apart p h = distinct_is is_same (keys p.children) (link_tests p h).parents
 
 of_link_tests : (p : Parts) → LinkTests p → links_are_sound p ≡ true
 of_link_tests p t =

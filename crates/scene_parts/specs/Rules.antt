@@ -116,17 +116,25 @@ abbrev pub ticks_are_sound : Parts → Bool
 ticks_are_sound p =
     list_all (λ r. list_all (λ c. is_timely p.tick c.1) r.cells) (rows_in p) && list_all (λ r. is_timely p.tick r.1) p.resources
 
--- the number of the first broken rule
+-- the number of the first broken rule, from the seventh, from the fourth, and of all
+abbrev pub broken_from_7 : Parts → Option ℕ
+broken_from_7 p =
+    if not (tables_are_sound p) then Some 7
+    else if not (links_are_sound p) then Some 8
+    else if not (names_are_sound p) then Some 9
+    else if not (ticks_are_sound p) then Some 10
+    else None
+
+abbrev pub broken_from_4 : Parts → Option ℕ
+broken_from_4 p =
+    if not (entities_stand_once p) then Some 4
+    else if not (free_is_sound p) then Some 5
+    else if not (indices_are_accounted p) then Some 6
+    else broken_from_7 p
+
 abbrev pub first_broken : Parts → Option ℕ
 first_broken p =
     if not (limit_holds p) then Some 1
     else if not (generations_begin p) then Some 2
     else if not (rows_are_current p) then Some 3
-    else if not (entities_stand_once p) then Some 4
-    else if not (free_is_sound p) then Some 5
-    else if not (indices_are_accounted p) then Some 6
-    else if not (tables_are_sound p) then Some 7
-    else if not (links_are_sound p) then Some 8
-    else if not (names_are_sound p) then Some 9
-    else if not (ticks_are_sound p) then Some 10
-    else None
+    else broken_from_4 p

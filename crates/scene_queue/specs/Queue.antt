@@ -5,9 +5,9 @@ use Rattle.scene_kinds.specs.declared.fault.Fault.TheVariants.{QueueFull}
 use Rattle.scene_kinds.specs.declared.refusal.Refusal.{Refusal}
 use Rattle.scene_kinds.specs.Answers.{Outcome, refuse}
 use Rattle.scene_model.specs.Queue.{Request, Act, reached, whole, stopped, play, refused_at}
-use Rattle.scene_queue.specs.declared.command.Command.{Command}
+use Rattle.scene_commands.specs.declared.command.Command.{Command}
 use Rattle.scene_queue.specs.declared.queue.Returned.{Returned}
-use Rattle.scene_queue.specs.declared.command.Command.TheVariants.{Spawn}
+use Rattle.scene_commands.specs.declared.command.Command.TheVariants.{Spawn}
 
 -- the commands, first to last, and how many there may be
 pub record QueueState : Type 0 where

@@ -1,29 +1,20 @@
 -- What the commands of a queue ask of a world.
-use Rattle.std.specs.Prelude.{List, Option, Some, slice_get, option_map, option_and_then, map}
+use Rattle.std.specs.Prelude.{List, option_map, map}
 use Rattle.scene_kinds.specs.declared.entity.Entity.{Entity}
-use Rattle.scene_queue.specs.declared.target.Target.{Target}
-use Rattle.scene_queue.specs.declared.target.Target.TheVariants as target
-use Rattle.scene_queue.specs.declared.command.Command.{Command as Queued}
-use Rattle.scene_queue.specs.declared.command.Command.TheVariants as queued
+use Rattle.scene_commands.specs.declared.target.Target.{Target}
+use Rattle.scene_commands.specs.declared.command.Command.{Command as Queued}
+use Rattle.scene_commands.specs.declared.command.Command.TheVariants as queued
+use Rattle.scene_commands.specs.Target.{target_entity, target_entities}
 use Rattle.scene_model.specs.Perform.{Command, Spawn, Despawn, DespawnRecursive, DespawnRecursiveIfAlive, Insert, Remove, SetParent, RemoveParent, PutResource, RemoveResource}
 use Rattle.scene_model.specs.Queue.{Request, known}
 
--- the entity of a target, by those that its queue has spawned
-abbrev pub target_in : Target → List Entity → Option Entity
-target_in (target.Id e) spawned = Some e
-target_in (target.New k) spawned = slice_get spawned k
-
 -- a command on one target, once that is an entity
 abbrev pub on_entity : Target → (Entity → Command) → Request
-on_entity t command spawned = option_map command (target_in t spawned)
-
--- the entities of two targets; the first is looked at first
-abbrev pub both_in : Target → Target → List Entity → Option (Entity × Entity)
-both_in s t spawned = option_and_then (λ e. option_map (λ d. (e, d)) (target_in t spawned)) (target_in s spawned)
+on_entity t command spawned = option_map command (target_entity t spawned)
 
 -- a command on two targets, once both are entities
 abbrev pub on_both : Target → Target → (Entity → Entity → Command) → Request
-on_both s t command spawned = option_map (λ p. command p.0 p.1) (both_in s t spawned)
+on_both s t command spawned = option_map (λ p. command p.0 p.1) (target_entities s t spawned)
 
 -- what a command asks, once its targets are entities
 abbrev pub request_of : Queued → Request

@@ -9,9 +9,8 @@ ghost use Rattle.scene_world.specs.Stage.{act};
 ghost use Rattle.scene_queue.specs.Requests.{on_both, request_of, requests};
 ghost use Rattle.scene_queue.specs.Queue.{IsPassed, Stops};
 
-use crate::command::Command;
 use crate::queue::Queue;
-use crate::target::Target;
+use scene_commands::{Command, Target};
 use scene_kinds::{Entity, Fault, Place, Refusal};
 use scene_world::Stage;
 use std::alloc::Global;
@@ -23,7 +22,8 @@ fn link<S: Stage>(
     spawned: &[Entity],
     stage: &mut S,
 ) -> Result<Option<Entity>, Refusal>
-    ensures answer { Answers result (S.seen stage.old) (S.seen stage.new) (request (act S.note) (on_both child parent SetParent) (reached (S.seen stage.old) spawned.now)) }
+    ensures answer { Answers result (S.seen stage.old) (S.seen stage.new)
+        (request (act S.note) (on_both child parent SetParent) (reached (S.seen stage.old) spawned.now)) }
     ensures opening { S.opening stage.new ≡ S.opening stage.old }
 {
     let (child, parent) = Target::entities(child, parent, spawned)?;
@@ -39,7 +39,8 @@ fn do_command<S: Stage>(
     spawned: &[Entity],
     stage: &mut S,
 ) -> Result<Option<Entity>, Refusal>
-    ensures answer { Answers result (S.seen stage.old) (S.seen stage.new) (request (act S.note) (request_of command.now) (reached (S.seen stage.old) spawned.now)) }
+    ensures answer { Answers result (S.seen stage.old) (S.seen stage.new)
+        (request (act S.note) (request_of command.now) (reached (S.seen stage.old) spawned.now)) }
     ensures opening { S.opening stage.new ≡ S.opening stage.old }
 {
     match command {
@@ -106,9 +107,11 @@ fn apply_commands<S: Stage>(
     stage: &mut S,
 ) -> Result<Vec<Entity>, Refusal>
     requires { length commands.now < 2 ^ 32 }
-    ensures whole { IfOk result (λ spawned. play (act S.note) (requests commands.now) (S.seen stage.old) ≡ whole (reached (S.seen stage.new) spawned.items)) }
+    ensures whole { IfOk result (λ spawned. play (act S.note) (requests commands.now) (S.seen stage.old)
+        ≡ whole (reached (S.seen stage.new) spawned.items)) }
     ensures passed { OnErr result (IsPassed (act S.note) (requests commands.now) (S.seen stage.old) (S.seen stage.new)) }
-    ensures refused { IfErr result (λ r. r ≢ refusal_of NoMemory → Stops (act S.note) queue (requests commands.now) (S.seen stage.old) (S.seen stage.new) r) }
+    ensures refused { IfErr result (λ r. r ≢ refusal_of NoMemory
+        → Stops (act S.note) queue (requests commands.now) (S.seen stage.old) (S.seen stage.new) r) }
     ensures opening { S.opening stage.new ≡ S.opening stage.old }
 {
     let mut spawned = Vec::new(alloc);
@@ -135,11 +138,15 @@ impl Queue {
     /// phase 0, the queue 0 and its place in this queue; `NoMemory` without a place. After a refusal the stage is as
     /// the commands before left it. The world to which it can be taken back, if it keeps a way back, stays.
     pub fn apply<S: Stage>(&self, stage: &mut S) -> Result<Vec<Entity>, Refusal>
-        ensures whole { IfOk result (λ spawned. play (act S.note) (requests self.now.commands) (S.seen stage.old) ≡ whole (reached (S.seen stage.new) spawned.items)) }
+        ensures whole { IfOk result (λ spawned. play (act S.note) (requests self.now.commands) (S.seen stage.old)
+            ≡ whole (reached (S.seen stage.new) spawned.items)) }
         ensures passed { OnErr result (IsPassed (act S.note) (requests self.now.commands) (S.seen stage.old) (S.seen stage.new)) }
-        ensures refused { IfErr result (λ r. r ≢ refusal_of NoMemory → Stops (act S.note) 0 (requests self.now.commands) (S.seen stage.old) (S.seen stage.new) r) }
-        ensures world { IfOk result (λ spawned. one_queue perform 0 (requests self.now.commands) (S.seen stage.old).world ≡ Ok (spawned.items, (S.seen stage.new).world)) }
-        ensures world_refused { IfErr result (λ r. r ≢ refusal_of NoMemory → one_queue perform 0 (requests self.now.commands) (S.seen stage.old).world ≡ Err r) }
+        ensures refused { IfErr result (λ r. r ≢ refusal_of NoMemory
+            → Stops (act S.note) 0 (requests self.now.commands) (S.seen stage.old) (S.seen stage.new) r) }
+        ensures world { IfOk result (λ spawned. one_queue perform 0 (requests self.now.commands) (S.seen stage.old).world
+            ≡ Ok (spawned.items, (S.seen stage.new).world)) }
+        ensures world_refused { IfErr result (λ r. r ≢ refusal_of NoMemory
+            → one_queue perform 0 (requests self.now.commands) (S.seen stage.old).world ≡ Err r) }
         ensures opening { S.opening stage.new ≡ S.opening stage.old }
     {
         self.apply_at(0, stage)
@@ -151,9 +158,11 @@ impl Queue {
         queue: u32,
         stage: &mut S,
     ) -> Result<Vec<Entity>, Refusal>
-        ensures whole { IfOk result (λ spawned. play (act S.note) (requests self.now.commands) (S.seen stage.old) ≡ whole (reached (S.seen stage.new) spawned.items)) }
+        ensures whole { IfOk result (λ spawned. play (act S.note) (requests self.now.commands) (S.seen stage.old)
+            ≡ whole (reached (S.seen stage.new) spawned.items)) }
         ensures passed { OnErr result (IsPassed (act S.note) (requests self.now.commands) (S.seen stage.old) (S.seen stage.new)) }
-        ensures refused { IfErr result (λ r. r ≢ refusal_of NoMemory → Stops (act S.note) queue (requests self.now.commands) (S.seen stage.old) (S.seen stage.new) r) }
+        ensures refused { IfErr result (λ r. r ≢ refusal_of NoMemory
+            → Stops (act S.note) queue (requests self.now.commands) (S.seen stage.old) (S.seen stage.new) r) }
         ensures opening { S.opening stage.new ≡ S.opening stage.old }
     {
         apply_commands(self.alloc, queue, self.commands.as_slice(), stage)

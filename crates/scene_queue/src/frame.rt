@@ -25,11 +25,14 @@ pub fn apply_all<S: Stage>(
     stage: &mut S,
 ) -> Result<Vec<Entity>, Refusal>
     requires { length queues.now ≤ 4294967295 }
-    ensures whole { IfOk result (λ spawned. queues_from (act S.note) 0 (frame_of queues.now) (S.seen stage.old) ≡ Ok (spawned.items, S.seen stage.new)) }
+    ensures whole { IfOk result (λ spawned. queues_from (act S.note) 0 (frame_of queues.now) (S.seen stage.old)
+        ≡ Ok (spawned.items, S.seen stage.new)) }
     ensures refused { IfErr result (λ r. r ≢ refusal_of NoMemory → queues_from (act S.note) 0 (frame_of queues.now) (S.seen stage.old) ≡ Err r) }
     ensures passed { OnErr result (ArePassed (act S.note) (frame_of queues.now) (S.seen stage.old) (S.seen stage.new)) }
-    ensures world { IfOk result (λ spawned. queues_from perform 0 (frame_of queues.now) (S.seen stage.old).world ≡ Ok (spawned.items, (S.seen stage.new).world)) }
-    ensures world_refused { IfErr result (λ r. r ≢ refusal_of NoMemory → queues_from perform 0 (frame_of queues.now) (S.seen stage.old).world ≡ Err r) }
+    ensures world { IfOk result (λ spawned. queues_from perform 0 (frame_of queues.now) (S.seen stage.old).world
+        ≡ Ok (spawned.items, (S.seen stage.new).world)) }
+    ensures world_refused { IfErr result (λ r. r ≢ refusal_of NoMemory
+        → queues_from perform 0 (frame_of queues.now) (S.seen stage.old).world ≡ Err r) }
     ensures opening { S.opening stage.new ≡ S.opening stage.old }
 {
     let mut spawned = Vec::new(alloc);

@@ -1,22 +1,15 @@
 //! Queues: lists of commands that are applied to a world one after another, or not at all where one is refused.
 //!
-//! A `Command` is one of the nine of a world, or the recursive despawn that passes over a dead entity. It names its
-//! entities by a `Target`: an entity, or the k-th that the same queue has spawned. A `Queue` holds commands up to a
-//! limit, and `Queue::apply` performs them on any `Stage`, a world among them (docs/MODEL.md, "The rule of frames").
+//! A `Queue` holds commands up to a limit, and `Queue::apply` performs them on any `Stage`, a world among them
+//! (docs/MODEL.md, "The rule of frames").
 //!
 //! `specs/Queue.antt` says what a queue is, `specs/Requests.antt` what its commands ask of a world; what a list of
 //! them does is the fold of `specs/Queue.antt` in scene_world.
 #![tactic(auto)]
 
 mod apply;
-mod command;
-mod components;
 mod frame;
 mod queue;
-mod target;
 
-pub use command::Command;
-pub use components::Components;
 pub use frame::apply_all;
 pub use queue::{Queue, Returned};
-pub use target::Target;

@@ -4,12 +4,10 @@ ghost use Rattle.std.specs.Prelude.{vec_len, vec_capacity};
 ghost use Rattle.scene_kinds.specs.Answers.{Answers, refusal_of};
 ghost use Rattle.scene_kinds.specs.declared.fault.Fault.TheVariants.{NoMemory, QueueFull};
 ghost use Rattle.scene_queue.specs.Queue.{usual_limit, empty_queue, push_of, refusal_in, spawned_by, spawns};
-ghost use Rattle.scene_queue.specs.declared.command.Command.TheVariants.{Spawn};
-ghost use Rattle.scene_queue.specs.declared.target.Target.TheVariants.{New};
+ghost use Rattle.scene_commands.specs.declared.command.Command.TheVariants.{Spawn};
+ghost use Rattle.scene_commands.specs.declared.target.Target.TheVariants.{New};
 
-use crate::command::Command;
-use crate::components::Components;
-use crate::target::Target;
+use scene_commands::{Command, Components, Target};
 use scene_kinds::{Fault, Refusal};
 use std::alloc::{AllocError, Global};
 use std::marker::Model;
@@ -43,7 +41,8 @@ impl Model for Queue {
 
     ghost view = { λ q. record { limit = q.limit; commands = q.commands.items } };
 
-    ghost invariant = { λ q. (length q.commands.items ≤ q.limit) × (q.spawned ≡ spawns q.commands.items) × (q.spawned ≤ length q.commands.items) × (q.limit < 4294967296) };
+    ghost invariant = { λ q. (length q.commands.items ≤ q.limit) × (q.spawned ≡ spawns q.commands.items)
+        × (q.spawned ≤ length q.commands.items) × (q.limit < 4294967296) };
 }
 
 /// Whether a command spawns an entity.

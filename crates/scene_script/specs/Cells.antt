@@ -6,8 +6,8 @@ use Rattle.scene_kinds.specs.declared.value.Value.{Value}
 use Rattle.scene_kinds.specs.declared.value.Value.TheVariants as value
 use Rattle.scene_kinds.specs.Schema.{Kinds, number_of, shape_of, fits_kind}
 use Rattle.scene_kinds.specs.Shape.{shape_named}
-use Rattle.scene_queue.specs.declared.target.Target.{Target}
-use Rattle.scene_queue.specs.declared.target.Target.TheVariants as target
+use Rattle.scene_commands.specs.declared.target.Target.{Target}
+use Rattle.scene_commands.specs.declared.target.Target.TheVariants as target
 use Rattle.scene_script.specs.declared.bad_line.BadLine.{BadLine}
 use Rattle.scene_script.specs.declared.bad_line.BadLine.TheVariants as bad
 use Rattle.scene_script.specs.Words.{cut_at}

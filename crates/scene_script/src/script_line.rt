@@ -11,8 +11,8 @@ use crate::number::{bad_number, entity_word, read_count};
 use crate::slot_limit::SlotLimit;
 use crate::target::target_word;
 use crate::word::words;
+use scene_commands::{Command, Components};
 use scene_kinds::{Entity, Schema, Shape, Text};
-use scene_queue::{Command, Components};
 use std::alloc::{AllocError, Global};
 
 /// The meaning of a line (docs/SCRIPTS.md, "Lines").

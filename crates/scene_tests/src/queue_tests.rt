@@ -1,6 +1,7 @@
 //! Queues as code makes them.
+use scene_commands::{Command, Components, Target};
 use scene_kinds::{Entity, Fault, Schema, Value};
-use scene_queue::{Command, Components, Queue, Target};
+use scene_queue::Queue;
 use scene_world::World;
 use std::alloc::Global;
 use std::test::Fail;

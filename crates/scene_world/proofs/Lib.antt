@@ -1,5 +1,11 @@
+pub mod Homes
 pub mod LastFree
 pub mod MadeRoom
 pub mod Onto
 pub mod Room
 pub mod Shifts
+pub mod BuiltLists
+pub mod BuiltNames
+pub mod BuiltRows
+pub mod BuiltLinks
+pub mod BuiltWorlds

@@ -8,6 +8,7 @@ use Rattle.scene_model.specs.Commands.{spawn, despawn, despawn_recursive, insert
 use Rattle.scene_model.specs.Perform.{Command, Spawn, Despawn, DespawnRecursive, DespawnRecursiveIfAlive, Insert, Remove, SetParent, RemoveParent, PutResource, RemoveResource, answering}
 use Rattle.scene_model.specs.Queue.{Act}
 
+-- a world with what was noted of the commands on it
 pub record Staged (N : Type 0) : Type 0 where
   pub world : World
   pub notes : List N

@@ -4,6 +4,7 @@
 //! `scene_archetypes`. All growth comes before the first change, so that a refusal leaves the world as it was.
 #![tactic(auto)]
 
+mod built;
 mod given;
 mod moves;
 mod stage;

@@ -1,17 +1,20 @@
 //! The world: entities with their components, links and resources.
-ghost use Rattle.std.specs.Prelude.{◌≡◌, ◌≤◌, true, MatchResult, IfOk, IfSome, Ok, Err, option_map, map as each};
+ghost use Rattle.std.specs.Prelude.{◌≡◌, ◌≤◌, ℕ, length, slice_get, Some, true, MatchResult, IfOk, IfSome, Ok, Err, option_map, map as each};
 ghost use Rattle.scene_kinds.specs.Answers.{Gives};
 ghost use Rattle.scene_kinds.specs.Cells.{shown};
-ghost use Rattle.scene_model.specs.World.{new_world, is_live, mask_at, home_of, component_of, place_at, rows_of, kind_sets};
+ghost use Rattle.scene_model.specs.World.{new_world, is_live, mask_at, home_of, component_of, place_at, row_of, rows_of, kind_sets};
 ghost use Rattle.scene_table.specs.Tables.{rows_at};
 ghost use Rattle.scene_model.specs.Commands.{raise_tick};
 ghost use Rattle.scene_model.specs.World.{IsHomeOf};
 ghost use Rattle.scene_model.specs.Valid.{IsValid};
+ghost use Rattle.scene_world.specs.Homes.{home_at, home_of_index};
 ghost use Rattle.scene_world.specs.Room.{Holds, IsWider};
+ghost use Rattle.std.specs.Option.{option_flatten};
 
 mod cut_row;
 mod despawn;
 mod despawn_recursive;
+mod from_parts;
 mod insert;
 mod put_resource;
 mod put_row;
@@ -221,6 +224,28 @@ impl World {
     {
         let home = self.home_of(entity)?;
         Some(home.place as u32)
+    }
+
+    /// The table in which the row of a live entity stands, and the row's place there, from 0; else `None`. It has the
+    /// entity's cells with their kinds, ascending (`Table::cell_count`, `Table::nth_cell`).
+    pub fn row_of(&self, entity: Entity) -> Option<(&Table, usize)>
+        ensures row { option_map (λ at. slice_get at.0.now.rows at.1) result ≡ option_map (λ found. Some found.1) (row_of self.now.world entity) }
+        ensures home { option_map (λ at. home_at at.0.now.mask at.1) result ≡ home_of self.now.world entity }
+    {
+        let home = self.home_of(entity)?;
+        Some((self.tables.table_of_row(home), home.place))
+    }
+
+    /// Where the row of each live entity stands, by the entity's index: its kind set, in which kind k is bit k, and its
+    /// place in its table, from 0. An index that no live entity has gives `None`, and so does each behind the end of the
+    /// list, which is no longer than there are slots.
+    pub fn homes(&self) -> &[Option<Home>]
+        ensures each { (index : ℕ) → option_flatten (slice_get result.now index) ≡ home_of_index self.now.world index }
+        ensures few { length result.now ≤ length self.now.world.slots.generations }
+    {
+        let homes = self.tables.homes();
+        let count = self.slots.len().min(homes.len());
+        &homes[..count]
     }
 
     /// The table of a kind set, in which kind k is bit k, or `None` where it has no rows.

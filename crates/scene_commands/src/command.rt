@@ -1,4 +1,4 @@
-//! Commands of a queue.
+//! A command with its targets.
 ghost use Rattle.std.specs.Prelude.{◌≡◌, IfOk};
 
 use crate::components::Components;
@@ -6,7 +6,7 @@ use crate::target::Target;
 use scene_kinds::{Text, Value};
 use std::alloc::AllocError;
 
-/// A command of a queue (docs/MODEL.md, "The commands" and "The rule of frames").
+/// A command, as a queue takes it (docs/MODEL.md, "The commands" and "The rule of frames").
 #[derive(Drop, Clone, Debug)]
 pub enum Command {
     /// Spawns an entity with these components.

@@ -3,7 +3,7 @@ ghost use Rattle.std.specs.Prelude.{◌≡◌};
 ghost use Rattle.std.specs.Option.{ok_or};
 ghost use Rattle.scene_kinds.specs.Answers.{refusal_of};
 ghost use Rattle.scene_kinds.specs.declared.fault.Fault.TheVariants.{BadLocal};
-ghost use Rattle.scene_queue.specs.Requests.{both_in, target_in};
+ghost use Rattle.scene_commands.specs.Target.{target_entities, target_entity};
 
 use scene_kinds::{Entity, Fault, Refusal};
 
@@ -18,8 +18,8 @@ pub enum Target {
 
 impl Target {
     /// The entity, given those that the queue has spawned so far; `BadLocal` where it names one that isn't there yet.
-    pub(crate) fn entity(self, spawned: &[Entity]) -> Result<Entity, Refusal>
-        ensures { result ≡ ok_or (target_in self spawned.now) (refusal_of BadLocal) }
+    pub fn entity(self, spawned: &[Entity]) -> Result<Entity, Refusal>
+        ensures { result ≡ ok_or (target_entity self spawned.now) (refusal_of BadLocal) }
     {
         match self {
             Target::Id(entity) => Ok(entity),
@@ -31,12 +31,12 @@ impl Target {
     }
 
     /// The entities of two targets, the first being looked at first.
-    pub(crate) fn entities(
+    pub fn entities(
         first: Target,
         second: Target,
         spawned: &[Entity],
     ) -> Result<(Entity, Entity), Refusal>
-        ensures { result ≡ ok_or (both_in first second spawned.now) (refusal_of BadLocal) }
+        ensures { result ≡ ok_or (target_entities first second spawned.now) (refusal_of BadLocal) }
     {
         let first = first.entity(spawned)?;
         Ok((first, second.entity(spawned)?))

@@ -1,0 +1,15 @@
+use Rattle.std.proofs.Common.{◌≡◌, ◌∙◌, length, min, ap}
+use Rattle.scene_model.specs.World.{World}
+use Rattle.scene_world.specs.Homes.{home_of_index}
+use Rattle.scene_world.specs.Stored.{world_of}
+use Rattle.scene_world.proofs.Room.{seen_world}
+use Rattle.scene_world.proofs.Homes.{each_home}
+use Rattle.scene_world.proofs.world.World.homes.Goals as goal
+
+pub returns-clause-each : goal.returns-clause-each
+returns-clause-each c = λ index.
+    let w = c.self.inside in
+    let old : World = world_of w.schema w.slots w.tick w.tables.tables w.links.forest w.resources in
+    let homes = c.homes-homes.result.now in
+    let count : c.min-count.result ≡ min (length w.slots.state.generations) (length homes) = c.min-count.ensures ∙ ap (λ n. min n (length homes)) c.len.ensures.count in
+    each_home old homes c.min-count.result index c.self.invariant c.homes-homes.ensures count ∙ ap (λ (v : World). home_of_index v index) (seen_world c.self.view_is)
