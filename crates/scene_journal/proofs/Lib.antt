@@ -16,8 +16,10 @@ pub mod Recorded
 pub mod Records
 pub mod RowCells
 pub mod ShiftedKinds
+pub mod SomeDeltas
 pub mod Spawns
 pub mod Stages
 pub mod Standing
+pub mod TimelyCells
 pub mod Truncated
 pub mod Turns

@@ -2,6 +2,7 @@ pub mod Ascending
 pub mod CommandLaws
 pub mod Deltas
 pub mod Examples
+pub mod Faults
 pub mod Frames
 pub mod Laws
 pub mod Notes
@@ -9,3 +10,4 @@ pub mod Ready
 pub mod Recorder
 pub mod Records
 pub mod Standing
+pub mod Timely

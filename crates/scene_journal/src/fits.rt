@@ -23,7 +23,7 @@ use scene_table::Table;
 use scene_world::World;
 
 /// Whether a cell was added no later than it was changed, and changed no later than a tick.
-fn is_timely(cell: &Cell, tick: u64) -> bool
+pub(crate) fn is_timely(cell: &Cell, tick: u64) -> bool
     ensures { result ≡ is_timely tick cell.now }
 {
     cell.added <= cell.changed && cell.changed <= tick

@@ -11,21 +11,27 @@
 
 mod cuts;
 mod delta;
+mod drafts;
 mod examples;
+mod faults;
 mod fits;
 mod fits_back;
 mod laws;
 mod notes;
 mod record;
 mod recorder;
+mod redo;
 mod same;
 mod sound;
 mod spawned;
 mod steps;
+mod timely;
 
 pub use delta::Delta;
 pub use examples::worked_records_hold;
+pub use faults::faults_are_faults;
 pub use laws::{commands_are_deltas, deltas_come_back, frames_are_records, records_come_back};
 pub use record::FrameRecord;
 pub use recorder::Recorder;
+pub use redo::{redo_delta, undo_delta};
 pub use steps::{make_again, make_all_again, take_all_back, take_back};

@@ -10,7 +10,7 @@ use scene_kinds::Entity;
 use scene_world::World;
 
 /// A link as the calls of a world take it.
-fn wide(link: Option<(Entity, u32)>) -> Option<(Entity, usize)>
+pub(crate) fn wide(link: Option<(Entity, u32)>) -> Option<(Entity, usize)>
     ensures { result ≡ link }
 {
     let (parent, place) = link?;

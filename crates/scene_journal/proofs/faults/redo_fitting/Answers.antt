@@ -1,0 +1,25 @@
+use Rattle.std.proofs.Common.{◌≡◌, true, false, sym, ◌∙◌}
+use Rattle.scene_world.proofs.Room.{wider_wider}
+use Rattle.scene_journal.proofs.SomeDeltas.{made_next, fit_next, unfit_here}
+use Rattle.scene_journal.proofs.faults.redo_fitting.Goals as goal
+
+pub returns-then-not-fits_on-clause-refused : goal.returns-then-not-fits_on-clause-refused
+returns-then-not-fits_on-clause-refused c = λ other. (
+  c.loop-number.number,
+  (
+    c.bad_record.ensures,
+    unfit_here c.args.deltas.now c.args.draft.now.world c.loop-number.draft.world c.loop-number.number c.index-deltas-number.result c.loop-number-test.true c.index-deltas-number.is c.loop-number.invariant.1.0
+        c.loop-number.invariant.0 (λ fits. absurd (let both : false ≡ true = sym c.if-not-fits_on.true ∙ c.fits_on.ensures.1 fits in cc)),
+  ),
+)
+
+pub loop-number-preserved : goal.loop-number-preserved
+loop-number-preserved c = (
+  fit_next c.args.deltas.now c.args.draft.now.world c.loop-number.draft.world c.loop-number.number c.index-deltas-number.result c.loop-number-test.true c.index-deltas-number.is c.loop-number.invariant.1.0
+      c.loop-number.invariant.0 (c.fits_on.ensures.0 c.if-not-fits_on.false),
+  (
+    made_next c.args.deltas.now c.args.draft.now.world c.loop-number.draft.world c.loop-number.number c.index-deltas-number.result c.loop-number-test.true c.index-deltas-number.is c.loop-number.invariant.1.0
+        c.redo_delta.new.world.world c.in_ok-redo_delta.ensures.done,
+    wider_wider c.args.draft.now.room c.loop-number.draft.room c.redo_delta.new.world.room c.loop-number.invariant.1.1 c.redo_delta.ensures.wide,
+  ),
+)
