@@ -90,7 +90,8 @@ impl Editor {
     }
 
     /// Does a frame, all or nothing: it raises the world's tick by one and applies the queues in order
-    /// (docs/MODEL.md, "The rule of frames"). What was undone is forgotten. It costs what the frame changes.
+    /// (docs/MODEL.md, "The rule of frames"). What was undone is forgotten. It costs what the frame changes, refused or not,
+    /// and the records that are forgotten.
     ///
     /// Refused, in this order, and then the editor is as it was: `TickFull`; the first command's refusal, with its
     /// place; `NoMemory`.
