@@ -5,3 +5,4 @@ pub mod Walk
 pub mod Scene
 pub mod Laws
 pub mod Examples
+pub mod Outcome
