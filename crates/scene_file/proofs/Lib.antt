@@ -4,3 +4,10 @@ pub mod SchemaBack
 pub mod RowsBack
 pub mod SceneBack
 pub mod WorldBack
+pub mod Walking
+pub mod Lists
+pub mod Parted
+pub mod Keys
+pub mod TableKinds
+pub mod TextFaults
+pub mod SceneSteps

@@ -1,7 +1,7 @@
 -- Rows that were written are read again, and the kinds of their table.
 use Rattle.std.proofs.Common.{◌≡◌, ℕ, zero, suc, ◌+◌, ◌^◌, ◌<◌, ◌≤◌, Bool, true, false, cond, T, List, [], ◌∷◌, length, refl, ap, sym, subst, ◌∙◌, arith, Some, None, Ok, is_some, nat_eq, nat_lt}
 use Rattle.std.specs.Prelude.{map as each, codes, filter, fold}
-use Rattle.std.specs.List.{list_all, range_with_len, zip, AllByRecursion}
+use Rattle.std.specs.List.{list_all, range_with_len, zip, AllByRecursion, cons_option}
 use Rattle.std.specs.Ordering.{nat_cmp, eq_by_cmp, is_lt}
 use Rattle.std.specs.declared.cmp.Ordering.TheVariants.{Less}
 use Rattle.std.specs.Cmp.{nat_cmp_total}
@@ -27,7 +27,7 @@ use Rattle.scene_parts.specs.Parts.{keys}
 use Rattle.scene_parts.proofs.Tests.{and_is, all_with}
 use Rattle.scene_file.specs.Reading.{◌>>=◌, if_good, elements, place_in, under}
 use Rattle.scene_file.specs.Text.{items_of, entity_json, cell_text, row_text, kinds_of}
-use Rattle.scene_file.specs.Walk.{entity_at, cell_at, cells_from, with_shape, shapes_of, set_of, row_at}
+use Rattle.scene_file.specs.Walk.{entity_at, cell_at, cells_from, shapes_of, set_of, row_at}
 use Rattle.scene_file.proofs.ListsBack.{ReadsBack, after, good, elements_written, Follow}
 use Rattle.scene_file.proofs.ValuesBack.{entity_back, cell_back}
 
@@ -78,7 +78,7 @@ cells_back schema [] h path i = refl
 cells_back schema (c ∷ cs) h path i =
     let p = and_is (fits_kind schema c.1.value c.0) (list_all (λ c. fits_kind schema c.1.value c.0) cs) h in
     let f = fits_is schema c.1.value c.0 p.0 in
-    ap (λ o. cells_from (with_shape o (shapes_of schema (keys cs))) path i (cell_text c.1 ∷ each (λ (c : ℕ × Cell). cell_text c.1) cs)) f.shape
+    ap (λ o. cells_from (cons_option o (shapes_of schema (keys cs))) path i (cell_text c.1 ∷ each (λ (c : ℕ × Cell). cell_text c.1) cs)) f.shape
     ∙ after (cell_at (shape_of_value c.1.value) (place_in path i) (cell_text c.1)) c.1
     (λ x. cells_from (shapes_of schema (keys cs)) path (i + 1) (each (λ (c : ℕ × Cell). cell_text c.1) cs) >>= λ rest. Ok (x ∷ rest))
     (Ok (c.1 ∷ each (λ (c : ℕ × Cell). c.1) cs)) (cell_back c.1 f.range (place_in path i))
@@ -89,7 +89,7 @@ as_many : (schema : Kinds) (cells : Cells) → AllFit schema cells → length (e
 as_many schema [] h = refl
 as_many schema (c ∷ cs) h =
     let p = and_is (fits_kind schema c.1.value c.0) (list_all (λ c. fits_kind schema c.1.value c.0) cs) h in
-    ap suc (as_many schema cs p.1) ∙ sym (ap (λ o. length (with_shape o (shapes_of schema (keys cs)))) (fits_is schema c.1.value c.0 p.0).shape)
+    ap suc (as_many schema cs p.1) ∙ sym (ap (λ o. length (cons_option o (shapes_of schema (keys cs)))) (fits_is schema c.1.value c.0 p.0).shape)
 
 zip_keys : (cells : Cells) → zip (keys cells) (each (λ (c : ℕ × Cell). c.1) cells) ≡ cells
 zip_keys [] = refl

@@ -1,5 +1,7 @@
 -- The numbers and names of file faults (docs/SCENE_FILES.md, "File faults").
 use Rattle.std.specs.Prelude.{ℕ, List, codes}
+use Rattle.scene_streams.specs.declared.source.ReadError.{ReadError}
+use Rattle.scene_streams.specs.declared.source.ReadError.TheVariants as read
 use Rattle.scene_file.specs.declared.fault.FileFault.{FileFault}
 use Rattle.scene_file.specs.declared.fault.FileFault.TheVariants as file
 
@@ -26,3 +28,9 @@ file_name (file.BadVersion version) = codes "BadVersion"
 file_name file.ReadFault = codes "ReadFault"
 file_name file.WriteFault = codes "WriteFault"
 file_name file.TooLong = codes "TooLong"
+
+-- the fault of a reader that wasn't read to its end
+abbrev pub of_read_error : ReadError → FileFault
+of_read_error read.Fault = file.ReadFault
+of_read_error read.TooLong = file.TooLong
+of_read_error read.NoMemory = file.NoMemory

@@ -6,3 +6,6 @@ pub mod Scene
 pub mod Laws
 pub mod Examples
 pub mod Outcome
+pub mod Paths
+pub mod Members
+pub mod TableKinds

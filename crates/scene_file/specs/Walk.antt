@@ -1,6 +1,6 @@
 -- The walk through a scene text of version 1 (docs/SCENE_FILES.md, "The walk"): the parts that it says, or the first fault.
 use Rattle.std.specs.Prelude.{ℕ, ℤ, ◌+◌, ◌^◌, List, [], ◌∷◌, codes, Bool, ◌&&◌, Option, Some, None, Result, Ok, Err, option_and_then, nat_eq, nat_le, nat_lt, length, if◌then◌else◌, sum_by}
-use Rattle.std.specs.List.{zip}
+use Rattle.std.specs.List.{filter_map, zip}
 use Rattle.std.specs.Ordering.{is_lt}
 use Rattle.serde_json.specs.Data.{Data, Members}
 use Rattle.serde_json.specs.Find.{as_bool, as_number, as_i64, as_object, as_str, as_u64}
@@ -83,6 +83,9 @@ cells_from [] path i [] = Ok []
 cells_from (s ∷ ss) path i (d ∷ ds) = cell_at s (place_in path i) d >>= λ c. cells_from ss path (i + 1) ds >>= λ cs. Ok (c ∷ cs)
 cells_from ss path i ds = Err (BadField path)
 
+abbrev pub cells_at : List Shape → List ℕ → Data → Result (List Cell) FileFault
+cells_at shapes path d = list_at path d >>= λ cells. if_good path (nat_eq (length cells) (length shapes)) cells >>= cells_from shapes path 0
+
 -- ---- the elements of the lists
 
 -- a kind: its name and its shape
@@ -123,20 +126,15 @@ resource_at path d =
 abbrev pub set_of : List ℕ → ℕ
 set_of kinds = sum_by (λ k. 2 ^ k) kinds
 
--- the shapes of kinds that are there
-abbrev pub with_shape : Option Shape → List Shape → List Shape
-with_shape None ss = ss
-with_shape (Some s) ss = s ∷ ss
-
+-- the shapes of kinds, of those that are there
 abbrev pub shapes_of : Kinds → List ℕ → List Shape
-shapes_of schema [] = []
-shapes_of schema (k ∷ ks) = with_shape (shape_of schema k) (shapes_of schema ks)
+shapes_of schema kinds = filter_map (shape_of schema) kinds
 
 -- a row of kinds of these shapes
 abbrev pub row_at : List ℕ → List Shape → List ℕ → Data → Result Row FileFault
 row_at kinds shapes path d =
     object_at (codes "cells" ∷ codes "entity" ∷ []) path d
-    >>= λ ms. key_of (λ at ds. list_at at ds >>= λ cells. if_good at (nat_eq (length cells) (length shapes)) cells >>= cells_from shapes at 0) path (codes "cells") ms
+    >>= λ ms. key_of (cells_at shapes) path (codes "cells") ms
     >>= λ cells. key_of entity_at path (codes "entity") ms >>= λ entity. Ok (record { entity = entity; cells = zip kinds cells })
 
 -- a table: its kinds, which rise, and its rows

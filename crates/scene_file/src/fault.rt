@@ -1,8 +1,11 @@
 //! The faults of scene files.
 ghost use Rattle.std.specs.Prelude.{◌≡◌};
-ghost use Rattle.scene_file.specs.Fault.{file_number, file_name};
+ghost use Rattle.scene_file.specs.Fault.{file_number, file_name, of_read_error};
+ghost use Rattle.scene_file.specs.declared.fault.FileFault.TheVariants.{NoMemory};
 
 use scene_kinds::Text;
+use scene_streams::ReadError;
+use std::alloc::{AllocError, AllocFailed};
 use thiserror::Error;
 
 /// Why a scene text wasn't read or written (docs/SCENE_FILES.md, "File faults").
@@ -65,6 +68,35 @@ impl FileFault {
             FileFault::ReadFault => "ReadFault",
             FileFault::WriteFault => "WriteFault",
             FileFault::TooLong => "TooLong",
+        }
+    }
+}
+
+impl From<AllocError> for FileFault {
+    ghost from_gives = { λ _ fault. fault ≡ NoMemory };
+
+    fn from(_error: AllocError) -> FileFault {
+        FileFault::NoMemory
+    }
+}
+
+/// What wasn't stored is dropped.
+impl<T: Drop> From<AllocFailed<T>> for FileFault {
+    ghost from_gives = { λ _ fault. fault ≡ NoMemory };
+
+    fn from(_error: AllocFailed<T>) -> FileFault {
+        FileFault::NoMemory
+    }
+}
+
+impl From<ReadError> for FileFault {
+    ghost from_gives = { λ error fault. fault ≡ of_read_error error };
+
+    fn from(error: ReadError) -> FileFault {
+        match error {
+            ReadError::Fault => FileFault::ReadFault,
+            ReadError::TooLong => FileFault::TooLong,
+            ReadError::NoMemory => FileFault::NoMemory,
         }
     }
 }

@@ -10,8 +10,20 @@
 
 mod examples;
 mod fault;
+mod form;
 mod laws;
+mod loading;
+mod object;
+mod path;
+mod read_kinds;
+mod read_numbers;
+mod read_rows;
+mod read_scene;
+mod read_texts;
+mod read_values;
+mod rising;
 
 pub use examples::worked_texts;
 pub use fault::FileFault;
 pub use laws::written_worlds_are_read_again;
+pub use loading::{load, load_text};

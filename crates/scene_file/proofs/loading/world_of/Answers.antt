@@ -1,0 +1,6 @@
+use Rattle.scene_parts.specs.Seen.{seen}
+use Rattle.scene_file.proofs.TextFaults.{world_made}
+use Rattle.scene_file.proofs.loading.world_of.Goals as goal
+
+pub returns-in-Ok-clause-found : goal.returns-in-Ok-clause-found
+returns-in-Ok-clause-found c = world_made (seen c.args.parts) c.in-Ok.world.world c.in-Ok.ensures

@@ -1,0 +1,101 @@
+//! Loading a world from a scene text.
+ghost use Rattle.std.specs.Prelude.{◌≡◌, ◌≢◌, ◌<◌, ◌≤◌, ◌⊎◌, ◌↔◌, true, false, length, Ok, Err, IfOk, IfErr, IfSome, OnOk};
+ghost use Rattle.std.specs.Io.KnownBytes.{IsAtEnd};
+ghost use Rattle.serde_json.specs.View.{view};
+ghost use Rattle.scene_streams.specs.Source.{reader_of, turns_left, read_failed};
+ghost use Rattle.scene_streams.specs.Limits.{most_bytes};
+ghost use Rattle.scene_parts.specs.Rules.{first_broken};
+ghost use Rattle.scene_parts.specs.Seen.{seen};
+ghost use Rattle.scene_file.specs.Outcome.{IsFault, IsTextFault};
+ghost use Rattle.scene_file.specs.Scene.{if_unbroken, loaded, world_in as world_said};
+ghost use Rattle.scene_file.specs.declared.fault.FileFault.TheVariants.{ReadFault, TooLong, WriteFault};
+
+use crate::fault::FileFault;
+use crate::read_scene::parts_in;
+use scene_kinds::Fault;
+use scene_parts::WorldParts;
+use scene_streams::Source;
+use scene_world::World;
+use serde_json::{Category, Value};
+use std::alloc::Global;
+use std::io::Read;
+
+/// The value of a JSON text.
+#[tactic(auto, using(crate::proofs::TextFaults::loading))]
+fn value_of(alloc: Global, text: &[u8]) -> Result<Value, FileFault>
+    ensures found { IfOk result (λ value. loaded text.now ≡ world_said (view value)) }
+    ensures fault { IfErr result (λ e. IsTextFault e (loaded text.now)) }
+{
+    match Value::from_slice(alloc, text) {
+        Ok(value) => Ok(value),
+        Err(error) => {
+            if error.classify() == Category::Memory {
+                Err(FileFault::NoMemory)
+            } else {
+                Err(FileFault::NotJson)
+            }
+        }
+    }
+}
+
+/// The world of parts, unless they break a rule.
+#[tactic(auto, using(crate::proofs::TextFaults::loading))]
+fn world_of(alloc: Global, parts: WorldParts) -> Result<World, FileFault>
+    ensures found { IfOk result (λ world. if_unbroken (first_broken (seen parts)) (seen parts) ≡ Ok world.world) }
+    ensures fault { IfErr result (λ e. IsTextFault e (if_unbroken (first_broken (seen parts)) (seen parts))) }
+{
+    match World::from_parts(alloc, parts) {
+        Ok(world) => Ok(world),
+        Err(refusal) => match refusal.fault {
+            Fault::BadWorld(rule) => Err(FileFault::BadWorld(rule)),
+            _ => Err(FileFault::NoMemory),
+        },
+    }
+}
+
+/// The world of a text.
+#[tactic(auto, using(crate::proofs::Walking::walking, crate::proofs::TextFaults::loading))]
+fn world_in(alloc: Global, text: &[u8]) -> Result<World, FileFault>
+    ensures found { IfOk result (λ world. loaded text.now ≡ Ok world.world) }
+    ensures fault { IfErr result (λ e. IsTextFault e (loaded text.now)) }
+{
+    let value = value_of(alloc, text)?;
+    let parts = parts_in(alloc, &value)?;
+    world_of(alloc, parts)
+}
+
+/// The world that a scene text of version 1 says (docs/SCENE_FILES.md, "Reading").
+///
+/// Refused, in this order: `NotJson`; `BadField` and `BadVersion` of the head; `UnknownKey` and `BadField`, the first that
+/// the walk through the text meets, with its path; `BadWorld` with the first rule that is broken. `NoMemory` may stand in
+/// place of any answer. It costs the text's length, and for the keys of objects, the kind sets of tables and the names of
+/// resources their number times its logarithm.
+#[tactic(auto, using(crate::proofs::TextFaults::loading))]
+pub fn load_text(alloc: Global, text: &[u8]) -> Result<World, FileFault>
+    ensures world { IfOk result (λ world. loaded text.now ≡ Ok world.world) }
+    ensures fault { IfErr result (λ e. IsFault e (loaded text.now)) }
+    ensures stream { IfErr result (λ e. (e ≢ ReadFault) × (e ≢ WriteFault) × (e ≢ TooLong)) }
+{
+    world_in(alloc, text)
+}
+
+/// The world that a reader's text says: `load_text` of all its bytes (docs/SCENE_FILES.md, "Reading").
+///
+/// Refused: `ReadFault` exactly where the source has failed, now or before, and where it hadn't then in a call of its
+/// reader; `TooLong` where there are more than 67,108,864 bytes, or the end doesn't come in the turns of the source; and
+/// then as `load_text` refuses.
+#[tactic(auto, using(crate::proofs::TextFaults::loading))]
+pub fn load<R: Read>(alloc: Global, source: &mut Source<R>) -> Result<World, FileFault>
+    ensures world { IfOk result (λ world. IfSome (R.remaining (reader_of source.old)) (λ text. loaded text ≡ Ok world.world)) }
+    ensures within { OnOk result (IfSome (R.remaining (reader_of source.old)) (λ text. length text ≤ most_bytes)) }
+    ensures end { OnOk result (IsAtEnd (R.remaining (reader_of source.new))) }
+    ensures fault { IfErr result (λ e. e ≢ ReadFault → e ≢ TooLong → IfSome (R.remaining (reader_of source.old)) (λ text. IsFault e (loaded text))) }
+    ensures read { (result ≡ Err ReadFault) ↔ (read_failed source.new ≡ true) }
+    ensures marked { read_failed source.old ≡ true → source.new ≡ source.old }
+    ensures called { read_failed source.old ≡ false → IfErr result (λ e. e ≡ ReadFault → turns_left source.new < turns_left source.old) }
+    ensures long { IfErr result (λ e. e ≡ TooLong
+        → (turns_left source.new ≡ 0) ⊎ IfSome (R.remaining (reader_of source.old)) (λ text. most_bytes < length text)) }
+{
+    let text = source.read_all(alloc)?;
+    load_text(alloc, text.as_slice())
+}

@@ -1,0 +1,188 @@
+//! Rows and tables.
+ghost use Rattle.std.specs.Prelude.{◌≡◌, Ok, None, IfOk, IfErr, length, map as each};
+ghost use Rattle.std.specs.List.{zip};
+ghost use Rattle.serde_json.specs.View.{view};
+ghost use Rattle.scene_file.specs.TableKinds.{AreRising};
+ghost use Rattle.scene_file.specs.Outcome.{IsTextFault};
+ghost use Rattle.scene_file.specs.Paths.{path_bytes};
+ghost use Rattle.scene_file.specs.Walk.{cells_from, set_of, shapes_of};
+
+use crate::fault::FileFault;
+use crate::form::{Form, ListOf, list_at};
+use crate::object::{key_of, object_at};
+use crate::path::{Path, bad_field};
+use crate::read_numbers::KindNumberForm;
+use crate::read_texts::EntityForm;
+use crate::read_values::CellForm;
+use crate::rising::{Ordered, Rising};
+use scene_kinds::{Cell, Cells, KindSet, Row, Schema, Shape};
+use serde_json::Value;
+use std::alloc::{AllocError, Global};
+
+/// The cells of a row, one for each of its table's kinds.
+#[tactic(auto, using(crate::proofs::Walking::walking))]
+fn cells_from(
+    alloc: Global,
+    path: &Path<'_>,
+    shapes: &[Shape],
+    values: &[Value],
+) -> Result<Vec<Cell>, FileFault>
+    requires { length shapes.now ≡ length values.now }
+    ensures found { IfOk result (λ cells. cells_from shapes.now (path_bytes path.now) 0 (each view values.now) ≡ Ok cells.items) }
+    ensures fault { IfErr result (λ e. IsTextFault e (cells_from shapes.now (path_bytes path.now) 0 (each view values.now))) }
+{
+    let mut cells = Vec::new(alloc);
+    for (place, value) in values.iter().enumerate() {
+        let form = CellForm(shapes[place]);
+        let cell = form.read(alloc, &Path::Item(&*path, place), value)?;
+        cells.push(cell)?;
+    }
+    Ok(cells)
+}
+
+/// Cells of these shapes.
+#[derive(Drop)]
+struct CellsForm<'a> {
+    shapes: &'a [Shape],
+}
+
+impl Form for CellsForm<'_> {
+    ghost use Rattle.std.specs.Prelude.{List, true};
+    ghost use Rattle.scene_kinds.specs.declared.cell.Cell.{Cell};
+    ghost use Rattle.scene_file.specs.Walk.{cells_at};
+
+    type Item = Vec<Cell>;
+
+    ghost Meant = { List Cell };
+
+    ghost meant = { λ cells. cells.items };
+
+    ghost word = { λ form. cells_at form.shapes.now };
+
+    ghost follows = { λ _ _. true };
+
+    #[tactic(auto, using(crate::proofs::Walking::walking))]
+    fn read(&self, alloc: Global, path: &Path<'_>, value: &Value) -> Result<Vec<Cell>, FileFault> {
+        let values = list_at(alloc, path, value)?;
+        if values.len() != self.shapes.len() {
+            return Err(bad_field(alloc, path));
+        }
+        cells_from(alloc, path, self.shapes, values)
+    }
+}
+
+/// Cells with their kinds.
+fn with_kinds(alloc: Global, kinds: &[u8], cells: Vec<Cell>) -> Result<Vec<(u8, Cell)>, AllocError>
+    ensures { IfOk result (λ row. row.items ≡ zip kinds.now cells.items) }
+{
+    kinds.iter().copied().zip(cells).collect(alloc)
+}
+
+/// Rows of kinds with these shapes.
+#[derive(Drop)]
+struct RowForm<'a> {
+    kinds: &'a [u8],
+    shapes: &'a [Shape],
+}
+
+impl Form for RowForm<'_> {
+    ghost use Rattle.std.specs.Prelude.{true};
+    ghost use Rattle.scene_kinds.specs.declared.cells.Row.{Row};
+    ghost use Rattle.scene_file.specs.Walk.{row_at};
+
+    type Item = Row;
+
+    ghost Meant = { Row };
+
+    ghost meant = { λ row. row };
+
+    ghost word = { λ form. row_at form.kinds.now form.shapes.now };
+
+    ghost follows = { λ _ _. true };
+
+    #[tactic(auto, using(crate::proofs::Walking::walking))]
+    fn read(&self, alloc: Global, path: &Path<'_>, value: &Value) -> Result<Row, FileFault> {
+        object_at(alloc, path, value, &["cells", "entity"])?;
+        let form = CellsForm {
+            shapes: self.shapes,
+        };
+        let cells = key_of(alloc, &form, path, value, "cells")?;
+        let entity = key_of(alloc, &EntityForm, path, value, "entity")?;
+        let cells = with_kinds(alloc, self.kinds, cells)?;
+        Ok(Row {
+            entity,
+            cells: Cells::from_vec(cells),
+        })
+    }
+}
+
+/// The shapes of kinds.
+fn shapes_of(alloc: Global, schema: &Schema, kinds: &[u8]) -> Result<Vec<Shape>, AllocError>
+    ensures { IfOk result (λ shapes. shapes.items ≡ shapes_of schema.now kinds.now) }
+{
+    kinds
+        .iter()
+        .filter_map(|kind| schema.shape_of(*kind))
+        .collect(alloc)
+}
+
+/// The kind set of kinds.
+fn set_of(kinds: &[u8]) -> KindSet
+    requires { AreRising 64 None kinds.now }
+    ensures { result ≡ set_of kinds.now }
+{
+    let mut set: u64 = 0;
+    for kind in kinds {
+        set += 1u64 << *kind;
+    }
+    set
+}
+
+/// Tables of these kinds.
+#[derive(Drop)]
+pub(crate) struct TableForm<'a> {
+    pub(crate) schema: &'a Schema,
+}
+
+impl Form for TableForm<'_> {
+    ghost use Rattle.std.specs.Prelude.{ℕ, List};
+    ghost use Rattle.scene_kinds.specs.declared.cells.Row.{Row};
+    ghost use Rattle.scene_file.specs.Walk.{table_at, table_follows};
+
+    type Item = (KindSet, Vec<Row>);
+
+    ghost Meant = { ℕ × List Row };
+
+    ghost meant = { λ table. (table.0, table.1.items) };
+
+    ghost word = { λ form. table_at form.schema.now };
+
+    ghost follows = { table_follows };
+
+    #[tactic(auto, using(crate::proofs::Walking::walking, crate::proofs::TableKinds::kinds))]
+    fn read(
+        &self,
+        alloc: Global,
+        path: &Path<'_>,
+        value: &Value,
+    ) -> Result<(KindSet, Vec<Row>), FileFault> {
+        object_at(alloc, path, value, &["kinds", "rows"])?;
+        let form = Rising(KindNumberForm {
+            count: self.schema.len() as u8,
+        });
+        let kinds = key_of(alloc, &form, path, value, "kinds")?;
+        let shapes = shapes_of(alloc, self.schema, kinds.as_slice())?;
+        let form = ListOf(RowForm {
+            kinds: kinds.as_slice(),
+            shapes: shapes.as_slice(),
+        });
+        let rows = key_of(alloc, &form, path, value, "rows")?;
+        Ok((set_of(kinds.as_slice()), rows))
+    }
+}
+
+impl Ordered for TableForm<'_> {
+    fn follows(&self, before: &(KindSet, Vec<Row>), item: &(KindSet, Vec<Row>)) -> bool {
+        before.0 < item.0
+    }
+}

@@ -1,0 +1,88 @@
+//! Lists whose elements follow one another in an order.
+ghost use Rattle.std.specs.Prelude.{◌≡◌, ◌-◌, Ok, None, IfOk, IfErr, length, slice_get, map as each};
+ghost use Rattle.serde_json.specs.View.{view};
+ghost use Rattle.scene_file.specs.Outcome.{IsTextFault};
+ghost use Rattle.scene_file.specs.Paths.{path_bytes};
+ghost use Rattle.scene_file.specs.Reading.{may_follow, rising_at};
+
+use crate::fault::FileFault;
+use crate::form::{Form, list_at};
+use crate::path::{Path, bad_field};
+use serde_json::Value;
+use std::alloc::Global;
+
+/// A form whose values stand in lists in an order.
+pub(crate) trait Ordered: Form {
+    /// Whether an item may stand after another.
+    fn follows(&self, before: &Self::Item, item: &Self::Item) -> bool
+        ensures { result ≡ Self.follows (Self.meant before.now) (Self.meant item.now) };
+}
+
+/// Whether an item may stand after those before it.
+#[tactic(auto, using(crate::proofs::Lists::lists))]
+fn may_follow<F: Ordered>(form: &F, before: &[F::Item], item: &F::Item) -> bool
+    ensures { result ≡ may_follow F.follows (slice_get (each F.meant before.now) (length before.now - 1)) (F.meant item.now) }
+{
+    match before.last() {
+        Some(last) => form.follows(last, item),
+        None => true,
+    }
+}
+
+/// Each element of a list, read as a form; one that may not follow the one before it is a bad field, after its own parts.
+#[tactic(auto, using(crate::proofs::Walking::walking))]
+fn rising_at<F: Ordered>(
+    alloc: Global,
+    form: &F,
+    path: &Path<'_>,
+    values: &[Value],
+) -> Result<Vec<F::Item>, FileFault>
+where
+    F::Item: Drop,
+    ensures found { IfOk result (λ items. rising_at (F.word form.now) F.follows (path_bytes path.now) 0 None (each view values.now) ≡ Ok (each F.meant items.items)) }
+    ensures fault { IfErr result (λ e. IsTextFault e (rising_at (F.word form.now) F.follows (path_bytes path.now) 0 None (each view values.now))) }
+{
+    let mut items = Vec::new(alloc);
+    for (place, value) in values.iter().enumerate() {
+        let at = Path::Item(&*path, place);
+        let item = form.read(alloc, &at, value)?;
+        if !may_follow(form, items.as_slice(), &item) {
+            return Err(bad_field(alloc, &at));
+        }
+        items.push(item)?;
+    }
+    Ok(items)
+}
+
+/// A list whose elements are of a form and in its order.
+#[derive(Drop)]
+pub(crate) struct Rising<F>(pub(crate) F);
+
+impl<F: Ordered> Form for Rising<F>
+where
+    F::Item: Drop,
+{
+    ghost use Rattle.std.specs.Prelude.{List, true};
+    ghost use Rattle.scene_file.specs.Reading.{rising_of};
+
+    type Item = Vec<F::Item>;
+
+    ghost Meant = { List F.Meant };
+
+    ghost meant = { λ items. each F.meant items.items };
+
+    ghost word = { λ list. rising_of (F.word list.0) F.follows };
+
+    ghost follows = { λ _ _. true };
+
+    #[tactic(auto, using(crate::proofs::Walking::walking))]
+    fn read(
+        &self,
+        alloc: Global,
+        path: &Path<'_>,
+        value: &Value,
+    ) -> Result<Vec<F::Item>, FileFault> {
+        let values = list_at(alloc, path, value)?;
+        rising_at(alloc, &self.0, path, values)
+    }
+}
