@@ -6,3 +6,5 @@ pub mod Scene
 pub mod Laws
 pub mod Examples
 pub mod Outcome
+pub mod Saving
+pub mod Printing
