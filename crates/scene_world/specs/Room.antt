@@ -43,8 +43,10 @@ pub record IsWider (old new : Room) : Type 0 where
 
 -- ---- the parts of what contracts see, as those of the parts see them
 
+-- the slots with their room
 abbrev pub stored_slots : Housed → StoredSlots
 stored_slots h = record { state = h.world.slots; capacity = h.room.slots }
 
+-- the tables and homes with their room
 abbrev pub stored_rows : Housed → ArchetypesState
 stored_rows h = record { tables = h.world.tables; rooms = h.room.rows; homes = h.room.homes }
