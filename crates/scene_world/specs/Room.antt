@@ -24,7 +24,8 @@ pub record Housed : Type 0 where
 
 -- the room of the parts of the code
 abbrev pub room_of : StoredSlots → ArchetypesState → LinksState → StoredResources → Room
-room_of slots tables links resources = record { slots = slots.capacity; rows = tables.rooms; homes = tables.homes; lists = links.room; names = resources.kept }
+room_of slots tables links resources =
+    record { slots = slots.capacity; rows = tables.rooms; homes = tables.homes; lists = links.room; names = resources.kept }
 
 -- a world needs no more memory than this room
 pub record Holds (room : Room) (w : World) : Type 0 where
