@@ -11,3 +11,8 @@ pub mod Keys
 pub mod TableKinds
 pub mod TextFaults
 pub mod SceneSteps
+pub mod Quoted
+pub mod ListsWritten
+pub mod Objects
+pub mod Found
+pub mod KindLists

@@ -9,3 +9,5 @@ pub mod Outcome
 pub mod Paths
 pub mod Members
 pub mod TableKinds
+pub mod Saving
+pub mod Printing

@@ -1,10 +1,10 @@
 //! The faults of scene files.
 ghost use Rattle.std.specs.Prelude.{◌≡◌};
 ghost use Rattle.scene_file.specs.Fault.{file_number, file_name, of_read_error};
-ghost use Rattle.scene_file.specs.declared.fault.FileFault.TheVariants.{NoMemory};
+ghost use Rattle.scene_file.specs.declared.fault.FileFault.TheVariants.{NoMemory, WriteFault};
 
 use scene_kinds::Text;
-use scene_streams::ReadError;
+use scene_streams::{ReadError, WriteError};
 use std::alloc::{AllocError, AllocFailed};
 use thiserror::Error;
 
@@ -98,5 +98,13 @@ impl From<ReadError> for FileFault {
             ReadError::TooLong => FileFault::TooLong,
             ReadError::NoMemory => FileFault::NoMemory,
         }
+    }
+}
+
+impl From<WriteError> for FileFault {
+    ghost from_gives = { λ _ fault. fault ≡ WriteFault };
+
+    fn from(_error: WriteError) -> FileFault {
+        FileFault::WriteFault
     }
 }

@@ -1,9 +1,13 @@
-//! Tests of scene files: that memory is found for texts that are good, and that each fault comes where a program runs.
-//! Which fault it is says a clause, which is proved.
+//! Tests of scene files: that memory is found for what is good, that streams fail at each call, and texts that were worked
+//! out by hand. Which fault comes, and what is written, say clauses, which are proved.
 #![tactic(auto)]
 
 #[cfg(test)]
 mod load_tests;
 mod pieces;
+#[cfg(test)]
+mod save_tests;
+mod taker;
 
 pub use pieces::Pieces;
+pub use taker::Taker;
