@@ -9,10 +9,6 @@ mod home_tests;
 #[cfg(test)]
 mod queue_tests;
 #[cfg(test)]
-mod raw_steps;
-#[cfg(test)]
-mod raw_tests;
-#[cfg(test)]
 mod run_tests;
 mod streams;
 #[cfg(test)]
