@@ -4,3 +4,8 @@ pub mod SchemaBack
 pub mod RowsBack
 pub mod SceneBack
 pub mod WorldBack
+pub mod Quoted
+pub mod ListsWritten
+pub mod Objects
+pub mod Found
+pub mod KindLists

@@ -5,3 +5,6 @@ pub mod Walk
 pub mod Scene
 pub mod Laws
 pub mod Examples
+pub mod Outcome
+pub mod Saving
+pub mod Printing

@@ -1,8 +1,11 @@
 //! The faults of scene files.
 ghost use Rattle.std.specs.Prelude.{◌≡◌};
 ghost use Rattle.scene_file.specs.Fault.{file_number, file_name};
+ghost use Rattle.scene_file.specs.declared.fault.FileFault.TheVariants.{NoMemory, WriteFault};
 
 use scene_kinds::Text;
+use scene_streams::WriteError;
+use std::alloc::AllocError;
 use thiserror::Error;
 
 /// Why a scene text wasn't read or written (docs/SCENE_FILES.md, "File faults").
@@ -66,5 +69,21 @@ impl FileFault {
             FileFault::WriteFault => "WriteFault",
             FileFault::TooLong => "TooLong",
         }
+    }
+}
+
+impl From<AllocError> for FileFault {
+    ghost from_gives = { λ _ fault. fault ≡ NoMemory };
+
+    fn from(_error: AllocError) -> FileFault {
+        FileFault::NoMemory
+    }
+}
+
+impl From<WriteError> for FileFault {
+    ghost from_gives = { λ _ fault. fault ≡ WriteFault };
+
+    fn from(_error: WriteError) -> FileFault {
+        FileFault::WriteFault
     }
 }

@@ -5,13 +5,18 @@
 //! bytes say. All of them compute: `worked_texts` has them read and write texts byte by byte, and `laws` says that the
 //! value of each valid world is read as that world.
 //!
-//! The calls that load and save come later.
+//! `save` writes the text of a world, by printers of its parts, and `save_text` answers it.
 #![tactic(auto)]
 
 mod examples;
 mod fault;
 mod laws;
+mod saving;
+mod write_rows;
+mod write_values;
+mod write_world;
 
 pub use examples::worked_texts;
 pub use fault::FileFault;
 pub use laws::written_worlds_are_read_again;
+pub use saving::{save, save_text};

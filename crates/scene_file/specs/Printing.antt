@@ -1,0 +1,52 @@
+-- What the printers of a scene text write one by one. What a save writes doesn't rest on these words.
+use Rattle.std.specs.Prelude.{ℕ, ◌-◌, List, [], ◌∷◌, ◌++◌, filter, Bool, Option, Some, None, codes, decimal, map as each}
+use Rattle.std.specs.List.{range_with_len}
+use Rattle.serde_json.specs.Data.{Data}
+use Rattle.serde_json.specs.Written.{compact_text, items_text}
+use Rattle.scene_kinds.specs.declared.cell.Cell.{Cell}
+use Rattle.scene_kinds.specs.declared.cells.Row.{Row}
+use Rattle.scene_kinds.specs.KindSet.{has_kind}
+use Rattle.scene_resources.specs.Resources.{NamedCells, cell_of}
+use Rattle.scene_model.specs.World.{World}
+use Rattle.scene_parts.specs.Parts.{lists_of}
+use Rattle.scene_file.specs.Text.{items_of, list_text, count_text, kinds_of, kind_text, children_text, resource_text, table_text}
+
+-- the elements of a list that are still to come, with its closing bracket; a comma stands before one that isn't the first
+abbrev pub rest_text : {A : Type 0} → Bool → (A → Data) → List A → List ℕ
+rest_text later text xs = items_text later (items_of (each text xs))
+
+-- the kinds of a set, and those of them from a kind on that are still to come. These words stay folded: they compute long
+unfoldable pub kinds_json : ℕ → Data
+kinds_json mask = list_text count_text (kinds_of mask)
+
+unfoldable pub kinds_rest : Bool → ℕ → ℕ → List ℕ
+kinds_rest later mask kind = rest_text later count_text (filter (has_kind mask) (range_with_len kind (64 - kind)))
+
+-- a table, kept folded too
+unfoldable pub table_json : ℕ × List Row → Data
+table_json t = table_text t
+
+-- a name with its cell, where it has one
+abbrev pub named : List ℕ → Option Cell → List (List ℕ × Cell)
+named name None = []
+named name (Some cell) = (name, cell) ∷ []
+
+-- those of names that have a cell, with it
+abbrev pub named_cells : NamedCells → List (List ℕ) → List (List ℕ × Cell)
+named_cells r [] = []
+named_cells r (n ∷ ns) = named n (cell_of r n) ++ named_cells r ns
+
+-- the members of a world up to its limit, and those from its resources on
+abbrev pub first_members : World → List ℕ
+first_members w =
+    codes "{\"children\":" ++ (compact_text (list_text children_text (lists_of w.children))
+    ++ (codes ",\"free\":" ++ (compact_text (list_text count_text w.slots.free)
+    ++ (codes ",\"generations\":" ++ (compact_text (list_text count_text w.slots.generations)
+    ++ (codes ",\"kinds\":" ++ (compact_text (list_text kind_text w.schema)
+    ++ (codes ",\"limit\":" ++ decimal w.slots.limit))))))))
+
+abbrev pub last_members : World → List ℕ
+last_members w =
+    codes ",\"resources\":" ++ (compact_text (list_text resource_text w.resources.entries)
+    ++ (codes ",\"scene\":1,\"tables\":" ++ (compact_text (list_text table_text (lists_of w.tables))
+    ++ (codes ",\"tick\":" ++ (decimal w.tick ++ codes "}")))))

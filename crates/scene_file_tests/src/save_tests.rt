@@ -1,0 +1,121 @@
+//! Saving: the texts of worlds that were worked out by hand, and writers that fail.
+use crate::taker::Taker;
+use scene_file::{FileFault, save, save_text};
+use scene_kinds::{Entity, Refusal, Schema, Shape, Text, Value};
+use scene_streams::Sink;
+use scene_world::World;
+use std::alloc::{AllocError, Global};
+use std::test::Fail;
+
+/// A world with a cell of each shape, a child, a free index and two resources, of which the second was put first.
+const EACH_SHAPE: &str =
+    r#"{"children":[{"list":["1v1"],"parent":"0v1"}],"free":[2],"generations":[1,1,2],"kinds":[["A","Int"],["B","Tag"],["C","Vec3"],["D","Text"],["E","Link"]],"limit":5,"resources":[{"cell":["Tag",true,2,2],"name":"a"},{"cell":["Text","ä",2,2],"name":"b"}],"scene":1,"tables":[{"kinds":[0,1],"rows":[{"cells":[[7,1,2],[true,1,1]],"entity":"0v1"}]},{"kinds":[2,3,4],"rows":[{"cells":[[[1,-2,3],1,1],["a\"\n",1,1],["9v7",1,1]],"entity":"1v1"}]}],"tick":2}
+"#;
+
+/// A world with nothing in it.
+const EMPTY: &str =
+    r#"{"children":[],"free":[],"generations":[],"kinds":[],"limit":1,"resources":[],"scene":1,"tables":[],"tick":0}
+"#;
+
+fn text_of(alloc: Global, text: &str) -> Result<Text, AllocError> {
+    Ok(Text::from(String::from_str(alloc, text)?))
+}
+
+fn schema_of_each_shape(alloc: Global) -> Result<Schema, Refusal> {
+    let mut schema = Schema::new(alloc);
+    let kinds = [
+        ("A", Shape::Int),
+        ("B", Shape::Tag),
+        ("C", Shape::Vec3),
+        ("D", Shape::Text),
+        ("E", Shape::Link),
+    ];
+    for (name, shape) in kinds {
+        let _number = schema.add(String::from_str(alloc, name)?, shape)?;
+    }
+    Ok(schema)
+}
+
+/// Spawns the three entities of the world, of which one is despawned later.
+fn spawn_three(alloc: Global, world: &mut World) -> Result<(Entity, Entity, Entity), Refusal> {
+    let first = world.spawn(vec![in alloc; (0, Value::Int(-5)), (1, Value::Tag)]?)?;
+    let link = Value::Link(Entity {
+        index: 9,
+        generation: 7,
+    });
+    let text = Value::Text(text_of(alloc, "a\"\n")?);
+    let cells = vec![in alloc; (2, Value::Vec3([1, -2, 3])), (3, text), (4, link)]?;
+    let second = world.spawn(cells)?;
+    let third = world.spawn(Vec::new(alloc))?;
+    Ok((first, second, third))
+}
+
+fn world_of_each_shape(alloc: Global) -> Result<World, Refusal> {
+    let mut world = World::new(alloc, schema_of_each_shape(alloc)?, 5);
+    world.raise_tick()?;
+    let (first, second, third) = spawn_three(alloc, &mut world)?;
+    world.raise_tick()?;
+    world.despawn(third)?;
+    world.set_parent(second, first)?;
+    world.insert(first, 0, Value::Int(7))?;
+    world.put_resource("b", Value::Text(text_of(alloc, "ä")?))?;
+    world.put_resource("a", Value::Tag)?;
+    Ok(world)
+}
+
+/// Whether the text of a world is this one.
+fn is_written(alloc: Global, world: &World, wanted: &str) -> bool {
+    match save_text(alloc, world) {
+        Ok(text) => text.as_str() == wanted,
+        Err(_) => false,
+    }
+}
+
+#[test]
+fn an_empty_world_is_written(rt: HostRuntime) -> Result<(), Fail> {
+    let alloc = rt.alloc();
+    let world = World::new(alloc, Schema::new(alloc), 1);
+    assert!(rt; is_written(alloc, &world, EMPTY));
+    Ok(())
+}
+
+#[test]
+fn a_world_of_each_shape_is_written(rt: HostRuntime) -> Result<(), Fail> {
+    match world_of_each_shape(rt.alloc()) {
+        Ok(world) => assert!(rt; is_written(rt.alloc(), &world, EACH_SHAPE)),
+        Err(_) => assert!(rt; false, "refused"),
+    }
+    Ok(())
+}
+
+/// Saves to a writer that stops at a call, and whether that is told and leaves just what the calls before took.
+fn stops_at(alloc: Global, world: &World, call: u32, calls: u32, fails: bool) -> bool {
+    let mut sink = Sink::new(Taker::new(alloc, 16, call, fails));
+    let is_told = match save(alloc, &mut sink, world) {
+        Ok(()) => call > calls,
+        Err(FileFault::WriteFault) => call <= calls,
+        Err(_) => false,
+    };
+    let length = EACH_SHAPE.len().min(16 * (call as usize).saturating_sub(1));
+    is_told
+        && sink.has_failed() == (call <= calls)
+        && sink.get_ref().taken() == &EACH_SHAPE.as_bytes()[..length]
+}
+
+#[test]
+fn a_stopped_write_leaves_a_prefix_of_the_text(rt: HostRuntime) -> Result<(), Fail> {
+    let calls = EACH_SHAPE.len().div_ceil(16) as u32;
+    let Ok(world) = world_of_each_shape(rt.alloc()) else {
+        assert!(rt; false, "refused");
+        return Ok(());
+    };
+    for call in 1..=calls + 1 {
+        for fails in [false, true] {
+            assert!(rt;
+                stops_at(rt.alloc(), &world, call, calls, fails),
+                "call {call}"
+            );
+        }
+    }
+    Ok(())
+}
