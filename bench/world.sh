@@ -16,7 +16,7 @@ trap 'rm -rf "$place"' EXIT
 (cd crates/scene_world_bench && rt run > "$place/rt.log" 2>&1) || { cat "$place/rt.log" >&2; exit 1; }
 rustc -O --edition 2021 -o "$place/world_floor" bench/world_floor.rs
 python3 - "$(pwd)/crates/scene_world_bench/out/scene_world_bench" "$place/world_floor" "${1:-1000000}" "${2:-5}" <<'P'
-import functools, math, os, subprocess, sys
+import math, os, subprocess, sys
 
 ours, floor, most, runs = sys.argv[1], sys.argv[2], int(sys.argv[3]), int(sys.argv[4])
 sizes = [size for size in (10_000, 100_000, 1_000_000) if size <= most]
@@ -55,16 +55,15 @@ def once(program, size, work, passes, rounds):
         sys.exit(f"{work} {size}: status {status}")
     return used.ru_utime + used.ru_stime, used.ru_maxrss / 1024
 
-@functools.cache
-def least(program, size, work, passes, rounds):
-    found = [once(program, size, work, passes, rounds) for _ in range(runs)]
-    return min(time for time, _ in found), min(memory for _, memory in found)
-
 def cost(program, call, size):
-    """Seconds that a call takes, without those of the work before it."""
+    """Seconds that a call takes, without those of the work before it. Runs with the calls and without them take turns, so that
+    both meet the same machine."""
     with_calls, without, count = call.runs(size)
-    before = least(program, size, *without)[0] if without else 0
-    return max(1e-10, (least(program, size, *with_calls)[0] - before) / count)
+    times, before = [], []
+    for _ in range(runs):
+        times.append(once(program, size, *with_calls)[0])
+        before.append(once(program, size, *without)[0] if without else 0)
+    return max(1e-10, (min(times) - min(before)) / count)
 
 print(f"{'nanoseconds a call':28}" + "".join(f"{size:>12,}" for size in sizes) + f"{'exponent':>10}{'factor':>8}", flush=True)
 for call in CALLS:
@@ -72,6 +71,6 @@ for call in CALLS:
     grows = 1 + math.log(times[-1] / times[0]) / math.log(sizes[-1] / sizes[0]) if len(times) > 1 else 1
     factor = times[-1] / cost(floor, call, sizes[-1])
     print(f"{call.name:28}" + "".join(f"{time * 1e9:12.1f}" for time in times) + f"{grows:10.2f}{factor:8.1f}", flush=True)
-memory = [least(program, sizes[-1], "spawn", 0, 1)[1] for program in (ours, floor)]
+memory = [once(program, sizes[-1], "spawn", 0, 1)[1] for program in (ours, floor)]
 print(f"memory of {sizes[-1]:,} entities: {memory[0]:.0f} MiB, in plain Rust {memory[1]:.0f} MiB")
 P
