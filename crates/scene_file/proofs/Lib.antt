@@ -16,3 +16,4 @@ pub mod ListsWritten
 pub mod Objects
 pub mod Found
 pub mod KindLists
+pub mod PathSteps

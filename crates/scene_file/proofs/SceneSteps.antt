@@ -1,16 +1,17 @@
 -- The walk through the keys of a scene, key by key.
-use Rattle.std.proofs.Common.{◌≡◌, ℕ, List, [], Result, Ok, refl, sym, ap, subst, ◌∙◌, codes, map as each}
+use Rattle.std.proofs.Common.{◌≡◌, ℕ, List, [], ◌∷◌, length, nat_lt, Result, Ok, refl, sym, ap, subst, ◌∙◌, codes, map as each}
 use Rattle.std.proofs.lemmas.List.{map-id}
-use Rattle.serde_json.specs.Data.{Members}
+use Rattle.serde_json.specs.Data.{Data, Members}
 use Rattle.scene_kinds.specs.declared.entity.Entity.{Entity}
 use Rattle.scene_kinds.specs.declared.cell.Cell.{Cell}
 use Rattle.scene_kinds.specs.declared.cells.Row.{Row}
+use Rattle.scene_kinds.specs.declared.shape.Shape.{Shape}
 use Rattle.scene_kinds.specs.Schema.{Kinds}
 use Rattle.scene_parts.specs.Parts.{Parts}
 use Rattle.scene_file.specs.declared.fault.FileFault.{FileFault}
 use Rattle.scene_file.specs.Outcome.{IsTextFault}
-use Rattle.scene_file.specs.Reading.{◌>>=◌, list_of, rising_of, key_of}
-use Rattle.scene_file.specs.Walk.{u32_at, tick_at, kinds_at, limit_at, children_at, resource_at, table_at, parent_follows, name_follows, table_follows, parts_of}
+use Rattle.scene_file.specs.Reading.{◌>>=◌, below, list_of, rising_of, object_at, key_of}
+use Rattle.scene_file.specs.Walk.{u32_at, tick_at, kinds_at, limit_at, children_at, resource_at, table_at, row_at, shapes_of, set_of, parent_follows, name_follows, table_follows, parts_of}
 use Rattle.scene_file.proofs.Walking.{fault_stays}
 
 -- a step that was good
@@ -19,6 +20,18 @@ on x a next h = ap (λ r. r >>= next) h
 
 past : {A B : Type 0} (e : FileFault) (x : Result A FileFault) (a : A) (next : A → Result B FileFault) → x ≡ Ok a → IsTextFault e (next a) → IsTextFault e (x >>= next)
 past e x a next h k = subst (IsTextFault e) (sym (on x a next h)) k
+
+-- the rows of a table, whose kinds were good
+pub fault_at_rows : (e : FileFault) (schema : Kinds) (path : List ℕ) (d : Data) (ms : Members) (kinds : List ℕ) (shapes : List Shape)
+    → object_at (codes "kinds" ∷ codes "rows" ∷ []) path d ≡ Ok ms → key_of (rising_of (below (length schema)) nat_lt) path (codes "kinds") ms ≡ Ok (each (λ (n : ℕ). n) kinds)
+    → shapes ≡ shapes_of schema kinds → IsTextFault e (key_of (list_of (row_at kinds shapes)) path (codes "rows") ms) → IsTextFault e (table_at schema path d)
+fault_at_rows e schema path d ms kinds shapes h0 h1 s k =
+    past e (object_at (codes "kinds" ∷ codes "rows" ∷ []) path d) ms
+    (λ ms. key_of (rising_of (below (length schema)) nat_lt) path (codes "kinds") ms >>= λ kinds. key_of (list_of (row_at kinds (shapes_of schema kinds))) path (codes "rows") ms >>= λ rows. Ok (set_of kinds, rows)) h0
+    (past e (key_of (rising_of (below (length schema)) nat_lt) path (codes "kinds") ms) kinds
+    (λ kinds. key_of (list_of (row_at kinds (shapes_of schema kinds))) path (codes "rows") ms >>= λ rows. Ok (set_of kinds, rows)) (h1 ∙ ap Ok (map-id kinds))
+    (fault_stays e (key_of (list_of (row_at kinds (shapes_of schema kinds))) path (codes "rows") ms) (λ rows. Ok (set_of kinds, rows))
+    (subst (λ (ss : List Shape). IsTextFault e (key_of (list_of (row_at kinds ss)) path (codes "rows") ms)) s k)))
 
 module _ (ms : Members) where
   abbrev after_tick : List (Entity × List Entity) → List ℕ → List ℕ → Kinds → ℕ → List (List ℕ × Cell) → List (ℕ × List Row) → ℕ → Result Parts FileFault
@@ -129,3 +142,5 @@ module _ (ms : Members) where
       ∙ (on (key_of tick_at [] (codes "tick") ms) tick (after_tick children free generations schema limit resources tables) h7)))))))
 
 pub ruleset scene_steps = (fault_at_free, fault_at_generations, fault_at_schema, fault_at_limit, fault_at_resources, fault_at_tables, fault_at_tick)
+
+pub ruleset table_steps = (fault_at_rows)

@@ -44,7 +44,7 @@ rising_rise : (bound : ℕ) (path : List ℕ) (i : ℕ) (before : Option ℕ) (d
 rising_rise bound path i before [] ks h = subst (AreRising bound before) (ok_same [] ks (Ok []) refl h) tt
 rising_rise bound path i before (d ∷ ds) ks h =
     let p = ok_after (below bound (place_in path i) d)
-        (λ a. if_good (place_in path i) (may_follow nat_lt before a) a >>= λ b. rising_at (below bound) nat_lt path (i + 1) (Some b) ds >>= λ rest. Ok (b ∷ rest)) ks h in
+    (λ a. if_good (place_in path i) (may_follow nat_lt before a) a >>= λ b. rising_at (below bound) nat_lt path (i + 1) (Some b) ds >>= λ rest. Ok (b ∷ rest)) ks h in
     let q = ok_after (if_good (place_in path i) (may_follow nat_lt before p.0) p.0) (λ b. rising_at (below bound) nat_lt path (i + 1) (Some b) ds >>= λ rest. Ok (b ∷ rest)) ks p.2 in
     let g = good_was (place_in path i) (may_follow nat_lt before p.0) p.0 q.0 q.1 in
     let r = ok_after (rising_at (below bound) nat_lt path (i + 1) (Some q.0) ds) (λ rest. Ok (q.0 ∷ rest)) ks q.2 in

@@ -159,7 +159,7 @@ impl Form for TableForm<'_> {
 
     ghost follows = { table_follows };
 
-    #[tactic(auto, using(crate::proofs::Walking::walking, crate::proofs::TableKinds::kinds))]
+    #[tactic(auto, using(crate::proofs::Walking::walking, crate::proofs::TableKinds::kinds, crate::proofs::SceneSteps::table_steps))]
     fn read(
         &self,
         alloc: Global,

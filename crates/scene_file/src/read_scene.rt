@@ -1,10 +1,11 @@
 //! The whole of a scene text of version 1.
-ghost use Rattle.std.specs.Prelude.{◌≡◌, Ok, IfOk, IfErr};
+ghost use Rattle.std.specs.Prelude.{◌≡◌, [], Ok, IfOk, IfErr};
 ghost use Rattle.serde_json.specs.View.{view};
 ghost use Rattle.scene_parts.specs.Seen.{seen};
 ghost use Rattle.scene_file.specs.Members.{members_in};
 ghost use Rattle.scene_file.specs.Outcome.{IsTextFault};
 ghost use Rattle.scene_file.specs.Paths.{path_bytes};
+ghost use Rattle.scene_file.specs.Reading.{key_of};
 ghost use Rattle.scene_file.specs.Walk.{parts_in, parts_of, version_of};
 
 use crate::fault::FileFault;
@@ -113,22 +114,30 @@ impl Ordered for ResourceForm {
     }
 }
 
+/// The value of a key of a scene, which must be there, read as a form.
+#[tactic(auto, using(crate::proofs::Walking::walking))]
+fn top_key<F: Form>(alloc: Global, form: &F, scene: &Value, key: &str) -> Result<F::Item, FileFault>
+    ensures found { IfOk result (λ item. key_of (F.word form.now) [] key.now (members_in (view scene.now)) ≡ Ok (F.meant item)) }
+    ensures fault { IfErr result (λ e. IsTextFault e (key_of (F.word form.now) [] key.now (members_in (view scene.now)))) }
+{
+    key_of(alloc, form, &Path::Root, scene, key)
+}
+
 /// The parts that the keys of a scene say.
 #[tactic(auto, using(crate::proofs::Walking::walking, crate::proofs::SceneSteps::scene_steps))]
 fn parts_of(alloc: Global, scene: &Value) -> Result<WorldParts, FileFault>
     ensures found { IfOk result (λ parts. parts_of (members_in (view scene.now)) ≡ Ok (seen parts)) }
     ensures fault { IfErr result (λ e. IsTextFault e (parts_of (members_in (view scene.now)))) }
 {
-    let root = Path::Root;
-    let children = key_of(alloc, &Rising(ChildrenForm), &root, scene, "children")?;
-    let free = key_of(alloc, &ListOf(U32Form), &root, scene, "free")?;
-    let generations = key_of(alloc, &ListOf(U32Form), &root, scene, "generations")?;
-    let schema = key_of(alloc, &KindsForm, &root, scene, "kinds")?;
-    let limit = key_of(alloc, &LimitForm, &root, scene, "limit")?;
-    let resources = key_of(alloc, &Rising(ResourceForm), &root, scene, "resources")?;
+    let children = top_key(alloc, &Rising(ChildrenForm), scene, "children")?;
+    let free = top_key(alloc, &ListOf(U32Form), scene, "free")?;
+    let generations = top_key(alloc, &ListOf(U32Form), scene, "generations")?;
+    let schema = top_key(alloc, &KindsForm, scene, "kinds")?;
+    let limit = top_key(alloc, &LimitForm, scene, "limit")?;
+    let resources = top_key(alloc, &Rising(ResourceForm), scene, "resources")?;
     let form = Rising(TableForm { schema: &schema });
-    let tables = key_of(alloc, &form, &root, scene, "tables")?;
-    let tick = key_of(alloc, &TickForm, &root, scene, "tick")?;
+    let tables = top_key(alloc, &form, scene, "tables")?;
+    let tick = top_key(alloc, &TickForm, scene, "tick")?;
     Ok(WorldParts {
         schema,
         limit,

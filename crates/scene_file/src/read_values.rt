@@ -106,7 +106,8 @@ fn cell_from(
 ) -> Result<Cell, FileFault>
     requires { place < 2 }
     ensures found { IfOk result (λ cell. cell_from shape (path_bytes path.now) place (view value.now) (view added.now) (view changed.now) ≡ Ok cell) }
-    ensures fault { IfErr result (λ e. IsTextFault e (cell_from shape (path_bytes path.now) place (view value.now) (view added.now) (view changed.now))) }
+    ensures fault { IfErr result
+        (λ e. IsTextFault e (cell_from shape (path_bytes path.now) place (view value.now) (view added.now) (view changed.now))) }
 {
     let value = ValueForm(shape).read(alloc, &Path::Item(&*path, place), value)?;
     let added = TickForm.read(alloc, &Path::Item(&*path, place + 1), added)?;
@@ -171,8 +172,10 @@ fn shaped_cell(
     added: &Json,
     changed: &Json,
 ) -> Result<Cell, FileFault>
-    ensures found { IfOk result (λ cell. resource_cell_parts (path_bytes path.now) (view shape.now ∷ view value.now ∷ view added.now ∷ view changed.now ∷ []) ≡ Ok cell) }
-    ensures fault { IfErr result (λ e. IsTextFault e (resource_cell_parts (path_bytes path.now) (view shape.now ∷ view value.now ∷ view added.now ∷ view changed.now ∷ []))) }
+    ensures found { IfOk result
+        (λ cell. resource_cell_parts (path_bytes path.now) (view shape.now ∷ view value.now ∷ view added.now ∷ view changed.now ∷ []) ≡ Ok cell) }
+    ensures fault { IfErr result
+        (λ e. IsTextFault e (resource_cell_parts (path_bytes path.now) (view shape.now ∷ view value.now ∷ view added.now ∷ view changed.now ∷ []))) }
 {
     let shape = ShapeForm.read(alloc, &Path::Item(&*path, 0), shape)?;
     cell_from(alloc, shape, path, 1, value, added, changed)

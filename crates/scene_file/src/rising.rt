@@ -39,7 +39,8 @@ fn rising_at<F: Ordered>(
 ) -> Result<Vec<F::Item>, FileFault>
 where
     F::Item: Drop,
-    ensures found { IfOk result (λ items. rising_at (F.word form.now) F.follows (path_bytes path.now) 0 None (each view values.now) ≡ Ok (each F.meant items.items)) }
+    ensures found { IfOk result
+        (λ items. rising_at (F.word form.now) F.follows (path_bytes path.now) 0 None (each view values.now) ≡ Ok (each F.meant items.items)) }
     ensures fault { IfErr result (λ e. IsTextFault e (rising_at (F.word form.now) F.follows (path_bytes path.now) 0 None (each view values.now))) }
 {
     let mut items = Vec::new(alloc);

@@ -10,13 +10,15 @@ use std::io::Read;
 use std::test::Fail;
 
 /// Two tables, a child, and a resource of each other shape.
-const WHOLE: &str = r#"{"children":[{"list":["1v1"],"parent":"0v1"}],"free":[2],"generations":[1,1,2],
+const WHOLE: &str =
+    r#"{"children":[{"list":["1v1"],"parent":"0v1"}],"free":[2],"generations":[1,1,2],
 "kinds":[["A","Int"],["B","Tag"]],"limit":4,"resources":[{"cell":["Vec3",[1,-2,3],1,2],"name":"a"},
 {"cell":["Text","\u00e4",1,1],"name":"b"},{"cell":["Link","9v9",2,2],"name":"c"}],"scene":1,
 "tables":[{"kinds":[0],"rows":[{"cells":[[-5,1,2]],"entity":"0v1"}]},
 {"kinds":[0,1],"rows":[{"cells":[[7,1,1],[true,2,2]],"entity":"1v1"}]}],"tick":2}"#;
 
-const SMALL: &str = r#"{"children":[],"free":[],"generations":[4294967295],"kinds":[["A","Int"]],"limit":2,"resources":[],"scene":1,"tables":[{"kinds":[0],"rows":[{"cells":[[5,1,1]],"entity":"0v4294967295"}]}],"tick":1}"#;
+const SMALL: &str =
+    r#"{"children":[],"free":[],"generations":[4294967295],"kinds":[["A","Int"]],"limit":2,"resources":[],"scene":1,"tables":[{"kinds":[0],"rows":[{"cells":[[5,1,1]],"entity":"0v4294967295"}]}],"tick":1}"#;
 
 /// Each text with its fault, as a script prints it.
 const FAULTS: [(&str, &str); 16] = [
@@ -106,9 +108,7 @@ fn is_number(world: &World, index: u32, number: i64, added: u64, changed: u64) -
 
 #[test]
 fn a_text_of_every_form_is_read(rt: HostRuntime) -> Result<(), Fail> {
-    let Ok(world) = load_text(rt.alloc(), WHOLE.as_bytes()) else {
-        return Err(Fail);
-    };
+    let world = load_text(rt.alloc(), WHOLE.as_bytes())?;
     assert_eq!(rt; world.tick(), 2);
     assert_eq!(rt; world.mask_of(entity(0)), Some(1));
     assert_eq!(rt; world.mask_of(entity(1)), Some(3));
@@ -144,10 +144,16 @@ fn a_read_that_fails_is_a_fault(rt: HostRuntime) -> Result<(), Fail> {
     for fails_at in 1..=8 {
         let mut source = Source::new(Pieces::new(SMALL.as_bytes(), 32, fails_at));
         let loaded = load(rt.alloc(), &mut source);
-        assert!(rt; matches!(loaded, Err(FileFault::ReadFault)), "call {fails_at}");
+        assert!(rt;
+            matches!(loaded, Err(FileFault::ReadFault)),
+            "call {fails_at}"
+        );
         assert_eq!(rt; source.get_ref().calls(), fails_at, "call {fails_at}");
         let again = load(rt.alloc(), &mut source);
-        assert!(rt; matches!(again, Err(FileFault::ReadFault)), "after call {fails_at}");
+        assert!(rt;
+            matches!(again, Err(FileFault::ReadFault)),
+            "after call {fails_at}"
+        );
         assert_eq!(rt; source.get_ref().calls(), fails_at, "after call {fails_at}");
     }
     Ok(())
