@@ -1,6 +1,6 @@
-use Rattle.std.proofs.Common.{◌≡◌, true, false, sym, ◌∙◌}
+use Rattle.std.proofs.Common.{◌≡◌, true, false, rules, sym, ◌∙◌}
 use Rattle.scene_world.proofs.Room.{wider_wider}
-use Rattle.scene_journal.proofs.SomeDeltas.{made_next, fit_next, unfit_here}
+use Rattle.scene_journal.proofs.SomeDeltas.{made_next, fit_next, some_made, unfit_here}
 use Rattle.scene_journal.proofs.faults.redo_fitting.Goals as goal
 
 pub returns-then-not-fits_on-clause-refused : goal.returns-then-not-fits_on-clause-refused
@@ -12,6 +12,14 @@ returns-then-not-fits_on-clause-refused c = λ other. (
         c.loop-number.invariant.0 (λ fits. absurd (let both : false ≡ true = sym c.if-not-fits_on.true ∙ c.fits_on.ensures.1 fits in cc)),
   ),
 )
+
+pub returns-then-not-fits_on-clause-part : goal.returns-then-not-fits_on-clause-part
+returns-then-not-fits_on-clause-part c = some_made c.args.deltas.now c.args.draft.now.world c.loop-number.draft.world c.loop-number.number c.loop-number.invariant.1.0
+
+pub returns-in_err-redo_delta-clause-part : goal.returns-in_err-redo_delta-clause-part
+returns-in_err-redo_delta-clause-part c =
+    let part = some_made c.args.deltas.now c.args.draft.now.world c.redo_delta.new.world.world c.loop-number.number (c.in_err-redo_delta.ensures.full ∙ c.loop-number.invariant.1.0) in
+    search (part, rules)
 
 pub loop-number-preserved : goal.loop-number-preserved
 loop-number-preserved c = (
