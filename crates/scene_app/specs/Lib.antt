@@ -1,4 +1,5 @@
 pub mod Fault
+pub mod FileFaultText
 pub mod Listed
 pub mod MachineCode
 pub mod OpenFrame

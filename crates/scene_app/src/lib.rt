@@ -9,6 +9,7 @@
 mod answer;
 mod cursor;
 mod fault;
+mod file_fault_text;
 mod framed_answer;
 mod listed;
 mod machine;

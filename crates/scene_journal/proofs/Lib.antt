@@ -10,6 +10,7 @@ pub mod FewChildren
 pub mod Folds
 pub mod FrameLaws
 pub mod LastRow
+pub mod Lists
 pub mod NextEntity
 pub mod Ready
 pub mod Recorded

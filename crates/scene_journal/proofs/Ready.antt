@@ -14,18 +14,17 @@ use Rattle.scene_journal.specs.declared.delta.Delta.{Delta}
 use Rattle.scene_journal.specs.Deltas.{back}
 use Rattle.scene_journal.specs.Records.{back_all}
 use Rattle.scene_journal.specs.Ready.{IsReady, AreReady}
+use Rattle.scene_journal.proofs.Lists.{before_appended, undo_appended}
 
 -- later deltas go first
 pub back_appended : (ds es : List Delta) (w : World) → back_all (ds ++ es) w ≡ back_all ds (back_all es w)
-back_appended [] es w = refl
-back_appended (d ∷ ds) es w = ap (back d) (back_appended ds es w)
+back_appended = before_appended back
 
 pub back_pushed : (ds : List Delta) (d : Delta) (w : World) → back_all (ds ++ d ∷ []) w ≡ back_all ds (back d w)
 back_pushed ds d w = back_appended ds (d ∷ []) w
 
 pub ready_appended : (room : Room) (ds es : List Delta) (w : World) → AreReady room es w → AreReady room ds (back_all es w) → AreReady room (ds ++ es) w
-ready_appended room [] es w last first = last
-ready_appended room (d ∷ ds) es w last first = (ready_appended room ds es w last first.0, subst (IsReady room d) (sym (back_appended ds es w)) first.1)
+ready_appended room = undo_appended (IsReady room) back
 
 pub ready_pushed : (room : Room) (ds : List Delta) (d : Delta) (w : World) → AreReady room (ds ++ d ∷ []) w → IsReady room d w × AreReady room ds (back d w)
 ready_pushed room [] d w h = (h.1, tt)

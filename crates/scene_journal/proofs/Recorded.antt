@@ -9,10 +9,10 @@ use Rattle.scene_world.specs.Room.{Room, Holds, IsWider}
 use Rattle.scene_world.specs.Stage.{Staged, noting}
 use Rattle.scene_world.proofs.Room.{holds_wider}
 use Rattle.scene_journal.specs.declared.delta.Delta.{Delta}
-use Rattle.scene_journal.specs.Deltas.{back, FitsBack}
+use Rattle.scene_journal.specs.Deltas.{back, fwd, FitsBack}
 use Rattle.scene_journal.specs.CommandLaws.{LeadTo}
 use Rattle.scene_journal.specs.Notes.{deltas_of, listed_delta}
-use Rattle.scene_journal.specs.Ready.{AreReady}
+use Rattle.scene_journal.specs.Ready.{AreReady, AreReadyOn}
 use Rattle.scene_journal.specs.Records.{back_all}
 use Rattle.scene_journal.proofs.Deltas.{deltas_come_back}
 use Rattle.scene_journal.proofs.Ready.{back_pushed, ready_appended}
@@ -22,6 +22,11 @@ use Rattle.scene_journal.proofs.Truncated.{found_ready}
 pub ready_wider : (room wider : Room) (ds : List Delta) (w : World) → IsWider room wider → AreReady room ds w → AreReady wider ds w
 ready_wider room wider [] w wide h = tt
 ready_wider room wider (d ∷ ds) w wide h = (ready_wider room wider ds w wide h.0, record { fits = h.1.fits; held = holds_wider room wider (back d (back_all ds w)) wide h.1.held })
+
+-- and made again
+pub on_wider : (room wider : Room) (ds : List Delta) (w : World) → IsWider room wider → AreReadyOn room ds w → AreReadyOn wider ds w
+on_wider room wider [] w wide h = tt
+on_wider room wider (d ∷ ds) w wide h = (record { fits = h.0.fits; held = holds_wider room wider (fwd d w) wide h.0.held }, on_wider room wider ds (fwd d w) wide h.1)
 
 -- the world from before, and that it can come back, where one delta at most leads on
 pub opening_kept : (ds : List Delta) (o : Option Delta) (w v : World) → IsValid w → LeadTo (listed_delta o) w v → back_all (ds ++ listed_delta o) v ≡ back_all ds w

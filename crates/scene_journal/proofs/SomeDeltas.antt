@@ -1,50 +1,40 @@
 -- Deltas that are made, or taken back, up to one of them.
 use Rattle.std.proofs.Common.{◌≡◌, ℕ, ◌+◌, ◌<◌, ◌≤◌, List, [], ◌∷◌, ◌++◌, length, take, drop, get_or, refl, ap, sym, subst, ◌∙◌, arith}
-use Rattle.std.proofs.lemmas.List.{append_assoc, drop_more, take_more, take_all, take-append-drop, length-take-le}
+use Rattle.std.proofs.lemmas.List.{take_all, take-append-drop, length-take-le}
 use Rattle.scene_model.specs.World.{World}
 use Rattle.scene_journal.specs.declared.delta.Delta.{Delta}
 use Rattle.scene_journal.specs.Deltas.{fwd, back, FitsOn, FitsBack}
 use Rattle.scene_kinds.specs.declared.refusal.Refusal.{Refusal}
 use Rattle.scene_journal.specs.Records.{Record, fwd_all, back_all, AllFitOn, AllFitBack}
 use Rattle.scene_journal.specs.Faults.{IsFirstUnfit, IsLastUnfit, IsFaultBack, FaultsAreFaults, IsAfterSome, IsBeforeSome, Names}
-use Rattle.scene_journal.proofs.Ready.{back_appended}
+use Rattle.scene_world.specs.Room.{Room, Holds, IsWider}
+use Rattle.scene_journal.specs.Ready.{AreReady, AreReadyOn, IsReadyOn}
+use Rattle.scene_journal.proofs.Lists.{cut_here, may_longer, may_next, may_parts, one_more, undo_parts}
+use Rattle.scene_journal.proofs.Lists.{IsTakenTo as IsListTakenTo, made_next as list_next, taken_next as list_taken}
+use Rattle.scene_journal.proofs.Recorded.{on_wider, ready_wider}
 
 -- ---- made, the first first
 
-pub fwd_appended : (ds es : List Delta) (w : World) → fwd_all (ds ++ es) w ≡ fwd_all es (fwd_all ds w)
-fwd_appended [] es w = refl
-fwd_appended (d ∷ ds) es w = fwd_appended ds es (fwd d w)
-
-pub fit_parts : (ds es : List Delta) (w : World) → AllFitOn (ds ++ es) w → AllFitOn ds w × AllFitOn es (fwd_all ds w)
-fit_parts [] es w h = (tt, h)
-fit_parts (d ∷ ds) es w h = let rest = fit_parts ds es (fwd d w) h.1 in ((h.0, rest.0), rest.1)
-
-pub fit_appended : (ds es : List Delta) (w : World) → AllFitOn ds w → AllFitOn es (fwd_all ds w) → AllFitOn (ds ++ es) w
-fit_appended [] es w first last = last
-fit_appended (d ∷ ds) es w first last = (first.0, fit_appended ds es (fwd d w) first.1 last)
-
 module _ (ds : List Delta) (w v : World) (i : ℕ) (d : Delta) (low : i < length ds) (is : d ≡ get_or ds i d) (made : v ≡ fwd_all (take i ds) w) where
-  cut : ds ≡ take i ds ++ d ∷ drop (i + 1) ds
-  cut = sym (take-append-drop i ds) ∙ ap (λ es. take i ds ++ es) (drop_more ds i d low) ∙ ap (λ x. take i ds ++ x ∷ drop (i + 1) ds) (sym is)
-
-  more : take (i + 1) ds ≡ take i ds ++ d ∷ []
-  more = take_more ds i d low ∙ ap (λ x. take i ds ++ x ∷ []) (sym is)
-
   pub fits_next : AllFitOn ds w → FitsOn d v
-  fits_next all = subst (FitsOn d) (sym made) (fit_parts (take i ds) (d ∷ drop (i + 1) ds) w (subst (λ es. AllFitOn es w) cut all)).1.0
+  fits_next = may_next fwd ds w v i d low is made FitsOn
 
   pub made_next : (u : World) → u ≡ fwd d v → u ≡ fwd_all (take (i + 1) ds) w
-  made_next u by = by ∙ ap (fwd d) made ∙ sym (fwd_appended (take i ds) (d ∷ []) w) ∙ ap (λ es. fwd_all es w) (sym more)
+  made_next = list_next fwd ds w v i d low is made
 
-  pub fit_next : AllFitOn (take i ds) w → FitsOn d v → AllFitOn (take (i + 1) ds) w
-  fit_next before fits = subst (λ es. AllFitOn es w) (sym more) (fit_appended (take i ds) (d ∷ []) w before (subst (FitsOn d) made fits, tt))
+  -- the world after one more is held by its own room, which may be wider
+  pub ready_next : (room wider : Room) (u : World) → u ≡ fwd d v → FitsOn d v → Holds wider u → IsWider room wider → AreReadyOn room (take i ds) w
+      → AreReadyOn wider (take (i + 1) ds) w
+  ready_next room wider u by fits held wide before =
+      may_longer fwd ds w v i d low is made (IsReadyOn wider) (on_wider room wider (take i ds) w wide before)
+      (record { fits = fits; held = subst (Holds wider) by held })
 
   pub unfit_here : AllFitOn (take i ds) w → (FitsOn d v → ⊥) → IsFirstUnfit ds w i
   unfit_here before unfit = record {
     before = take i ds;
     delta = d;
     behind = drop (i + 1) ds;
-    cut = cut;
+    cut = cut_here fwd ds w v i d low is made;
     number = sym (length-take-le i ds (omega (arith, low)));
     fit = before;
     unfit = λ h. unfit (subst (FitsOn d) (sym made) h);
@@ -58,26 +48,30 @@ all_made ds w v i past made = made ∙ ap (λ es. fwd_all es w) (take_all i ds p
 
 -- ---- taken back, the last first
 
-pub back_parts : (ds es : List Delta) (w : World) → AllFitBack (ds ++ es) w → AllFitBack es w × AllFitBack ds (back_all es w)
-back_parts [] es w h = (h, tt)
-back_parts (d ∷ ds) es w h = let rest = back_parts ds es w h.0 in (rest.0, (rest.1, subst (FitsBack d) (back_appended ds es w) h.1))
-
 -- deltas up to the left ones are taken back
 abbrev pub IsTakenTo : List Delta → World → List Delta → World → List Delta → Type 0
-IsTakenTo ds w left v taken = (ds ≡ left ++ taken) × (v ≡ back_all taken w)
+IsTakenTo = IsListTakenTo back
 
 module _ (ds : List Delta) (w v : World) (left before taken : List Delta) (d : Delta) (cut : left ≡ before ++ d ∷ []) (now : IsTakenTo ds w left v taken) where
-  one_more : ds ≡ before ++ d ∷ taken
-  one_more = now.0 ∙ ap (λ es. es ++ taken) cut ∙ append_assoc before (d ∷ []) taken
+  here : ds ≡ before ++ d ∷ taken
+  here = one_more back ds w v left before taken d cut now
 
   pub fits_back_next : AllFitBack ds w → FitsBack d v
-  fits_back_next all = subst (FitsBack d) (sym now.1) (back_parts before (d ∷ taken) w (subst (λ es. AllFitBack es w) one_more all)).0.1
+  fits_back_next all = subst (FitsBack d) (sym now.1) (undo_parts FitsBack back before (d ∷ taken) w (subst (λ es. AllFitBack es w) here all)).0.1
 
   pub taken_next : (u : World) → u ≡ back d v → IsTakenTo ds w before u (d ∷ taken)
-  taken_next u is = (one_more, is ∙ ap (back d) now.1)
+  taken_next = list_taken back ds w v left before taken d cut now
+
+  -- the world before one more is held by its own room, which may be wider
+  pub ready_taken : (room wider : Room) (u : World) → u ≡ back d v → FitsBack d v → Holds wider u → IsWider room wider → AreReady room taken w
+      → AreReady wider (d ∷ taken) w
+  ready_taken room wider u by fits held wide before = (
+    ready_wider room wider taken w wide before,
+    record { fits = subst (FitsBack d) now.1 fits; held = subst (Holds wider) (by ∙ ap (back d) now.1) held },
+  )
 
   pub unfit_next : AllFitBack taken w → (FitsBack d v → ⊥) → IsLastUnfit ds w (length before)
-  unfit_next fit unfit = record { before = before; delta = d; behind = taken; cut = one_more; number = refl; fit = fit; unfit = λ h. unfit (subst (FitsBack d) (sym now.1) h) }
+  unfit_next fit unfit = record { before = before; delta = d; behind = taken; cut = here; number = refl; fit = fit; unfit = λ h. unfit (subst (FitsBack d) (sym now.1) h) }
 
 pub some_taken : (ds : List Delta) (w v : World) (left taken : List Delta) → IsTakenTo ds w left v taken → IsBeforeSome ds w v
 some_taken ds w v left taken now = record { left = left; taken = taken; cut = now.0; before = now.1 }
@@ -90,10 +84,10 @@ all_taken ds w v left taken none now =
 -- ---- faults
 
 unfit_on : (ds : List Delta) (w : World) (k : ℕ) → IsFirstUnfit ds w k → AllFitOn ds w → ⊥
-unfit_on ds w k u all = u.unfit (fit_parts u.before (u.delta ∷ u.behind) w (subst (λ es. AllFitOn es w) u.cut all)).1.0
+unfit_on ds w k u all = u.unfit (may_parts FitsOn fwd u.before (u.delta ∷ u.behind) w (subst (λ es. AllFitOn es w) u.cut all)).1.0
 
 unfit_back : (ds : List Delta) (w : World) (k : ℕ) → IsLastUnfit ds w k → AllFitBack ds w → ⊥
-unfit_back ds w k u all = u.unfit (back_parts u.before (u.delta ∷ u.behind) w (subst (λ es. AllFitBack es w) u.cut all)).0.1
+unfit_back ds w k u all = u.unfit (undo_parts FitsBack back u.before (u.delta ∷ u.behind) w (subst (λ es. AllFitBack es w) u.cut all)).0.1
 
 -- a delta that doesn't fit back is the record's fault, where the tick is right
 pub fault_of_delta : (r : Record) (w : World) (refusal : Refusal) → w.tick ≡ r.tick_before + 1 → Names (IsLastUnfit r.deltas w) refusal → Names (IsFaultBack r w) refusal

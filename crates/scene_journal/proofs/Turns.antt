@@ -46,3 +46,6 @@ ready_returns room (d ∷ ds) w valid held h =
       ready_returns room ds v sound h.0.held h.1,
       record { fits = subst (FitsBack d) (sym from) ((deltas_come_back d).0.can_come_back w valid h.0.fits); held = subst (Holds room) (sym gone) held },
     )
+
+-- for the search: what is ready fits
+pub ruleset ready_fits = (ready_fits_on, ready_fits_back)

@@ -4,7 +4,8 @@ ghost use Rattle.scene_kinds.specs.Answers.{refusal_of};
 ghost use Rattle.scene_kinds.specs.declared.fault.Fault.TheVariants.{BadRecord};
 ghost use Rattle.scene_journal.specs.Faults.{FaultsAreFaults, IsFirstUnfit, IsLastUnfit, IsFaultOn, IsFaultBack, Names};
 ghost use Rattle.scene_journal.specs.Faults.{IsAfterSome, IsBeforeSome, IsRedoneInPart, IsUndoneInPart};
-ghost use Rattle.scene_journal.specs.Records.{fwd_all, back_all, AllFitOn, AllFitBack, redone, undone, RecordFitsOn, RecordFitsBack};
+ghost use Rattle.scene_journal.specs.Ready.{AreReady, AreReadyOn};
+ghost use Rattle.scene_journal.specs.Records.{fwd_all, back_all, raised, redone, undone, RecordFitsOn, RecordFitsBack};
 ghost use Rattle.scene_world.specs.Room.{IsWider};
 
 use crate::delta::Delta;
@@ -29,7 +30,7 @@ fn bad_record(delta: usize) -> Refusal
 
 /// Makes deltas again, the first first, as far as each fits at its turn.
 fn redo_fitting(draft: &mut World, deltas: &[Delta]) -> Result<(), Refusal>
-    ensures fit { OnOk result (AllFitOn deltas.now draft.old.world) }
+    ensures ready { OnOk result (AreReadyOn draft.new.room deltas.now draft.old.world) }
     ensures done { OnOk result (draft.new.world ≡ fwd_all deltas.now draft.old.world) }
     ensures refused { IfErr result (Names (IsFirstUnfit deltas.now draft.old.world)) }
     ensures part { OnErr result (IsAfterSome deltas.now draft.old.world draft.new.world) }
@@ -40,13 +41,14 @@ fn redo_fitting(draft: &mut World, deltas: &[Delta]) -> Result<(), Refusal>
             return Err(bad_record(number));
         }
         redo_delta(draft, delta)?;
+        draft.room_holds();
     }
     Ok(())
 }
 
 /// Takes deltas back, the last first, as far as each fits back at its turn.
 fn undo_fitting(draft: &mut World, deltas: &[Delta]) -> Result<(), Refusal>
-    ensures fit { OnOk result (AllFitBack deltas.now draft.old.world) }
+    ensures ready { OnOk result (AreReady draft.new.room deltas.now draft.old.world) }
     ensures done { OnOk result (draft.new.world ≡ back_all deltas.now draft.old.world) }
     ensures refused { IfErr result (Names (IsLastUnfit deltas.now draft.old.world)) }
     ensures part { OnErr result (IsBeforeSome deltas.now draft.old.world draft.new.world) }
@@ -58,6 +60,7 @@ fn undo_fitting(draft: &mut World, deltas: &[Delta]) -> Result<(), Refusal>
             return Err(bad_record(before.len()));
         }
         undo_delta(draft, delta)?;
+        draft.room_holds();
         left = before;
     }
     Ok(())
@@ -71,8 +74,10 @@ impl FrameRecord {
     /// draft's tick isn't the one before the record or can't be raised, with the number of deltas (docs/JOURNAL.md,
     /// "Records"); `NoMemory`. Where the tick is at fault, the draft stays. Else its tick is raised then, and some of the
     /// deltas are made, the first ones.
+    #[tactic(auto, using(crate::proofs::Turns::ready_fits))]
     pub fn redo_checked(&self, draft: &mut World) -> Result<(), Refusal>
         ensures fits { OnOk result (RecordFitsOn self.now draft.old.world) }
+        ensures ready { OnOk result (AreReadyOn draft.new.room self.now.deltas (raised draft.old.world)) }
         ensures done { OnOk result (draft.new.world ≡ redone self.now draft.old.world) }
         ensures refused { IfErr result (Names (IsFaultOn self.now draft.old.world)) }
         ensures part { OnErr result (IsRedoneInPart self.now draft.old.world draft.new.world) }
@@ -93,8 +98,10 @@ impl FrameRecord {
     /// draft's tick isn't one above the one before the record, or a cell would be left that was changed later than that,
     /// with the number of deltas (docs/JOURNAL.md, "Records"); `NoMemory`. Where the tick is at fault, the draft stays. Else
     /// some of the deltas are taken back then, the last ones.
+    #[tactic(auto, using(crate::proofs::Turns::ready_fits))]
     pub fn undo_checked(&self, draft: &mut World) -> Result<(), Refusal>
         ensures fits { OnOk result (RecordFitsBack self.now draft.old.world) }
+        ensures ready { OnOk result (AreReady draft.new.room self.now.deltas draft.old.world) }
         ensures done { OnOk result (draft.new.world ≡ undone self.now draft.old.world) }
         ensures refused { IfErr result (Names (IsFaultBack self.now draft.old.world)) }
         ensures part { OnErr result (IsUndoneInPart self.now draft.old.world draft.new.world) }

@@ -4,31 +4,28 @@ use Rattle.scene_model.specs.World.{World}
 use Rattle.scene_model.specs.Raw.{set_tick}
 use Rattle.scene_model.specs.Valid.{IsValid}
 use Rattle.scene_world.specs.Room.{Room, Holds, IsWider}
-use Rattle.scene_world.proofs.Room.{holds_wider}
-use Rattle.scene_journal.specs.declared.delta.Delta.{Delta}
-use Rattle.scene_journal.specs.Deltas.{fwd}
 use Rattle.scene_journal.specs.Ready.{AreReadyOn}
 use Rattle.scene_journal.specs.Records.{Record, back_all, raised, redone, undone}
 use Rattle.scene_journal.proofs.Records.{raised_again, raised_valid, records_come_back}
-use Rattle.scene_journal.proofs.Recorded.{ready_wider}
+use Rattle.scene_journal.proofs.Lists.{may_more}
+use Rattle.scene_journal.proofs.Recorded.{on_wider, ready_wider}
 use Rattle.scene_journal.proofs.Turns.{ready_turns, ready_returns, start_held, end_held}
 use Rattle.scene_undo.specs.Kept.{CanUndo, CanRedo, CanUndoAll, CanRedoAll}
 
 -- ---- wider room
 
-on_wider : (room wider : Room) (ds : List Delta) (w : World) → IsWider room wider → AreReadyOn room ds w → AreReadyOn wider ds w
-on_wider room wider [] w wide h = tt
-on_wider room wider (d ∷ ds) w wide h = (record { fits = h.0.fits; held = holds_wider room wider (fwd d w) wide h.0.held }, on_wider room wider ds (fwd d w) wide h.1)
+module _ (room wider : Room) (wide : IsWider room wider) where
+  pub one_undo_wider : (r : Record) (w : World) → CanUndo room r w → CanUndo wider r w
+  one_undo_wider r w can = record { fits = can.fits; ready = ready_wider room wider r.deltas w wide can.ready }
+
+  pub one_redo_wider : (r : Record) (w : World) → CanRedo room r w → CanRedo wider r w
+  one_redo_wider r w can = record { fits = can.fits; ready = on_wider room wider r.deltas (raised w) wide can.ready }
 
 pub undo_wider : (room wider : Room) (rs : List Record) (w : World) → IsWider room wider → CanUndoAll room rs w → CanUndoAll wider rs w
-undo_wider room wider [] w wide h = tt
-undo_wider room wider (r ∷ rs) w wide h =
-    (record { fits = h.0.fits; ready = ready_wider room wider r.deltas w wide h.0.ready }, undo_wider room wider rs (undone r w) wide h.1)
+undo_wider room wider rs w wide = may_more (CanUndo room) undone (CanUndo wider) (one_undo_wider room wider wide) rs w
 
 pub redo_wider : (room wider : Room) (rs : List Record) (w : World) → IsWider room wider → CanRedoAll room rs w → CanRedoAll wider rs w
-redo_wider room wider [] w wide h = tt
-redo_wider room wider (r ∷ rs) w wide h =
-    (record { fits = h.0.fits; ready = on_wider room wider r.deltas (raised w) wide h.0.ready }, redo_wider room wider rs (redone r w) wide h.1)
+redo_wider room wider rs w wide = may_more (CanRedo room) redone (CanRedo wider) (one_redo_wider room wider wide) rs w
 
 -- the tick takes no room
 held_tick : (room : Room) (w : World) (tick : ℕ) → Holds room w → Holds room (set_tick w tick)

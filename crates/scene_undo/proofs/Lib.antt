@@ -1,4 +1,6 @@
 pub mod EditorLaws
 pub mod Kept
 pub mod Machines
+pub mod Stacks
+pub mod TwoStacks
 pub mod WholeFrames

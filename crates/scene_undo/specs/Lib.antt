@@ -1,2 +1,4 @@
+pub mod Direction
 pub mod Editor
 pub mod Kept
+pub mod Parts

@@ -1,14 +1,19 @@
 //! The editor.
-ghost use Rattle.std.specs.Prelude.{◌≡◌, ◌≤◌, ◌∷◌, [], length, IfOk, OnOk, OnErr};
+ghost use Rattle.std.specs.Prelude.{◌≡◌, ◌≤◌, ◌∷◌, [], length, reverse, IfOk, IfErr, OnOk, OnErr};
 ghost use Rattle.scene_kinds.specs.Answers.{Answers};
 ghost use Rattle.scene_model.specs.Frame.{Submit, call};
 ghost use Rattle.scene_model.specs.Machine.{opening, redo, undo};
 ghost use Rattle.scene_queue.specs.Frames.{frame_of};
 ghost use Rattle.scene_journal.specs.Frames.{frame_record};
+ghost use Rattle.scene_undo.specs.declared.direction.Direction.TheVariants.{Undo, Redo};
+ghost use Rattle.scene_undo.specs.Direction.{AllFit};
 ghost use Rattle.scene_undo.specs.Editor.{IsMoved, entities_of, machine_of};
+ghost use Rattle.scene_undo.specs.Parts.{IsFaultOf, NamesFrame};
 
+use crate::direction::Direction;
 use crate::framed::{Framed, frame};
 use crate::made::Made;
+use crate::parts::{after_frames, try_stack};
 use crate::records::{redo_record, undo_record};
 use scene_journal::FrameRecord;
 use scene_kinds::{Fault, Refusal, Schema};
@@ -59,6 +64,48 @@ impl Editor {
             future: Vec::new(alloc),
             rewinds: 0,
         }
+    }
+
+    /// An editor of this world, with these records of the frames before it and of frames that were undone, and no undos so
+    /// far. In each list the one that goes next stands last: of the past the newest frame, of the future the one that was
+    /// undone last. It undoes all of the past and makes it again, and redoes all of the future and takes it back, so it costs
+    /// twice what these do, and for each frame of the past a look at all cells.
+    ///
+    /// Refused, and then all is dropped: `BadRecord` where a record doesn't fit at its turn; the frames are numbered from the
+    /// newest of the past, 0, to its oldest, and on from the next one of the future, and a delta by its place, or by the
+    /// number of deltas where the record's tick is at fault (docs/JOURNAL.md, "Records"); `NoMemory`.
+    pub fn from_parts(
+        alloc: Global,
+        world: World,
+        past: Vec<FrameRecord>,
+        future: Vec<FrameRecord>,
+    ) -> Result<Editor, Refusal>
+        ensures state { IfOk result (λ e. e ≡ record { world = world.world; past = reverse past.items; future = reverse future.items; rewinds = 0 }) }
+        ensures past { OnOk result (AllFit Undo past.items world.world) }
+        ensures future { OnOk result (AllFit Redo future.items world.world) }
+        ensures refused { IfErr result (NamesFrame (IsFaultOf past.items future.items world.world)) }
+    {
+        let mut tried = world;
+        try_stack(Direction::Undo, &mut tried, past.as_slice())?;
+        match try_stack(Direction::Redo, &mut tried, future.as_slice()) {
+            Ok(()) => Ok(Editor {
+                alloc,
+                world: tried,
+                past,
+                future,
+                rewinds: 0,
+            }),
+            Err(refusal) => Err(after_frames(refusal, past.len())),
+        }
+    }
+
+    /// The records of the past and of the future, in the form that `from_parts` takes: in each list the one that goes next
+    /// stands last.
+    pub fn records(&self) -> (&[FrameRecord], &[FrameRecord])
+        ensures past { reverse result.0.now ≡ self.now.past }
+        ensures future { reverse result.1.now ≡ self.now.future }
+    {
+        (self.past.as_slice(), self.future.as_slice())
     }
 
     /// The world now.

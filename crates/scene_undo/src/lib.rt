@@ -5,9 +5,11 @@
 //! world is saved: what was before and after the world now is told by the records (docs/JOURNAL.md, "The editor").
 #![tactic(auto)]
 
+mod direction;
 mod editor;
 mod framed;
 mod made;
+mod parts;
 mod records;
 
 pub use editor::Editor;

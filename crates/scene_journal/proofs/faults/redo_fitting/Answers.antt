@@ -1,6 +1,7 @@
-use Rattle.std.proofs.Common.{◌≡◌, true, false, rules, sym, ◌∙◌}
+use Rattle.std.proofs.Common.{◌≡◌, true, false, rules, sym, take, ◌∙◌}
 use Rattle.scene_world.proofs.Room.{wider_wider}
-use Rattle.scene_journal.proofs.SomeDeltas.{made_next, fit_next, some_made, unfit_here}
+use Rattle.scene_journal.proofs.SomeDeltas.{made_next, ready_next, some_made, unfit_here}
+use Rattle.scene_journal.proofs.Turns.{ready_fits_on}
 use Rattle.scene_journal.proofs.faults.redo_fitting.Goals as goal
 
 pub returns-then-not-fits_on-clause-refused : goal.returns-then-not-fits_on-clause-refused
@@ -9,7 +10,8 @@ returns-then-not-fits_on-clause-refused c = λ other. (
   (
     c.bad_record.ensures,
     unfit_here c.args.deltas.now c.args.draft.now.world c.loop-number.draft.world c.loop-number.number c.index-deltas-number.result c.loop-number-test.true c.index-deltas-number.is c.loop-number.invariant.1.0
-        c.loop-number.invariant.0 (λ fits. absurd (let both : false ≡ true = sym c.if-not-fits_on.true ∙ c.fits_on.ensures.1 fits in cc)),
+        (ready_fits_on c.loop-number.draft.room (take c.loop-number.number c.args.deltas.now) c.args.draft.now.world c.loop-number.invariant.0)
+        (λ fits. absurd (let both : false ≡ true = sym c.if-not-fits_on.true ∙ c.fits_on.ensures.1 fits in cc)),
   ),
 )
 
@@ -22,12 +24,16 @@ returns-in_err-redo_delta-clause-part c =
     search (part, rules)
 
 pub loop-number-preserved : goal.loop-number-preserved
-loop-number-preserved c = (
-  fit_next c.args.deltas.now c.args.draft.now.world c.loop-number.draft.world c.loop-number.number c.index-deltas-number.result c.loop-number-test.true c.index-deltas-number.is c.loop-number.invariant.1.0
-      c.loop-number.invariant.0 (c.fits_on.ensures.0 c.if-not-fits_on.false),
-  (
-    made_next c.args.deltas.now c.args.draft.now.world c.loop-number.draft.world c.loop-number.number c.index-deltas-number.result c.loop-number-test.true c.index-deltas-number.is c.loop-number.invariant.1.0
-        c.redo_delta.new.world.world c.in_ok-redo_delta.ensures.done,
-    wider_wider c.args.draft.now.room c.loop-number.draft.room c.redo_delta.new.world.room c.loop-number.invariant.1.1 c.redo_delta.ensures.wide,
-  ),
-)
+loop-number-preserved c =
+    let now = c.loop-number.draft in
+    let next = c.redo_delta.new.world in
+    let ds = c.args.deltas.now in (
+      ready_next ds c.args.draft.now.world now.world c.loop-number.number c.index-deltas-number.result c.loop-number-test.true c.index-deltas-number.is
+          c.loop-number.invariant.1.0 now.room next.room next.world c.in_ok-redo_delta.ensures.done (c.fits_on.ensures.0 c.if-not-fits_on.false)
+          c.room_holds.ensures c.redo_delta.ensures.wide c.loop-number.invariant.0,
+      (
+        made_next ds c.args.draft.now.world now.world c.loop-number.number c.index-deltas-number.result c.loop-number-test.true c.index-deltas-number.is
+            c.loop-number.invariant.1.0 next.world c.in_ok-redo_delta.ensures.done,
+        wider_wider c.args.draft.now.room now.room next.room c.loop-number.invariant.1.1 c.redo_delta.ensures.wide,
+      ),
+    )

@@ -1,19 +1,36 @@
-use Rattle.std.proofs.Common.{◌∷◌, subst}
+use Rattle.std.proofs.Common.{◌≡◌, ◌∷◌, ◌∙◌, false, true, length, sym}
 use Rattle.scene_world.proofs.Room.{wider_wider}
-use Rattle.scene_journal.specs.Deltas.{FitsBack}
-use Rattle.scene_journal.proofs.SomeDeltas.{taken_next}
+use Rattle.scene_journal.proofs.SomeDeltas.{ready_taken, taken_next, unfit_next}
+use Rattle.scene_journal.proofs.Turns.{ready_fits_back}
 use Rattle.scene_journal.proofs.faults.undo_fitting.Goals as goal
+
+pub returns-then-not-fits_back-clause-refused : goal.returns-then-not-fits_back-clause-refused
+returns-then-not-fits_back-clause-refused c = λ other.
+    let now = c.loop-delta.invariant.0 in (
+      length c.in-Some.before.now,
+      (
+        c.bad_record.ensures,
+        unfit_next c.args.deltas.now c.args.draft.now.world c.loop-delta.draft.world c.loop-delta.left.now c.in-Some.before.now now.0 c.in-Some.delta.now
+            c.in-Some.ensures.cases.0 now.1.0 (ready_fits_back c.loop-delta.draft.room now.0 c.args.draft.now.world now.1.1)
+            (λ fits. absurd (let both : false ≡ true = sym c.if-not-fits_back.true ∙ c.fits_back.ensures.1 fits in cc)),
+      ),
+    )
 
 pub loop-delta-preserved : goal.loop-delta-preserved
 loop-delta-preserved c =
-    let now = c.loop-delta.invariant.0 in (
+    let now = c.loop-delta.invariant.0 in
+    let w = c.args.draft.now.world in
+    let v = c.loop-delta.draft in
+    let next = c.undo_delta.new.world in
+    let d = c.in-Some.delta.now in (
       (
-        c.in-Some.delta.now ∷ now.0,
+        d ∷ now.0,
         (
-          taken_next c.args.deltas.now c.args.draft.now.world c.loop-delta.draft.world c.loop-delta.left.now c.in-Some.before.now now.0 c.in-Some.delta.now c.in-Some.ensures.cases.0 now.1.0
-              c.undo_delta.new.world.world c.in_ok-undo_delta.ensures.done,
-          (now.1.1, subst (FitsBack c.in-Some.delta.now) now.1.0.1 (c.fits_back.ensures.0 c.if-not-fits_back.false)),
+          taken_next c.args.deltas.now w v.world c.loop-delta.left.now c.in-Some.before.now now.0 d c.in-Some.ensures.cases.0 now.1.0 next.world
+              c.in_ok-undo_delta.ensures.done,
+          ready_taken c.args.deltas.now w v.world c.loop-delta.left.now c.in-Some.before.now now.0 d c.in-Some.ensures.cases.0 now.1.0 v.room next.room next.world
+              c.in_ok-undo_delta.ensures.done (c.fits_back.ensures.0 c.if-not-fits_back.false) c.room_holds.ensures c.undo_delta.ensures.wide now.1.1,
         ),
       ),
-      wider_wider c.args.draft.now.room c.loop-delta.draft.room c.undo_delta.new.world.room c.loop-delta.invariant.1 c.undo_delta.ensures.wide,
+      wider_wider c.args.draft.now.room v.room next.room c.loop-delta.invariant.1 c.undo_delta.ensures.wide,
     )
