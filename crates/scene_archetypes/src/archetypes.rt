@@ -176,7 +176,8 @@ impl Archetypes {
         requires within { IsWithin self.old.tables home }
         requires there { IsSome (cell_at (rows_at self.old.tables home.mask) home.place kind) }
         ensures old { cell_at (rows_at self.old.tables home.mask) home.place kind ≡ Some result }
-        ensures tables { self.new.tables ≡ with_rows self.old.tables home.mask (rows_with_cell (rows_at self.old.tables home.mask) home.place kind cell) }
+        ensures tables { self.new.tables ≡ with_rows self.old.tables home.mask
+            (rows_with_cell (rows_at self.old.tables home.mask) home.place kind cell) }
         ensures rooms { self.new.rooms ≡ self.old.rooms }
         ensures homes { self.new.homes ≡ self.old.homes }
     {
@@ -193,7 +194,8 @@ impl Archetypes {
         requires lacks { has_kind home.mask kind ≡ false }
         requires place { place ≤ length (rows_at self.old.tables (set_with home.mask kind)) }
         requires room { length (rows_at self.old.tables (set_with home.mask kind)) < capacity_at self.old.rooms (set_with home.mask kind) }
-        ensures tables { (row : Row) → row_at self.old.tables home ≡ Some row → self.new.tables ≡ with_row_back (without_row self.old.tables home) place (row_with_cell row kind cell) }
+        ensures tables { (row : Row) → row_at self.old.tables home ≡ Some row
+            → self.new.tables ≡ with_row_back (without_row self.old.tables home) place (row_with_cell row kind cell) }
         ensures rooms { self.new.rooms ≡ self.old.rooms }
         ensures homes { self.new.homes ≡ self.old.homes }
     {
@@ -219,7 +221,8 @@ impl Archetypes {
         requires place { place ≤ length (rows_at self.old.tables (set_without home.mask kind)) }
         requires room { length (rows_at self.old.tables (set_without home.mask kind)) < capacity_at self.old.rooms (set_without home.mask kind) }
         ensures cell { cell_at (rows_at self.old.tables home.mask) home.place kind ≡ Some result }
-        ensures tables { (row : Row) → row_at self.old.tables home ≡ Some row → self.new.tables ≡ with_row_back (without_row self.old.tables home) place (row_without_cell row kind) }
+        ensures tables { (row : Row) → row_at self.old.tables home ≡ Some row
+            → self.new.tables ≡ with_row_back (without_row self.old.tables home) place (row_without_cell row kind) }
         ensures rooms { self.new.rooms ≡ self.old.rooms }
         ensures homes { self.new.homes ≡ self.old.homes }
     {

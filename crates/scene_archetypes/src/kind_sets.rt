@@ -11,7 +11,8 @@ use std::alloc::{AllocError, Global};
 pub(crate) fn tables_by_kind_set(alloc: Global, tables: &[Table]) -> Result<Vec<&Table>, AllocError>
     requires { AreApart tables.now }
     ensures masks { IfOk result (λ ordered. each (λ t. t.now.mask) ordered.items ≡ masks_of (tables_of tables.now)) }
-    ensures rows { IfOk result (λ ordered. each (λ t. t.now.rows) ordered.items ≡ each (rows_at (tables_of tables.now)) (masks_of (tables_of tables.now))) }
+    ensures rows { IfOk result (λ ordered. each (λ t. t.now.rows) ordered.items
+        ≡ each (rows_at (tables_of tables.now)) (masks_of (tables_of tables.now))) }
 {
     let mut ordered = Vec::new(alloc);
     for table in tables {

@@ -163,7 +163,8 @@ impl KindTables {
         requires within { IsWithin self.old.tables home }
         requires there { IsSome (cell_at (rows_at self.old.tables home.mask) home.place kind) }
         ensures old { cell_at (rows_at self.old.tables home.mask) home.place kind ≡ Some result }
-        ensures tables { self.new.tables ≡ with_rows self.old.tables home.mask (rows_with_cell (rows_at self.old.tables home.mask) home.place kind cell) }
+        ensures tables { self.new.tables ≡ with_rows self.old.tables home.mask
+            (rows_with_cell (rows_at self.old.tables home.mask) home.place kind cell) }
         ensures rooms { self.new.rooms ≡ self.old.rooms }
     {
         let at = known_table(&self.kind_sets, self.tables.as_slice(), home.mask);
@@ -178,7 +179,9 @@ impl KindTables {
         requires lacks { has_kind home.mask kind ≡ false }
         requires place { place ≤ length (rows_at self.old.tables (set_with home.mask kind)) }
         requires room { HasRoomFor self.old (set_with home.mask kind) }
-        ensures tables { (row : Row) → row_at self.old.tables home ≡ Some row → self.new.tables ≡ with_rows (without_row self.old.tables home) (set_with home.mask kind) (put_back (rows_at self.old.tables (set_with home.mask kind)) place (row_with_cell row kind cell)) }
+        ensures tables { (row : Row) → row_at self.old.tables home ≡ Some row
+            → self.new.tables ≡ with_rows (without_row self.old.tables home) (set_with home.mask kind)
+            (put_back (rows_at self.old.tables (set_with home.mask kind)) place (row_with_cell row kind cell)) }
         ensures rooms { self.new.rooms ≡ self.old.rooms }
     {
         let from = known_table(&self.kind_sets, self.tables.as_slice(), home.mask);
@@ -201,7 +204,9 @@ impl KindTables {
         requires place { place ≤ length (rows_at self.old.tables (set_without home.mask kind)) }
         requires room { HasRoomFor self.old (set_without home.mask kind) }
         ensures cell { cell_at (rows_at self.old.tables home.mask) home.place kind ≡ Some result }
-        ensures tables { (row : Row) → row_at self.old.tables home ≡ Some row → self.new.tables ≡ with_rows (without_row self.old.tables home) (set_without home.mask kind) (put_back (rows_at self.old.tables (set_without home.mask kind)) place (row_without_cell row kind)) }
+        ensures tables { (row : Row) → row_at self.old.tables home ≡ Some row
+            → self.new.tables ≡ with_rows (without_row self.old.tables home) (set_without home.mask kind)
+            (put_back (rows_at self.old.tables (set_without home.mask kind)) place (row_without_cell row kind)) }
         ensures rooms { self.new.rooms ≡ self.old.rooms }
     {
         prove!(home.mask <= u64::MAX);

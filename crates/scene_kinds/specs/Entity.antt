@@ -33,4 +33,5 @@ entity_cmp_total = then_total (on_total (λ e. e.index) nat_cmp_total) (on_total
 
 -- entities that tie are equal
 pub entity_cmp_exact : IsAntisymmetric entity_cmp
-entity_cmp_exact a b h = ap (λ (p : ℕ × ℕ). record { index = p.0; generation = p.1 }) (exact_pairs nat_cmp nat_cmp exact_unsigned exact_unsigned (a.index, a.generation) (b.index, b.generation) h)
+entity_cmp_exact a b h = ap (λ (p : ℕ × ℕ). record { index = p.0; generation = p.1 })
+    (exact_pairs nat_cmp nat_cmp exact_unsigned exact_unsigned (a.index, a.generation) (b.index, b.generation) h)

@@ -27,11 +27,13 @@ module _ {E O : Type 0} where
 
   -- The same pass of this lock has seen a legal history that goes on from what it had seen, with no entry of its session more
   abbrev pub Follows : (O → List E → Type 0) → (E → ℕ) → LockView O → PassView E O → PassView E O → Type 0
-  Follows legal by lock before after = IsStill lock before after × Continues by before.session before.seen after.seen × IsLegal legal by lock.terms after.seen
+  Follows legal by lock before after = IsStill lock before after × Continues by before.session before.seen after.seen
+      × IsLegal legal by lock.terms after.seen
 
   -- The same pass has seen such a history, and after it one entry of its session, of which `asked` holds. With that entry too it is legal
   abbrev pub Enters : (O → List E → Type 0) → (E → ℕ) → LockView O → PassView E O → (E → Type 0) → PassView E O → Type 0
-  Enters legal by lock before asked after = IsStill lock before after × ((history : List E) × (e : E) × Continues by before.session before.seen history × IsLegal legal by lock.terms history
+  Enters legal by lock before asked after = IsStill lock before after
+      × ((history : List E) × (e : E) × Continues by before.session before.seen history × IsLegal legal by lock.terms history
       × (after.seen ≡ history ++ e ∷ []) × (by e ≡ before.session) × asked e × IsLegal legal by lock.terms after.seen)
 
   -- a pass that has seen nothing yet

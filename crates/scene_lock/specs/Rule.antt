@@ -15,6 +15,7 @@ abbrev pub Members : Type 0 → Type 0
 Members E = List (ℕ × List E)
 
 module _ {E : Type 0} where
+  -- a pass with what it has seen is one of these
   abbrev pub IsMember : Members E → ℕ × List E → Type 0
   IsMember [] p = ⊥
   IsMember (m ∷ ms) p = (m ≡ p) ⊎ IsMember ms p
@@ -38,10 +39,12 @@ module _ {E : Type 0} where
   seen_of [] = []
   seen_of (m ∷ ms) = m.1
 
+  -- the first member alone, where there is one
   abbrev pub first_member : Members E → Members E
   first_member [] = []
   first_member (m ∷ ms) = m ∷ []
 
+  -- the members after the first
   abbrev pub other_members : Members E → Members E
   other_members [] = []
   other_members (m ∷ ms) = ms
@@ -59,6 +62,7 @@ module _ {E O : Type 0} where
   abbrev pub first_seat : Knowledge E O → Knowledge E O
   first_seat k = record k { members = first_member k.members; holding = false }
 
+  -- the seat of all passes but the first
   abbrev pub others_seat : Knowledge E O → Knowledge E O
   others_seat k = record k { members = other_members k.members; holding = false }
 
@@ -66,6 +70,7 @@ module _ {E O : Type 0} where
   abbrev pub joined_seat : Knowledge E O → Knowledge E O → Knowledge E O
   joined_seat k l = record k { members = k.members ++ l.members; holding = false }
 
+  -- a seat that stands for no pass
   abbrev pub spent_seat : Knowledge E O
   spent_seat = record { terms = None; members = []; holding = false }
 
@@ -77,7 +82,8 @@ module _ {X E O : Type 0} (good : O → X → Type 0) (history : X → List E) (
   -- What a seat knows is true: its members are passes of this lock and of no other seat, and what each has seen is a beginning of
   -- the history with all of its own entries. Where it holds the state, the word says so, and each member has seen the whole.
   pub record IsTrueOf (terms : Terms O) (word : ℕ) (whole : List E) (owner : ℕ → ℕ) (holder seat : ℕ) (k : Knowledge E O) : Type 0 where
-    pub each : (p : ℕ × List E) → IsMember k.members p → (k.terms ≡ Some terms) × (owner p.0 ≡ seat) × (p.0 < terms.passes) × Continues by p.0 p.1 whole
+    pub each : (p : ℕ × List E) → IsMember k.members p → (k.terms ≡ Some terms) × (owner p.0 ≡ seat) × (p.0 < terms.passes)
+        × Continues by p.0 p.1 whole
     pub distinct : AreDistinct k.members
     pub holds : k.holding ≡ true → (word ≡ 1) × (seat ≡ holder) × ((p : ℕ × List E) → IsMember k.members p → p.1 ≡ whole)
 
@@ -93,22 +99,27 @@ module _ {X E O : Type 0} (good : O → X → Type 0) (history : X → List E) (
 
 -- each member is told that the history goes on from what it has seen, and is legal
 abbrev pub Tells : {E O : Type 0} → (O → List E → Type 0) → (E → ℕ) → Knowledge E O → List E → Type 0
-Tells {E} {O} legal by k whole = (p : ℕ × List E) → IsMember k.members p → Continues by p.0 p.1 whole × ((terms : Terms O) → k.terms ≡ Some terms → IsLegal legal by terms whole)
+Tells {E} {O} legal by k whole = (p : ℕ × List E) → IsMember k.members p
+    → Continues by p.0 p.1 whole × ((terms : Terms O) → k.terms ≡ Some terms → IsLegal legal by terms whole)
 
 module _ {X E O : Type 0} (legal : O → List E → Type 0) (by : E → ℕ) where
   -- a look at the whole history
   abbrev pub Sees : Me (Option X) (Knowledge E O) → Me (Option X) (Knowledge E O) → Type 0
   Sees before after = (whole : List E) × (after ≡ (seeing whole before.0, before.1)) × Tells legal by before.0 whole
 
+  -- a step that is a look, whatever word it finds
   abbrev pub looked : Step (Option X) → Me (Option X) (Knowledge E O) → ℕ → Me (Option X) (Knowledge E O) → Type 0
   looked step before found after = Sees before after
 
 module _ {X E O : Type 0} (good : O → X → Type 0) (history : X → List E) (legal : O → List E → Type 0) (by : E → ℕ) where
   -- Taking, to change or to share: where the word was the one expected the state was taken out, and it is good. Else there was a look
   abbrev pub TakesOut : Me (Option X) (Knowledge E O) → Me (Option X) (Knowledge E O) → Type 0
-  TakesOut before after = (x : X) × (after ≡ (record before.0 { members = all_seeing (history x) before.0.members; holding = true }, (0, Some x) ∷ []))
-      × Tells legal by before.0 (history x) × ((p : ℕ × List E) (terms : Terms O) → IsMember before.0.members p → before.0.terms ≡ Some terms → good terms.opening x)
+  TakesOut before after = (x : X)
+      × (after ≡ (record before.0 { members = all_seeing (history x) before.0.members; holding = true }, (0, Some x) ∷ []))
+      × Tells legal by before.0 (history x) × ((p : ℕ × List E) (terms : Terms O) → IsMember before.0.members p → before.0.terms ≡ Some terms
+      → good terms.opening x)
 
+  -- a step that takes the state out where it finds the word that it expects, and else is a look
   abbrev pub taken : Step (Option X) → Me (Option X) (Knowledge E O) → ℕ → Me (Option X) (Knowledge E O) → Type 0
   taken step before found after = (found ≡ step.first → TakesOut before after) × (found ≢ step.first → Sees legal by before after)
 

@@ -21,10 +21,13 @@ abbrev pub shared_entries : {X Z E : Type 0} → (X → List E) → Arc X Z → 
 shared_entries entries share = entries (arc_value share)
 
 -- a pass took a shared state: it has seen just the history of that state, which is good and has the lock's opening
-abbrev pub HasTaken : {X Z E O : Type 0} → (X → Type 0) → (X → O) → (X → List E) → (O → List E → Type 0) → (E → ℕ) → LockView O → PassView E O → Arc X Z → PassView E O → Type 0
+abbrev pub HasTaken : {X Z E O : Type 0} → (X → Type 0) → (X → O) → (X → List E) → (O → List E → Type 0) → (E → ℕ) → LockView O → PassView E O
+    → Arc X Z → PassView E O → Type 0
 HasTaken good opening entries legal by lock before share after =
     Follows legal by lock before after × (after.seen ≡ entries (arc_value share)) × IsStateOf good opening lock.terms.opening (arc_value share)
 
 -- a pass has seen more of the history or the same, and P holds of a state with just what it has seen
-abbrev pub FollowsTo : {X E O : Type 0} → (X → Type 0) → (X → O) → (X → List E) → (O → List E → Type 0) → (E → ℕ) → LockView O → PassView E O → (X → Type 0) → PassView E O → Type 0
-FollowsTo good opening entries legal by lock before P after = Follows legal by lock before after × AtState good opening entries lock.terms.opening after.seen P
+abbrev pub FollowsTo : {X E O : Type 0} → (X → Type 0) → (X → O) → (X → List E) → (O → List E → Type 0) → (E → ℕ) → LockView O → PassView E O
+    → (X → Type 0) → PassView E O → Type 0
+FollowsTo good opening entries legal by lock before P after = Follows legal by lock before after
+    × AtState good opening entries lock.terms.opening after.seen P

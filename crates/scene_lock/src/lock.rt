@@ -89,7 +89,8 @@ impl<S: Kept + Drop> WordLock<S> {
     pub fn finish(self, pass: Pass<S>) -> Option<S>
         requires { IsPassOf self pass }
         ensures good { IfSome result (λ s. S.good s × (S.opening s ≡ self.terms.opening)) }
-        ensures history { IfSome result (λ s. Continues S.session pass.session pass.seen (S.entries s) × IsLegal S.legal S.session self.terms (S.entries s)) }
+        ensures history { IfSome result (λ s. Continues S.session pass.session pass.seen (S.entries s)
+            × IsLegal S.legal S.session self.terms (S.entries s)) }
     {
         let WordLock { table } = self;
         let Pass { seat, number: _ } = pass;

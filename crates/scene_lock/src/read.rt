@@ -22,7 +22,8 @@ impl<S: Kept + Drop> WordLock<S> {
     ) -> (Pass<S>, Option<L::Answer>)
         requires { IsPassOf self.now pass }
         ensures pass { Follows S.legal S.session self.now pass result.0 }
-        ensures answer { IfSome result.1 (λ a. AtState S.good S.opening S.entries self.now.terms.opening result.0.seen (λ s. L.answers question.now s a)) }
+        ensures answer { IfSome result.1 (λ a. AtState S.good S.opening S.entries self.now.terms.opening result.0.seen
+            (λ s. L.answers question.now s a)) }
     {
         let (state, holder) = match self.take_to_share(pass) {
             Ok(taken) => taken,

@@ -94,7 +94,8 @@ impl<S: Kept> WordLock<S> {
         requires some { (n : ℕ) × (seat.me ≡ (new_seat self.now.terms (suc n) number, [])) }
         ensures pass { result.0 ≡ first_pass self.now number }
         ensures lock { result.1.table_id ≡ self.now.id }
-        ensures others { (n : ℕ) → seat.me ≡ (new_seat self.now.terms (suc n) number, []) → result.1.me ≡ (new_seat self.now.terms n (number + 1), []) }
+        ensures others { (n : ℕ) → seat.me ≡ (new_seat self.now.terms (suc n) number, [])
+            → result.1.me ≡ (new_seat self.now.terms n (number + 1), []) }
     {
         let mut seat = seat;
         let others = self.table.shared.split_seat::<Part>(&mut seat);

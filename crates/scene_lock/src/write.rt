@@ -23,8 +23,10 @@ fn change_alone<S: Kept, C: Change<S>>(
 ) -> Result<Result<C::Done, C::Stopped>, C>
     requires { S.good (arc_value share.old) }
     ensures good { S.good (arc_value share.new) × (S.opening (arc_value share.new) ≡ S.opening (arc_value share.old)) }
-    ensures done { IfOk result (λ r. IfOk r (λ d. HasOneMore S.session session (S.entries (arc_value share.old)) (λ e. C.enters job session d e) (S.entries (arc_value share.new)))) }
-    ensures stopped { IfOk result (λ r. IfErr r (λ x. (S.entries (arc_value share.new) ≡ S.entries (arc_value share.old)) × C.stops job (arc_value share.old) x)) }
+    ensures done { IfOk result (λ r. IfOk r (λ d. HasOneMore S.session session (S.entries (arc_value share.old))
+        (λ e. C.enters job session d e) (S.entries (arc_value share.new)))) }
+    ensures stopped { IfOk result (λ r. IfErr r (λ x. (S.entries (arc_value share.new) ≡ S.entries (arc_value share.old))
+        × C.stops job (arc_value share.old) x)) }
     ensures back { IfErr result (λ j. (j ≡ job) × (arc_value share.new ≡ arc_value share.old)) }
 {
     match Arc::get_mut(share) {
@@ -43,8 +45,10 @@ fn change_waiting<S: Kept, C: Change<S>, R: Threads + Wait + Sync>(
 ) -> Result<Result<C::Done, C::Stopped>, C>
     requires { S.good (arc_value share.old) }
     ensures good { S.good (arc_value share.new) × (S.opening (arc_value share.new) ≡ S.opening (arc_value share.old)) }
-    ensures done { IfOk result (λ r. IfOk r (λ d. HasOneMore S.session session (S.entries (arc_value share.old)) (λ e. C.enters job session d e) (S.entries (arc_value share.new)))) }
-    ensures stopped { IfOk result (λ r. IfErr r (λ x. (S.entries (arc_value share.new) ≡ S.entries (arc_value share.old)) × C.stops job (arc_value share.old) x)) }
+    ensures done { IfOk result (λ r. IfOk r (λ d. HasOneMore S.session session (S.entries (arc_value share.old))
+        (λ e. C.enters job session d e) (S.entries (arc_value share.new)))) }
+    ensures stopped { IfOk result (λ r. IfErr r (λ x. (S.entries (arc_value share.new) ≡ S.entries (arc_value share.old))
+        × C.stops job (arc_value share.old) x)) }
     ensures back { IfErr result (λ j. (j ≡ job) × (arc_value share.new ≡ arc_value share.old)) }
 {
     match Arc::get_mut(share) {
@@ -68,7 +72,8 @@ impl<S: Kept> WordLock<S> {
         requires { IsPassOf self.now pass }
         ensures pass { IsStill self.now pass result.0 }
         ensures done { IfOk result.1 (λ r. IfOk r (λ d. Enters S.legal S.session self.now pass (λ e. C.enters job pass.session d e) result.0)) }
-        ensures stopped { IfOk result.1 (λ r. IfErr r (λ x. FollowsTo S.good S.opening S.entries S.legal S.session self.now pass (λ s. C.stops job s x) result.0)) }
+        ensures stopped { IfOk result.1 (λ r. IfErr r (λ x. FollowsTo S.good S.opening S.entries S.legal S.session self.now pass
+            (λ s. C.stops job s x) result.0)) }
         ensures busy { IfErr result.1 (λ j. (j ≡ job) × Follows S.legal S.session self.now pass result.0) }
     {
         let (mut share, holder) = match self.take_to_share(pass) {
@@ -90,7 +95,8 @@ impl<S: Kept> WordLock<S> {
         requires { IsPassOf self.now pass }
         ensures pass { IsStill self.now pass result.0 }
         ensures done { IfOk result.1 (λ r. IfOk r (λ d. Enters S.legal S.session self.now pass (λ e. C.enters job pass.session d e) result.0)) }
-        ensures stopped { IfOk result.1 (λ r. IfErr r (λ x. FollowsTo S.good S.opening S.entries S.legal S.session self.now pass (λ s. C.stops job s x) result.0)) }
+        ensures stopped { IfOk result.1 (λ r. IfErr r (λ x. FollowsTo S.good S.opening S.entries S.legal S.session self.now pass
+            (λ s. C.stops job s x) result.0)) }
         ensures busy { IfErr result.1 (λ j. (j ≡ job) × Follows S.legal S.session self.now pass result.0) }
     {
         let (mut share, holder) = match self.take_to_change(pass) {

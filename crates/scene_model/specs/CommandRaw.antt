@@ -26,7 +26,8 @@ DespawnCuts = (w v : World) (e : Entity) → IsValid w → despawn w e ≡ Ok (t
 
 -- an insert of a kind that the entity hasn't shifts the row; of one that it has, it sets the cell
 abbrev pub Inserts : World → World → Entity → ℕ → Value → Option Cell → Type 0
-Inserts w v e kind value None = (place : ℕ) × (CanShift w e place kind (new_cell w.tick value) true × (v ≡ shift_row w e kind (new_cell w.tick value) true))
+Inserts w v e kind value None = (place : ℕ) × (CanShift w e place kind (new_cell w.tick value) true
+    × (v ≡ shift_row w e kind (new_cell w.tick value) true))
 Inserts w v e kind value (Some c) = CanSetCell w e kind c (put_over (Some c) value w.tick) × (v ≡ set_cell w e kind (put_over (Some c) value w.tick))
 
 -- an insert shifts the row or sets the cell, by what the entity has
@@ -46,7 +47,8 @@ last_link f child parent = (parent, length (children_of (cut f child) parent))
 -- a set of a parent sets the link to the last place below it
 abbrev pub SetParentSetsLink : Type 0
 SetParentSetsLink = (w v : World) (child parent : Entity) → IsValid w → set_parent w child parent ≡ Ok (tt, v)
-    → CanSetLink w child (link_in w.children child) (Some (last_link w.children child parent)) × (v ≡ set_link w child (Some (last_link w.children child parent)))
+    → CanSetLink w child (link_in w.children child) (Some (last_link w.children child parent))
+    × (v ≡ set_link w child (Some (last_link w.children child parent)))
 
 -- a removal of a parent sets that there is no link
 abbrev pub RemoveParentSetsLink : Type 0

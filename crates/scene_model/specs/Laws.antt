@@ -32,7 +32,8 @@ QueuesAreInRange (rs ∷ rss) = AreInRange rs × QueuesAreInRange rss
 
 -- an accepted frame keeps a valid world valid
 abbrev pub FramesKeep : Type 0
-FramesKeep = (queues : List (List Request)) (w v : World) (es : List Entity) → IsValid w → QueuesAreInRange queues → frame queues w ≡ Ok (es, v) → IsValid v
+FramesKeep = (queues : List (List Request)) (w v : World) (es : List Entity) → IsValid w → QueuesAreInRange queues → frame queues w ≡ Ok (es, v)
+    → IsValid v
 
 -- a recursive despawn of a live entity is accepted: no despawn on the way is refused
 abbrev pub DespawnRecursiveIsWhole : Type 0

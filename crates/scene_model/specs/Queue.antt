@@ -53,6 +53,7 @@ unless_refused i p (Ok q) rest = rest (reached q.1 (and_spawned p.spawned q.0))
 unless_refused i p (Err r) rest = stopped p i r
 
 module _ {S : Type 0} (act : Act S) where
+  -- a command whose targets are known; a local name that stands for nothing is refused
   abbrev pub act_known : S → Option Command → Outcome (Option Entity) S
   act_known s None = refuse BadLocal
   act_known s (Some c) = act s c

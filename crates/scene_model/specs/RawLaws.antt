@@ -40,7 +40,8 @@ ShiftedRowsComeBack = (e : Entity) (place kind : ℕ) (cell : Cell) (inward : Bo
 -- setting a cell is taken back by setting the one from before
 abbrev pub CellsComeBack : Type 0
 CellsComeBack = (e : Entity) (kind : ℕ) (before after : Cell)
-    → IsTakenBack (λ w. CanSetCell w e kind before after) (λ w. set_cell w e kind after) (λ w. CanSetCell w e kind after before) (λ w. set_cell w e kind before)
+    → IsTakenBack (λ w. CanSetCell w e kind before after) (λ w. set_cell w e kind after) (λ w. CanSetCell w e kind after before)
+    (λ w. set_cell w e kind before)
 
 -- setting a link is taken back by setting the one from before
 abbrev pub LinksComeBack : Type 0
@@ -50,9 +51,11 @@ LinksComeBack = (e : Entity) (before after : Option (Entity × ℕ))
 -- setting a resource is taken back by setting the one from before
 abbrev pub ResourcesComeBack : Type 0
 ResourcesComeBack = (name : List ℕ) (before after : Option Cell)
-    → IsTakenBack (λ w. CanSetResource w name before after) (λ w. set_resource w name after) (λ w. CanSetResource w name after before) (λ w. set_resource w name before)
+    → IsTakenBack (λ w. CanSetResource w name before after) (λ w. set_resource w name after) (λ w. CanSetResource w name after before)
+    (λ w. set_resource w name before)
 
 -- the tick, and the one from before
 abbrev pub TicksComeBack : Type 0
 TicksComeBack = (before after : ℕ)
-    → IsTakenBack (λ w. (w.tick ≡ before) × CanSetTick w after) (λ w. set_tick w after) (λ w. (w.tick ≡ after) × CanSetTick w before) (λ w. set_tick w before)
+    → IsTakenBack (λ w. (w.tick ≡ before) × CanSetTick w after) (λ w. set_tick w after) (λ w. (w.tick ≡ after) × CanSetTick w before)
+    (λ w. set_tick w before)

@@ -11,26 +11,30 @@ use Rattle.scene_model.specs.Can.{CanCut, CanUncut}
 use Rattle.scene_model.specs.RawLaws.{TakeEachOtherBack}
 
 module _ {D : Type 0} where
-  -- the world after all changes, and that each may be made at its turn
+  -- the world after all changes
   abbrev pub after_all : (D → World → World) → List D → World → World
   after_all change [] w = w
   after_all change (d ∷ ds) w = after_all change ds (change d w)
 
+  -- each change may be made at its turn
   abbrev pub MayAll : (D → World → Type 0) → (D → World → World) → List D → World → Type 0
   MayAll may change [] w = ⊤
   MayAll may change (d ∷ ds) w = may d w × MayAll may change ds (change d w)
 
-  -- the world before all changes, and that each may be taken back at its turn, the last first
+  -- the world before all changes
   abbrev pub before_all : (D → World → World) → List D → World → World
   before_all undo [] w = w
   before_all undo (d ∷ ds) w = undo d (before_all undo ds w)
 
+  -- each change may be taken back at its turn, the last first
   abbrev pub MayUndoAll : (D → World → Type 0) → (D → World → World) → List D → World → Type 0
   MayUndoAll may undo [] w = ⊤
   MayUndoAll may undo (d ∷ ds) w = MayUndoAll may undo ds w × may d (before_all undo ds w)
 
+  -- lists of changes take each other back, made from the first to the last and taken back from the last to the first
   abbrev pub ListsComeBack : (D → World → Type 0) → (D → World → World) → (D → World → Type 0) → (D → World → World) → Type 0
-  ListsComeBack may change may_undo undo = (ds : List D) → TakeEachOtherBack (MayAll may change ds) (after_all change ds) (MayUndoAll may_undo undo ds) (before_all undo ds)
+  ListsComeBack may change may_undo undo = (ds : List D) → TakeEachOtherBack (MayAll may change ds) (after_all change ds)
+      (MayUndoAll may_undo undo ds) (before_all undo ds)
 
 -- ---- rows that are cut one after another
 
@@ -65,4 +69,5 @@ CutListsComeBack = ListsComeBack CanCutNoted cut_noted CanUncutNoted uncut_noted
 -- a recursive despawn cuts the rows of the entity and of those below it, children first, each as it stands at its turn
 abbrev pub DespawnRecursiveCuts : Type 0
 DespawnRecursiveCuts = (w v : World) (e : Entity) → IsValid w → despawn_recursive w e ≡ Ok (tt, v)
-    → (notes : List CutNote) × ((each (λ n. n.entity) notes ≡ post w.children e) × (MayAll CanCutNoted cut_noted notes w × (v ≡ after_all cut_noted notes w)))
+    → (notes : List CutNote) × ((each (λ n. n.entity) notes ≡ post w.children e)
+    × (MayAll CanCutNoted cut_noted notes w × (v ≡ after_all cut_noted notes w)))

@@ -51,7 +51,8 @@ is_retired slots i = nat_eq (slice_index slots.generations i) highest
 
 -- rule 6: each index is live, free or retired
 abbrev pub IndicesAreAccounted : SlotState → Tables → Type 0
-IndicesAreAccounted slots tables = (i : ℕ) → i < length slots.generations → (is_live_index slots tables i || is_free slots i || is_retired slots i) ≡ true
+IndicesAreAccounted slots tables = (i : ℕ) → i < length slots.generations
+    → (is_live_index slots tables i || is_free slots i || is_retired slots i) ≡ true
 
 -- rule 8: parents and children are live, each child stands once, and nobody is its own ancestor
 pub record LinksAreSound (tables : Tables) (children : Forest) : Type 0 where

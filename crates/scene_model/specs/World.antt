@@ -73,7 +73,14 @@ component_of w e kind = component_in w.schema kind (row_of w e)
 
 -- a world without entities
 abbrev pub new_world : Kinds → ℕ → World
-new_world schema limit = record { schema = schema; slots = record { limit = limit; generations = []; free = [] }; tick = 0; tables = map.empty; children = map.empty; resources = map.empty }
+new_world schema limit = record {
+  schema = schema;
+  slots = record { limit = limit; generations = []; free = [] };
+  tick = 0;
+  tables = map.empty;
+  children = map.empty;
+  resources = map.empty;
+}
 
 -- where the row of a live entity stands, with the row
 pub record IsHomeOf (w : World) (e : Entity) (h : Home) : Type 0 where

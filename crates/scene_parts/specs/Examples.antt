@@ -9,12 +9,15 @@ use Rattle.scene_kinds.specs.Map as map
 use Rattle.scene_parts.specs.Parts.{Parts, world_of, parts_of}
 use Rattle.scene_parts.specs.Rules.{first_broken}
 
+-- an entity by its index and its generation
 abbrev pub ent : ℕ → ℕ → Entity
 ent i g = record { index = i; generation = g }
 
+-- a cell of an Int with its ticks
 abbrev pub int : ℕ → ℕ → ℕ → Cell
 int n added changed = record { value = value.Int (pos n); added = added; changed = changed }
 
+-- a row of one Int of 5
 abbrev pub row : Entity → ℕ → ℕ → Row
 row e added changed = record { entity = e; cells = (0, int 5 added changed) ∷ [] }
 
@@ -22,6 +25,7 @@ row e added changed = record { entity = e; cells = (0, int 5 added changed) ∷ 
 abbrev pub last : Entity
 last = ent 0 4294967295
 
+-- a world of one entity, whose index is at its last generation
 abbrev pub small : Parts
 small = record {
   schema = (codes "A", shape.Int) ∷ [];

@@ -54,16 +54,20 @@ module _ {K X : Type 0} {R : K → K → Ordering} where
   abbrev pub lists_of : map.Map R (X × List X) → List (K × List X)
   lists_of m = each (λ e. (e.0, whole e.1)) m.entries
 
+-- listed tables as the map from kind sets to rows
 abbrev pub tables_of : List (ℕ × List Row) → Tables
 tables_of ts = map_of nat_cmp_total ts
 
+-- listed children as the map from parents to children
 abbrev pub forest_of : List (Entity × List Entity) → Forest
 forest_of ls = map_of entity_cmp_total ls
 
+-- listed resources as a map: the first of a name that stands twice counts
 abbrev pub resources_of : List (List ℕ × Cell) → NamedCells
 resources_of [] = map.empty
 resources_of (r ∷ rs) = map.insert name_cmp_total (resources_of rs) r.0 r.1
 
+-- the world that parts say
 abbrev pub world_of : Parts → World
 world_of p = record {
   schema = p.schema;

@@ -83,11 +83,12 @@ tables_are_sound p =
     are_distinct (eq_by_cmp nat_cmp) (keys p.tables)
     && list_all (λ t. has_some t.1 && list_all (is_row_of p.schema t.0) t.1) p.tables
 
--- the walk up from an entity ends within so many steps
+-- what holds of the parent, or true where there is none
 abbrev pub and_up : Option Entity → (Entity → Bool) → Bool
 and_up None ends = true
 and_up (Some p) ends = ends p
 
+-- the walk up from an entity comes to one without a parent within so many steps
 abbrev pub ends_in : ℕ → Forest → Entity → Bool
 ends_in zero f e = not (is_some (parent_of f e))
 ends_in (suc n) f e = and_up (parent_of f e) (ends_in n f)
@@ -116,7 +117,7 @@ abbrev pub ticks_are_sound : Parts → Bool
 ticks_are_sound p =
     list_all (λ r. list_all (λ c. is_timely p.tick c.1) r.cells) (rows_in p) && list_all (λ r. is_timely p.tick r.1) p.resources
 
--- the number of the first broken rule, from the seventh, from the fourth, and of all
+-- the number of the first broken rule from the seventh on
 abbrev pub broken_from_7 : Parts → Option ℕ
 broken_from_7 p =
     if not (tables_are_sound p) then Some 7
@@ -125,6 +126,7 @@ broken_from_7 p =
     else if not (ticks_are_sound p) then Some 10
     else None
 
+-- the first broken rule from the fourth on
 abbrev pub broken_from_4 : Parts → Option ℕ
 broken_from_4 p =
     if not (entities_stand_once p) then Some 4
@@ -132,6 +134,7 @@ broken_from_4 p =
     else if not (indices_are_accounted p) then Some 6
     else broken_from_7 p
 
+-- the first broken rule of all
 abbrev pub first_broken : Parts → Option ℕ
 first_broken p =
     if not (limit_holds p) then Some 1

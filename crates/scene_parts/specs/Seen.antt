@@ -13,6 +13,7 @@ lists_seen es = each (λ e. (e.0, e.1.items)) es
 abbrev pub named_seen : List (String Global × Cell) → List (List ℕ × Cell)
 named_seen rs = each (λ r. (string_bytes r.0, r.1)) rs
 
+-- the parts that the code holds
 abbrev pub seen : WorldParts → Parts
 seen p = record {
   schema = p.schema;

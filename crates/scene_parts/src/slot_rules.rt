@@ -36,7 +36,8 @@ fn is_accounted(live: &[bool], free: &[bool], index: u32, generation: u32) -> bo
 /// Whether each index is live, free or retired, where `live` and `free` mark those that are.
 pub(crate) fn all_accounted(generations: &[u32], live: &[bool], free: &[bool]) -> bool
     requires { length generations.now ≤ 4294967296 }
-    ensures { result ≡ list_all (λ i. is_marked live.now i || is_marked free.now i || nat_eq (slice_index generations.now i) highest) (range_with_len 0 (length generations.now)) }
+    ensures { result ≡ list_all (λ i. is_marked live.now i || is_marked free.now i || nat_eq (slice_index generations.now i) highest)
+        (range_with_len 0 (length generations.now)) }
 {
     let mut index: usize = 0;
     for generation in generations {

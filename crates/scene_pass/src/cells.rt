@@ -41,7 +41,8 @@ fn push_names(
     since: Since,
 ) -> Result<(), AllocError>
     requires { at < length table.now.rows }
-    ensures { OnOk result ((row : Row) → slice_get table.now.rows at ≡ Some row → names.new.items ≡ names.old.items ++ names_in (is_since since) row) }
+    ensures { OnOk result ((row : Row) → slice_get table.now.rows at ≡ Some row
+        → names.new.items ≡ names.old.items ++ names_in (is_since since) row) }
 {
     let entity = table.entity_at(at);
     'cells: for number in 0..table.cell_count(at) {

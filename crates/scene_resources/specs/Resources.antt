@@ -40,7 +40,8 @@ pub record StoredResources : Type 0 where
 
 -- resources are told apart by their cells and names
 abbrev pub stored_code : Coded StoredResources
-stored_code = code_by (NamedCells × List (List ℕ)) (coded× (cells.code {R = name_cmp} (coded_list coded_ℕ) cell.the_row.coded) (coded_list (coded_list coded_ℕ))) (λ r. (r.cells, r.kept)) (λ p. record { cells = p.0; kept = p.1 }) (λ _. refl)
+stored_code = code_by (NamedCells × List (List ℕ)) (coded× (cells.code {R = name_cmp} (coded_list coded_ℕ) cell.the_row.coded)
+    (coded_list (coded_list coded_ℕ))) (λ r. (r.cells, r.kept)) (λ p. record { cells = p.0; kept = p.1 }) (λ _. refl)
 
 -- each name that was kept still is
 pub record IsWider (old new : List (List ℕ)) : Type 0 where

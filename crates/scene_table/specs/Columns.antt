@@ -61,7 +61,8 @@ kinds_in cells = map (λ cell. cell.0) cells
 
 -- the cells that columns have at a place
 abbrev pub AreCellsAt : List ColumnState → ℕ → List (ℕ × Cell) → Type 0
-AreCellsAt columns at cells = map (λ column. option_map (λ cell. (column.kind, cell)) (slice_get column.cells at)) columns ≡ map (λ cell. Some cell) cells
+AreCellsAt columns at cells = map (λ column. option_map (λ cell. (column.kind, cell)) (slice_get column.cells at)) columns
+    ≡ map (λ cell. Some cell) cells
 
 -- each column has this many cells
 abbrev pub AreLong : ℕ → List ColumnState → Type 0

@@ -127,7 +127,8 @@ pub(crate) fn move_gaining(
     requires within { All (λ column. at < length column.cells) source.old }
     requires room { All (HasRoomAt to) target.old }
     ensures left { source.new ≡ map (out_of_column at) source.old }
-    ensures put { (cells : List (ℕ × Cell)) (kind : ℕ) → AreCellsAt source.old at cells → target.new ≡ put_each to (insert cells number (kind, cell)) target.old }
+    ensures put { (cells : List (ℕ × Cell)) (kind : ℕ) → AreCellsAt source.old at cells
+        → target.new ≡ put_each to (insert cells number (kind, cell)) target.old }
 {
     let (low, high) = source.split_at_mut(number);
     let (target_low, rest) = target.split_at_mut(number);
@@ -179,7 +180,8 @@ pub(crate) fn number_from(columns: &[Column], kind: u8) -> Option<usize>
 /// The number at which a cell of a kind goes among cells of the other columns' kinds: how many of these kinds are lower.
 pub(crate) fn number_for(columns: &[Column], kind: u8) -> usize
     ensures within { result ≤ length columns.now }
-    ensures goes { (cells : List (ℕ × Cell)) (cell : Cell) → kinds_in cells ≡ kinds_of columns.now → cell_of cells kind ≡ None → insert cells result (kind, cell) ≡ with_cell cells kind cell }
+    ensures goes { (cells : List (ℕ × Cell)) (cell : Cell) → kinds_in cells ≡ kinds_of columns.now → cell_of cells kind ≡ None
+        → insert cells result (kind, cell) ≡ with_cell cells kind cell }
 {
     match number_from(columns, kind) {
         Some(number) => number,

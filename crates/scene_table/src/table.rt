@@ -92,8 +92,10 @@ impl Table {
         requires { kind < 64 }
         ensures none { IfNone result (has_kind self.now.mask kind ≡ false) }
         ensures some { IfSome result (λ column. has_kind self.now.mask kind ≡ true) }
-        ensures cells { IfSome result (λ column. map (λ cell. Some cell) (cells_of column.values.now column.added.now column.changed.now) ≡ cells_of_kind self.now.rows kind) }
-        ensures lists { IfSome result (λ column. (length column.added.now ≡ length column.values.now) × (length column.changed.now ≡ length column.values.now)) }
+        ensures cells { IfSome result (λ column. map (λ cell. Some cell) (cells_of column.values.now column.added.now column.changed.now)
+            ≡ cells_of_kind self.now.rows kind) }
+        ensures lists { IfSome result (λ column. (length column.added.now ≡ length column.values.now)
+            × (length column.changed.now ≡ length column.values.now)) }
     {
         if !has_kind(self.mask, kind) {
             return None;
@@ -327,7 +329,8 @@ impl Table {
         ensures capacity { self.new.capacity ≡ self.old.capacity }
         ensures behind { HasRoom self.new }
         ensures target_mask { target.new.mask ≡ target.old.mask }
-        ensures target_rows { (row : Row) → slice_get self.old.rows at ≡ Some row → target.new.rows ≡ put_back target.old.rows to (row_with_cell row kind cell) }
+        ensures target_rows { (row : Row) → slice_get self.old.rows at ≡ Some row
+            → target.new.rows ≡ put_back target.old.rows to (row_with_cell row kind cell) }
         ensures target_capacity { target.new.capacity ≡ target.old.capacity }
     {
         let number = number_for(self.columns.as_slice(), kind);
@@ -353,7 +356,8 @@ impl Table {
         ensures behind { HasRoom self.new }
         ensures cell { cell_at self.old.rows at kind ≡ Some result }
         ensures target_mask { target.new.mask ≡ target.old.mask }
-        ensures target_rows { (row : Row) → slice_get self.old.rows at ≡ Some row → target.new.rows ≡ put_back target.old.rows to (row_without_cell row kind) }
+        ensures target_rows { (row : Row) → slice_get self.old.rows at ≡ Some row
+            → target.new.rows ≡ put_back target.old.rows to (row_without_cell row kind) }
         ensures target_capacity { target.new.capacity ≡ target.old.capacity }
     {
         let number = match number_of(self.columns.as_slice(), kind) {

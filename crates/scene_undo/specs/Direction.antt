@@ -9,6 +9,7 @@ use Rattle.scene_undo.specs.declared.direction.Direction.{Direction}
 use Rattle.scene_undo.specs.declared.direction.Direction.TheVariants.{Undo, Redo}
 use Rattle.scene_undo.specs.Kept.{CanRedo, CanUndo}
 
+-- the other direction
 abbrev pub opposite : Direction → Direction
 opposite Undo = Redo
 opposite Redo = Undo

@@ -88,13 +88,16 @@ impl Editor {
         let mut tried = world;
         try_stack(Direction::Undo, &mut tried, past.as_slice())?;
         match try_stack(Direction::Redo, &mut tried, future.as_slice()) {
-            Ok(()) => Ok(Editor {
-                alloc,
-                world: tried,
-                past,
-                future,
-                rewinds: 0,
-            }),
+            Ok(()) => {
+                let (world, rewinds) = (tried, 0);
+                Ok(Editor {
+                    alloc,
+                    world,
+                    past,
+                    future,
+                    rewinds,
+                })
+            }
             Err(refusal) => Err(after_frames(refusal, past.len())),
         }
     }
@@ -144,9 +147,11 @@ impl Editor {
     /// place; `NoMemory`.
     pub fn submit(&mut self, queues: &[Queue]) -> Result<Made, Refusal>
         requires { length queues.now ≤ 4294967295 }
-        ensures machine { Answers (entities_of result) (machine_of self.old) (machine_of self.new) (call (machine_of self.old) (Submit (frame_of queues.now))) }
+        ensures machine { Answers (entities_of result) (machine_of self.old) (machine_of self.new)
+            (call (machine_of self.old) (Submit (frame_of queues.now))) }
         ensures copy { IfOk result (λ m. m.copy.items ≡ m.entities.items) }
-        ensures records { OnOk result ((self.new.past ≡ frame_record (frame_of queues.now) self.old.world ∷ self.old.past) × (self.new.future ≡ [])) }
+        ensures records { OnOk result ((self.new.past ≡ frame_record (frame_of queues.now) self.old.world ∷ self.old.past)
+            × (self.new.future ≡ [])) }
         ensures same { OnErr result (self.new ≡ self.old) }
     {
         self.past.reserve(1)?;

@@ -32,8 +32,10 @@ pub(crate) struct Framed {
 /// go back to where it began.
 fn apply(alloc: Global, queues: &[Queue], recorder: &mut Recorder) -> Result<Made, Refusal>
     requires { length queues.now ≤ 4294967295 }
-    ensures noted { IfOk result (λ m. queues_from (act deltas_of) 0 (frame_of queues.now) (staged_of recorder.old) ≡ Ok (m.entities.items, staged_of recorder.new)) }
-    ensures world { IfOk result (λ m. queues_from perform 0 (frame_of queues.now) recorder.old.world ≡ Ok (m.entities.items, recorder.new.world)) }
+    ensures noted { IfOk result (λ m. queues_from (act deltas_of) 0 (frame_of queues.now) (staged_of recorder.old)
+        ≡ Ok (m.entities.items, staged_of recorder.new)) }
+    ensures world { IfOk result (λ m. queues_from perform 0 (frame_of queues.now) recorder.old.world
+        ≡ Ok (m.entities.items, recorder.new.world)) }
     ensures copy { IfOk result (λ m. m.copy.items ≡ m.entities.items) }
     ensures refused { IfErr result (λ r. r ≢ refusal_of NoMemory → queues_from perform 0 (frame_of queues.now) recorder.old.world ≡ Err r) }
     ensures opening { opening_of recorder.new ≡ opening_of recorder.old }
@@ -52,7 +54,8 @@ fn recorded(
     queues: &[Queue],
 ) -> (World, Result<(Made, Vec<Delta>), Refusal>)
     requires { length queues.now ≤ 4294967295 }
-    ensures noted { IfOk result.1 (λ p. queues_from (act deltas_of) 0 (frame_of queues.now) (record { world = world.world; notes = [] }) ≡ Ok (p.0.entities.items, record { world = result.0.world; notes = p.1.items })) }
+    ensures noted { IfOk result.1 (λ p. queues_from (act deltas_of) 0 (frame_of queues.now) (record { world = world.world; notes = [] })
+        ≡ Ok (p.0.entities.items, record { world = result.0.world; notes = p.1.items })) }
     ensures done { IfOk result.1 (λ p. queues_from perform 0 (frame_of queues.now) world.world ≡ Ok (p.0.entities.items, result.0.world)) }
     ensures copy { IfOk result.1 (λ p. p.0.copy.items ≡ p.0.entities.items) }
     ensures ready { IfOk result.1 (λ p. AreReady result.0.room p.1.items result.0.world) }

@@ -26,4 +26,5 @@ pub record MayMove (t : ArchetypesState) (home : Home) (place kind : ℕ) (cell 
   pub below : AreKindsBelow 64 row.cells
   pub moves : IsCellToMove row.cells kind cell inward
   pub within : place ≤ length (rows_at t.tables (mask_of (shifted row.cells kind cell inward)))
-  pub room : length (rows_at t.tables (mask_of (shifted row.cells kind cell inward))) < capacity_at t.rooms (mask_of (shifted row.cells kind cell inward))
+  pub room : length (rows_at t.tables (mask_of (shifted row.cells kind cell inward))) < capacity_at t.rooms
+      (mask_of (shifted row.cells kind cell inward))

@@ -24,7 +24,8 @@ pub record Housed : Type 0 where
 
 -- the room of the parts of the code
 abbrev pub room_of : StoredSlots → ArchetypesState → LinksState → StoredResources → Room
-room_of slots tables links resources = record { slots = slots.capacity; rows = tables.rooms; homes = tables.homes; lists = links.room; names = resources.kept }
+room_of slots tables links resources =
+    record { slots = slots.capacity; rows = tables.rooms; homes = tables.homes; lists = links.room; names = resources.kept }
 
 -- a world needs no more memory than this room
 pub record Holds (room : Room) (w : World) : Type 0 where
@@ -43,8 +44,10 @@ pub record IsWider (old new : Room) : Type 0 where
 
 -- ---- the parts of what contracts see, as those of the parts see them
 
+-- the slots with their room
 abbrev pub stored_slots : Housed → StoredSlots
 stored_slots h = record { state = h.world.slots; capacity = h.room.slots }
 
+-- the tables and homes with their room
 abbrev pub stored_rows : Housed → ArchetypesState
 stored_rows h = record { tables = h.world.tables; rooms = h.room.rows; homes = h.room.homes }

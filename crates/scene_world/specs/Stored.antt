@@ -9,4 +9,5 @@ use Rattle.scene_table.specs.Tables.{Tables}
 
 -- the parts of the code as a world: room isn't seen
 abbrev pub world_of : Kinds → StoredSlots → ℕ → Tables → Forest → StoredResources → World
-world_of schema slots tick tables children resources = record { schema = schema; slots = slots.state; tick = tick; tables = tables; children = children; resources = resources.cells }
+world_of schema slots tick tables children resources =
+    record { schema = schema; slots = slots.state; tick = tick; tables = tables; children = children; resources = resources.cells }

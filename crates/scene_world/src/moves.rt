@@ -39,7 +39,8 @@ pub(crate) fn insert_at(
     requires stands { StandsIn tables.old.tables entity home }
     requires kinds { (row : Row) → row_at tables.old.tables home ≡ Some row → HasKinds home.mask row }
     requires low { kind < 64 }
-    ensures ok { OnOk result ((row : Row) → row_at tables.old.tables home ≡ Some row → tables.new.tables ≡ after_insert tick tables.old.tables home row kind value (cell_of row.cells kind)) }
+    ensures ok { OnOk result ((row : Row) → row_at tables.old.tables home ≡ Some row
+        → tables.new.tables ≡ after_insert tick tables.old.tables home row kind value (cell_of row.cells kind)) }
     ensures err { OnErr result (tables.new.tables ≡ tables.old.tables) }
     ensures wide { IsWider tables.old.rooms tables.new.rooms }
     ensures homes { tables.old.homes ≤ tables.new.homes }
@@ -76,7 +77,8 @@ pub(crate) fn remove_at(
     requires kinds { (row : Row) → row_at tables.old.tables home ≡ Some row → HasKinds home.mask row × AreKindsBelow 64 row.cells }
     requires there { IsSome (cell_at (rows_at tables.old.tables home.mask) home.place kind) }
     requires low { kind < 64 }
-    ensures ok { OnOk result ((row : Row) → row_at tables.old.tables home ≡ Some row → tables.new.tables ≡ after_move tables.old.tables home row (without_cell row.cells kind)) }
+    ensures ok { OnOk result ((row : Row) → row_at tables.old.tables home ≡ Some row
+        → tables.new.tables ≡ after_move tables.old.tables home row (without_cell row.cells kind)) }
     ensures err { OnErr result (tables.new.tables ≡ tables.old.tables) }
     ensures wide { IsWider tables.old.rooms tables.new.rooms }
     ensures homes { tables.old.homes ≤ tables.new.homes }
@@ -115,7 +117,8 @@ pub(crate) fn move_row(
     requires stands { StandsIn tables.old.tables entity home }
     requires low { kind < 64 }
     requires moves { (row : Row) → row_at tables.old.tables home ≡ Some row → MayMove tables.old home place kind cell inward row }
-    ensures tables { (row : Row) → row_at tables.old.tables home ≡ Some row → tables.new.tables ≡ with_row_back (without_row tables.old.tables home) place (row_for row.entity (shifted row.cells kind cell inward)) }
+    ensures tables { (row : Row) → row_at tables.old.tables home ≡ Some row
+        → tables.new.tables ≡ with_row_back (without_row tables.old.tables home) place (row_for row.entity (shifted row.cells kind cell inward)) }
     ensures rooms { tables.new.rooms ≡ tables.old.rooms }
     ensures homes { tables.new.homes ≡ tables.old.homes }
 {

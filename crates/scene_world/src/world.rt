@@ -204,7 +204,8 @@ impl World {
     /// Refused, in this order: `NoSuchEntity` where the entity isn't alive; `NoSuchKind`; `NotPresent` where the
     /// entity doesn't have the kind. It takes no memory.
     pub fn get(&self, entity: Entity, kind: u8) -> Result<CellRef<'_>, Refusal>
-        ensures { MatchResult result (λ r. component_of self.now.world entity kind ≡ Ok (shown r)) (λ r. component_of self.now.world entity kind ≡ Err r) }
+        ensures { MatchResult result (λ r. component_of self.now.world entity kind ≡ Ok (shown r))
+            (λ r. component_of self.now.world entity kind ≡ Err r) }
     {
         let Some(home) = self.home_of(entity) else {
             return Err(Refusal::from(Fault::NoSuchEntity));

@@ -53,7 +53,8 @@ impl World {
     ) -> Result<(), AllocError>
         ensures world { self.new.world ≡ self.old.world }
         ensures room { OnOk result (IfSome link (λ l. HasRoomForChild self.new.room.lists self.new.world.children entity l.0)) }
-        ensures there { IfSome link (λ l. AreAlone self.old.world.children entity l.0 × HasRoomForChild self.old.room.lists self.old.world.children entity l.0) → IsOk result }
+        ensures there { IfSome link (λ l. AreAlone self.old.world.children entity l.0
+            × HasRoomForChild self.old.room.lists self.old.world.children entity l.0) → IsOk result }
         ensures wide { IsWider self.old.room self.new.room }
     {
         match link {
