@@ -7,10 +7,6 @@
 #[cfg(test)]
 mod queue_tests;
 #[cfg(test)]
-mod raw_steps;
-#[cfg(test)]
-mod raw_tests;
-#[cfg(test)]
 mod run_tests;
 mod streams;
 #[cfg(test)]

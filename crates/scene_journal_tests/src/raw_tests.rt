@@ -1,68 +1,34 @@
-//! Worlds that were worked out by hand, made and taken back by raw calls: which rows stand where, and which slots there are.
-use crate::raw_steps::{goes, returns};
+//! Worlds that were worked out by hand, made and taken back delta by delta: which rows stand where, and which slots there are.
+use crate::scenes::{A, T, cell, empty_world, first, number, one_number};
+use crate::steps::{goes, returns};
 use scene_journal::Delta;
-use scene_kinds::{Cell, Cells, Entity, Schema, Shape, Text, Value};
+use scene_kinds::{Entity, Text, Value};
 use scene_table::Home;
 use scene_world::World;
 use std::alloc::{AllocError, Global};
 use std::test::Fail;
 
-/// The numbers of the kinds A, an Int, and T, a Tag.
-const A: u8 = 0;
-
-const T: u8 = 1;
-
-/// The kind sets that they make.
+/// The kind set of A alone.
 const JUST_A: u64 = 1;
 
+/// That of A and T.
 const BOTH: u64 = 3;
-
-fn schema(alloc: Global) -> Result<Schema, Fail> {
-    let mut schema = Schema::new(alloc);
-    let _a = schema.add(String::from_str(alloc, "A")?, Shape::Int)?;
-    let _t = schema.add(String::from_str(alloc, "T")?, Shape::Tag)?;
-    Ok(schema)
-}
-
-/// The first entity of an index.
-fn first(index: u32) -> Entity {
-    Entity {
-        index,
-        generation: 1,
-    }
-}
-
-fn cell(value: Value, added: u64, changed: u64) -> Cell {
-    Cell {
-        value,
-        added,
-        changed,
-    }
-}
 
 /// The first entity of an index comes with a number, at a tick that is one above the index.
 fn spawned(alloc: Global, index: u32) -> Result<Delta, AllocError> {
-    let tick = u64::from(index) + 1;
-    let number = cell(Value::Int(i64::from(index)), tick, tick);
-    let mut cells = Cells::new(alloc);
-    cells.put(A, number)?;
     Ok(Delta::Spawned {
         entity: first(index),
-        cells,
+        cells: one_number(alloc, i64::from(index), u64::from(index) + 1)?,
         fresh: true,
     })
 }
 
 /// The same entity leaves from a place.
 fn despawned(alloc: Global, index: u32, place: u32) -> Result<Delta, AllocError> {
-    let tick = u64::from(index) + 1;
-    let number = cell(Value::Int(i64::from(index)), tick, tick);
-    let mut cells = Cells::new(alloc);
-    cells.put(A, number)?;
     Ok(Delta::Despawned {
         entity: first(index),
         place,
-        cells,
+        cells: one_number(alloc, i64::from(index), u64::from(index) + 1)?,
         link: None,
         retired: false,
     })
@@ -84,8 +50,8 @@ fn set_again() -> Result<Delta, AllocError> {
     Ok(Delta::CellSet {
         entity: first(0),
         kind: A,
-        before: cell(Value::Int(0), 1, 1),
-        after: cell(Value::Int(0), 1, 2),
+        before: number(0, 1, 1),
+        after: number(0, 1, 2),
     })
 }
 
@@ -107,8 +73,8 @@ fn put(alloc: Global, before: Option<u64>, after: Option<u64>) -> Result<Delta, 
     let name = String::from_str(alloc, "n")?;
     Ok(Delta::ResourceSet {
         name: Text::from(name),
-        before: before.map(|tick| cell(Value::Int(1), 1, tick)),
-        after: after.map(|tick| cell(Value::Int(1), 1, tick)),
+        before: before.map(|tick| number(1, 1, tick)),
+        after: after.map(|tick| number(1, 1, tick)),
     })
 }
 
@@ -254,11 +220,6 @@ fn a_resource_changes_and_comes_back(alloc: Global, world: &mut World) -> bool {
         && returns(world, put(alloc, Some(2), None))
         && returns(world, put(alloc, Some(1), Some(2)))
         && world.resources().get("n").map(|n| n.changed) == Some(1)
-}
-
-/// An empty world with both kinds.
-fn empty_world(alloc: Global) -> Result<World, Fail> {
-    Ok(World::new(alloc, schema(alloc)?, 8))
 }
 
 #[test]

@@ -1,0 +1,116 @@
+//! The records of frames that were worked out by hand, and copies of deltas and of records.
+use crate::frames::framed;
+use crate::printed::same_delta;
+use crate::scenes::{T, empty_world, first, one_tag, pushed, spawn};
+use scene_commands::{Command, Target};
+use scene_journal::{Delta, FrameRecord};
+use scene_kinds::{Entity, Value};
+use scene_queue::Queue;
+use std::alloc::{AllocError, Global};
+use std::test::Fail;
+
+/// Three entities with the Tag come, of which the second and the third go below the first.
+fn push_planting(alloc: Global, queue: &mut Queue) -> bool {
+    let first = Target::New(0);
+    pushed(queue, spawn(alloc, T, Value::Tag))
+        && pushed(queue, spawn(alloc, T, Value::Tag))
+        && pushed(queue, spawn(alloc, T, Value::Tag))
+        && pushed(queue, Ok(Command::SetParent(Target::New(1), first)))
+        && pushed(queue, Ok(Command::SetParent(Target::New(2), first)))
+}
+
+/// The first entity goes, with all below it.
+fn push_felling(queue: &mut Queue) -> bool {
+    pushed(queue, Ok(Command::DespawnAll(Target::Id(first(0)))))
+}
+
+/// The delta of a spawn with the Tag in the first frame.
+fn came(alloc: Global, index: u32) -> Result<Delta, AllocError> {
+    Ok(Delta::Spawned {
+        entity: first(index),
+        cells: one_tag(alloc, 1)?,
+        fresh: true,
+    })
+}
+
+/// The delta of a first link.
+fn joined(index: u32, link: (Entity, u32)) -> Delta {
+    Delta::Linked {
+        entity: first(index),
+        before: None,
+        after: Some(link),
+    }
+}
+
+/// The delta of a despawn of an entity that came in the first frame.
+fn went(
+    alloc: Global,
+    index: u32,
+    place: u32,
+    link: Option<(Entity, u32)>,
+) -> Result<Delta, AllocError> {
+    Ok(Delta::Despawned {
+        entity: first(index),
+        place,
+        cells: one_tag(alloc, 1)?,
+        link,
+        retired: false,
+    })
+}
+
+/// Whether a delta is there and is the expected one.
+fn is_delta(alloc: Global, found: Option<&Delta>, expected: Result<Delta, AllocError>) -> bool {
+    match (found, expected) {
+        (Some(found), Ok(expected)) => same_delta(alloc, found, &expected),
+        _ => false,
+    }
+}
+
+/// Whether the deltas are those of planting in an empty world.
+fn are_of_planting(alloc: Global, deltas: &[Delta]) -> bool {
+    deltas.len() == 5
+        && is_delta(alloc, deltas.get(0), came(alloc, 0))
+        && is_delta(alloc, deltas.get(1), came(alloc, 1))
+        && is_delta(alloc, deltas.get(2), came(alloc, 2))
+        && is_delta(alloc, deltas.get(3), Ok(joined(1, (first(0), 0))))
+        && is_delta(alloc, deltas.get(4), Ok(joined(2, (first(0), 1))))
+}
+
+/// Whether the deltas are those of felling then: the children go first, and each as it stands at its turn.
+fn are_of_felling(alloc: Global, deltas: &[Delta]) -> bool {
+    let below_first = Some((first(0), 0));
+    deltas.len() == 3
+        && is_delta(alloc, deltas.get(0), went(alloc, 1, 1, below_first))
+        && is_delta(alloc, deltas.get(1), went(alloc, 2, 1, below_first))
+        && is_delta(alloc, deltas.get(2), went(alloc, 0, 0, None))
+}
+
+#[test]
+fn frames_note_their_deltas(rt: HostRuntime) -> Result<(), Fail> {
+    let empty = empty_world(rt.alloc())?;
+    let mut planting = Queue::new(rt.alloc());
+    assert!(rt; push_planting(rt.alloc(), &mut planting));
+    let (planted, one) = framed(&rt, rt.alloc(), empty, &planting);
+    assert_eq!(rt; one.tick_before(), 0);
+    assert!(rt; are_of_planting(rt.alloc(), one.deltas()));
+    let mut felling = Queue::new(rt.alloc());
+    assert!(rt; push_felling(&mut felling));
+    let (_felled, two) = framed(&rt, rt.alloc(), planted, &felling);
+    assert_eq!(rt; two.tick_before(), 1);
+    assert!(rt; are_of_felling(rt.alloc(), two.deltas()));
+    Ok(())
+}
+
+#[test]
+fn copies_equal_their_originals(rt: HostRuntime) -> Result<(), Fail> {
+    let delta = went(rt.alloc(), 1, 1, Some((first(0), 0)))?;
+    let copy = delta.try_clone().expect(&rt, "memory");
+    assert!(rt; same_delta(rt.alloc(), &copy, &delta));
+    let deltas = vec![in rt.alloc(); delta, copy].expect(&rt, "memory");
+    let record = FrameRecord::new(7, deltas);
+    let copy = record.try_clone().expect(&rt, "memory");
+    assert_eq!(rt; copy.tick_before(), 7);
+    assert_eq!(rt; copy.deltas().len(), 2);
+    assert!(rt; same_delta(rt.alloc(), &copy.deltas()[0], &record.deltas()[0]));
+    Ok(())
+}

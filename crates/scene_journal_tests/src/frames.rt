@@ -1,0 +1,27 @@
+//! Frames of one queue, with their records.
+ghost use Rattle.scene_journal.specs.Ready.{AreReady};
+
+use scene_journal::{FrameRecord, Recorder};
+use scene_queue::Queue;
+use scene_world::World;
+use std::alloc::Global;
+use std::process::Abort;
+
+/// A recorder of a frame that has done nothing yet but raise the tick.
+pub fn begun(rt: &impl Abort, alloc: Global, world: World) -> Recorder {
+    let tick = world.tick();
+    let mut raised = world;
+    let is_raised = raised.raise_tick().is_ok();
+    assert!(rt; is_raised);
+    Recorder::new(alloc, raised, FrameRecord::new(tick, Vec::new(alloc)))
+}
+
+/// The world after a frame of one queue, and the frame's record.
+pub fn framed(rt: &impl Abort, alloc: Global, world: World, queue: &Queue) -> (World, FrameRecord)
+    ensures { AreReady result.0.room result.1.deltas result.0.world }
+{
+    let mut recorder = begun(rt, alloc, world);
+    let is_applied = queue.apply(&mut recorder).is_ok();
+    assert!(rt; is_applied);
+    recorder.into_parts()
+}
