@@ -4,7 +4,7 @@
 #   bench/journal.sh [SIZE [RUNS]]      at the top of the repository; a world of SIZE entities, 1000000 if none are given, and RUNS
 #                                       runs of each, 5 if none are given
 #
-# For spawns, moves between tables and despawns it prints nanoseconds of processor time a command: on a World, by a recorder,
+# For spawns, inserts in place, moves between tables and despawns it prints nanoseconds of processor time a command: on a World, by a recorder,
 # and of the revert that takes them back; and how often a recorded command takes the time of the plain one. Each time is the
 # least of the runs, without that of the spawns before. A recorded command's time has that of dropping its delta in the
 # end. Then it prints the memory of each. It needs rt and python3.
@@ -12,14 +12,14 @@ set -euo pipefail
 cd "$(dirname "$0")/.."
 place=$(mktemp -d)
 trap 'rm -rf "$place"' EXIT
-(cd crates/scene_world_bench && rt run > "$place/rt.log" 2>&1) || { cat "$place/rt.log" >&2; exit 1; }
-python3 - "$(pwd)/crates/scene_world_bench/out/scene_world_bench" "${1:-1000000}" "${2:-5}" <<'P'
+(cd crates/scene_journal_bench && rt run > "$place/rt.log" 2>&1) || { cat "$place/rt.log" >&2; exit 1; }
+python3 - "$(pwd)/crates/scene_journal_bench/out/scene_journal_bench" "${1:-1000000}" "${2:-5}" <<'P'
 import os, subprocess, sys
 
 program, size, runs = sys.argv[1], int(sys.argv[2]), int(sys.argv[3])
 
 # a work, the one before it, and how many commands it makes for each entity
-WORKS = [("spawn", None, 1), ("move", "spawn", 2), ("despawn", "spawn", 1)]
+WORKS = [("spawn", None, 1), ("insert", "spawn", 1), ("move", "spawn", 2), ("despawn", "spawn", 1)]
 
 def once(work, way):
     """Processor seconds of a run, and its memory in MiB."""

@@ -1,16 +1,12 @@
-//! `scene_world_bench WORK SIZE ROUNDS [WAY]`: some work on a world of so many entities, so many times, each time on a new
-//! world. The way is `plain` where none is given; `recorded` has a recorder do the work, and `reverted` take it back too. It
+//! `scene_world_bench WORK SIZE ROUNDS`: some work on a world of so many entities, so many times, each time on a new world. It
 //! prints how many indices are free in the end of each.
 //!
-//! Without words it does all work in each way on a small world once. bench/world.sh and bench/journal.sh make tables of such
-//! runs.
+//! Without words it does all work on a small world once. bench/world.sh makes a table of such runs.
 #![tactic(auto)]
 
-mod way;
 mod work;
 
-use crate::way::{Way, done};
-use crate::work::Work;
+use crate::work::{Work, done};
 use std::process::ExitCode;
 use std::{env, io};
 
@@ -18,28 +14,18 @@ use std::{env, io};
 #[derive(Clone, Copy)]
 struct Asked {
     work: Work,
-    way: Way,
     size: u32,
     rounds: u32,
-}
-
-/// The run of these words, or `None` where they ask for none.
-fn asked(work: &str, way: &str, size: &str, rounds: &str) -> Option<Asked> {
-    Some(Asked {
-        work: Work::named(work)?,
-        way: Way::named(way)?,
-        size: size.parse().ok()?,
-        rounds: rounds.parse().ok()?,
-    })
 }
 
 /// The run that the words after the program's name ask for, or `None` where they ask for none.
 fn read_words(words: &[String]) -> Option<Asked> {
     match words {
-        [_, work, size, rounds] => { asked(work.as_str(), "plain", size.as_str(), rounds.as_str()) }
-        [_, work, size, rounds, way] => {
-            asked(work.as_str(), way.as_str(), size.as_str(), rounds.as_str())
-        }
+        [_, work, size, rounds] => Some(Asked {
+            work: Work::named(work.as_str())?,
+            size: size.parse().ok()?,
+            rounds: rounds.parse().ok()?,
+        }),
         _ => None,
     }
 }
@@ -52,12 +38,11 @@ fn run(rt: &HostRuntime, asked: Asked) -> io::Result<bool> {
     if asked.size == 0 || asked.size > 1_048_576 {
         return Ok(false);
     }
-    let (work, way) = (asked.work.name(), asked.way.name());
     for _ in 0..asked.rounds {
-        match done(rt.alloc(), asked.way, asked.work, asked.size) {
-            Ok(free) => println!(rt; "{work} {way}: {free} free")?,
+        match done(rt.alloc(), asked.work, asked.size) {
+            Ok(free) => println!(rt; "{}: {free} free", asked.work.name())?,
             Err(refusal) => {
-                println!(rt; "{work} {way}: refused {refusal}")?;
+                println!(rt; "{}: refused {refusal}", asked.work.name())?;
                 return Ok(false);
             }
         }
@@ -65,12 +50,11 @@ fn run(rt: &HostRuntime, asked: Asked) -> io::Result<bool> {
     Ok(true)
 }
 
-/// All work on a small world, in one way.
-fn run_all(rt: &HostRuntime, way: Way) -> io::Result<bool> {
+/// All work on a small world.
+fn run_all(rt: &HostRuntime) -> io::Result<bool> {
     for work in Work::ALL {
         let small = Asked {
             work,
-            way,
             size: SMALL,
             rounds: 1,
         };
@@ -81,21 +65,11 @@ fn run_all(rt: &HostRuntime, way: Way) -> io::Result<bool> {
     Ok(true)
 }
 
-/// All work on a small world, in each way.
-fn run_each_way(rt: &HostRuntime) -> io::Result<bool> {
-    for way in Way::ALL {
-        if !run_all(rt, way)? {
-            return Ok(false);
-        }
-    }
-    Ok(true)
-}
-
 fn main(rt: HostRuntime) -> io::Result<ExitCode> {
     let words: Vec<String> = env::args(&rt)?.collect(rt.alloc())?;
     let done = match read_words(words.as_slice()) {
         Some(asked) => run(&rt, asked)?,
-        None if words.len() < 2 => run_each_way(&rt)?,
+        None if words.len() < 2 => run_all(&rt)?,
         None => false,
     };
     Ok(if done {

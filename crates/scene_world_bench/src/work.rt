@@ -1,8 +1,8 @@
-//! The work on a world, by its public calls alone, or by those of a recorder.
+//! The work on a world, by its public calls alone.
 ghost use Rattle.std.specs.Prelude.{◌≡◌, ◌≤◌};
 
 use scene_kinds::{Entity, Refusal, Schema, Shape, Value};
-use scene_world::{Stage, World};
+use scene_world::World;
 use std::alloc::Global;
 
 /// The number of the Int that each entity has from its spawn.
@@ -20,7 +20,7 @@ const MARK: u8 = 3;
 /// What is done to a world of so many entities of three kinds.
 #[derive(Clone, Copy, PartialEq, Eq)]
 pub enum Work {
-    /// The entities come, one after another. All other work is done once they are there.
+    /// Nothing after the spawns.
     Spawn,
     /// A read of one component of each entity.
     Get,
@@ -117,9 +117,9 @@ fn components(alloc: Global, index: u32) -> Result<Vec<(u8, Value)>, Refusal> {
     Ok(Vec::from_array(alloc, cells)?)
 }
 
-fn spawn_each<S: Stage>(alloc: Global, stage: &mut S, size: u32) -> Result<(), Refusal> {
+fn spawn_each(alloc: Global, world: &mut World, size: u32) -> Result<(), Refusal> {
     for index in 0..size {
-        let _entity = stage.spawn(components(alloc, index)?)?;
+        let _entity = world.spawn(components(alloc, index)?)?;
     }
     Ok(())
 }
@@ -131,100 +131,94 @@ fn get_each(world: &World, size: u32) -> Result<(), Refusal> {
     Ok(())
 }
 
-fn insert_each<S: Stage>(stage: &mut S, size: u32) -> Result<(), Refusal> {
+fn insert_each(world: &mut World, size: u32) -> Result<(), Refusal> {
     for index in 0..size {
-        stage.insert(first(index), HEALTH, Value::Int(7))?;
+        world.insert(first(index), HEALTH, Value::Int(7))?;
     }
     Ok(())
 }
 
-fn move_each<S: Stage>(stage: &mut S, size: u32) -> Result<(), Refusal> {
+fn move_each(world: &mut World, size: u32) -> Result<(), Refusal> {
     for index in 0..size {
-        stage.insert(first(index), MARK, Value::Tag)?;
+        world.insert(first(index), MARK, Value::Tag)?;
     }
     for index in 0..size {
-        stage.remove(first(index), MARK)?;
+        world.remove(first(index), MARK)?;
     }
     Ok(())
 }
 
-fn link_wide<S: Stage>(stage: &mut S, size: u32) -> Result<(), Refusal> {
+fn link_wide(world: &mut World, size: u32) -> Result<(), Refusal> {
     for index in 1..size {
-        stage.set_parent(first(index), first(0))?;
+        world.set_parent(first(index), first(0))?;
     }
     Ok(())
 }
 
-fn link_deep<S: Stage>(stage: &mut S, size: u32) -> Result<(), Refusal> {
+fn link_deep(world: &mut World, size: u32) -> Result<(), Refusal> {
     for index in 1..size {
-        stage.set_parent(first(index), first(index - 1))?;
+        world.set_parent(first(index), first(index - 1))?;
     }
     Ok(())
 }
 
-fn despawn_each<S: Stage>(stage: &mut S, size: u32) -> Result<(), Refusal> {
+fn despawn_each(world: &mut World, size: u32) -> Result<(), Refusal> {
     for index in 0..size {
-        stage.despawn(first(index))?;
+        world.despawn(first(index))?;
     }
     Ok(())
 }
 
-fn put_often<S: Stage>(stage: &mut S, size: u32) -> Result<(), Refusal> {
+fn put_often(world: &mut World, size: u32) -> Result<(), Refusal> {
     for index in 0..size {
-        stage.put_resource("score", Value::Int(i64::from(index)))?;
+        world.put_resource("score", Value::Int(i64::from(index)))?;
     }
     Ok(())
 }
 
 /// Despawns the first entity with all below it, once they are linked.
-fn despawn_all<S: Stage>(stage: &mut S, linked: Result<(), Refusal>) -> Result<(), Refusal> {
+fn despawn_all(world: &mut World, linked: Result<(), Refusal>) -> Result<(), Refusal> {
     linked?;
-    stage.despawn_recursive(first(0))
+    world.despawn_recursive(first(0))
 }
 
-/// Does some work on a stage that has this many entities, or is to have them.
-pub fn work_on<S: Stage>(
-    alloc: Global,
-    stage: &mut S,
-    work: Work,
-    size: u32,
-) -> Result<(), Refusal> {
+/// Does some work on a world that has this many entities.
+fn work_on(world: &mut World, work: Work, size: u32) -> Result<(), Refusal> {
     match work {
-        Work::Spawn => spawn_each(alloc, stage, size),
-        Work::Get => get_each(stage.world(), size),
-        Work::Insert => insert_each(stage, size),
-        Work::Move => move_each(stage, size),
-        Work::Wide => link_wide(stage, size),
-        Work::Deep => link_deep(stage, size),
-        Work::Despawn => despawn_each(stage, size),
+        Work::Spawn => Ok(()),
+        Work::Get => get_each(world, size),
+        Work::Insert => insert_each(world, size),
+        Work::Move => move_each(world, size),
+        Work::Wide => link_wide(world, size),
+        Work::Deep => link_deep(world, size),
+        Work::Despawn => despawn_each(world, size),
         Work::DespawnWide => {
-            let linked = link_wide(stage, size);
-            despawn_all(stage, linked)
+            let linked = link_wide(world, size);
+            despawn_all(world, linked)
         }
         Work::DespawnDeep => {
-            let linked = link_deep(stage, size);
-            despawn_all(stage, linked)
+            let linked = link_deep(world, size);
+            despawn_all(world, linked)
         }
-        Work::Put => put_often(stage, size),
+        Work::Put => put_often(world, size),
     }
 }
 
-/// Fills an empty world with so many entities, where the work isn't to do that.
-fn fill(alloc: Global, world: &mut World, work: Work, size: u32) -> Result<(), Refusal> {
-    if work == Work::Spawn {
-        return Ok(());
-    }
-    spawn_each(alloc, world, size)
+/// Spawns so many entities in an empty world, and does some work on it.
+fn fill_and_work(alloc: Global, world: &mut World, work: Work, size: u32) -> Result<(), Refusal> {
+    spawn_each(alloc, world, size)?;
+    work_on(world, work, size)
 }
 
-/// A new world for some work with so many entities.
-pub fn world_for(alloc: Global, work: Work, size: u32) -> Result<World, Refusal>
+/// Does some work on a new world of so many entities, and answers how many indices are free in the end.
+pub fn done(alloc: Global, work: Work, size: u32) -> Result<usize, Refusal>
     requires least { 1 ≤ size }
     requires most { size ≤ 1048576 }
 {
     let mut schema = Schema::new(alloc);
     let added = add_kinds(alloc, &mut schema);
     let mut world = World::new(alloc, schema, size);
-    let filled = added.and(fill(alloc, &mut world, work, size));
-    filled.map(|()| world)
+    let worked = added.and(fill_and_work(alloc, &mut world, work, size));
+    let free = world.slots().free().len();
+    worked.map(|()| free)
 }
