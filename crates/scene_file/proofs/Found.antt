@@ -33,7 +33,8 @@ module _ {K X : Type 0} {R : K → K → Ordering} (o : IsTotalOrder R) where
   found_past : (e : K × X) (es fs : List (K × X)) → AllByRecursion (λ k. R e.0 k ≡ Less) (keys fs)
       → each (λ k. find R k (e ∷ es)) (keys fs) ≡ each (λ k. find R k es) (keys fs)
   found_past e es [] h = refl
-  found_past e es (f ∷ fs) h = λ i. cond (is_eq ((o.antisymm f.0 e.0 ∙ ap ordering_reverse h.0) i)) (Some e.1) (find R f.0 es) ∷ found_past e es fs h.1 i
+  found_past e es (f ∷ fs) h = λ i. cond (is_eq ((o.antisymm f.0 e.0 ∙ ap ordering_reverse h.0) i)) (Some e.1) (find R f.0 es) ∷ found_past e es
+      fs h.1 i
 
   -- the keys of entries find what stands beside them
   pub found_in_order : (es : List (K × X)) → T (is_sorted R es) → each (λ k. find R k es) (keys es) ≡ each (λ e. Some e.1) es
@@ -42,7 +43,8 @@ module _ {K X : Type 0} {R : K → K → Ordering} (o : IsTotalOrder R) where
       λ i. cond (ties_itself o e.0 i) (Some e.1) (find R e.0 es) ∷ (found_past e es es (below_keys e.0 es parts.0) ∙ found_in_order es parts.1) i
 
 -- two lists, element by element, as pairs
-pairs : {X K V : Type 0} (f : X → K) (g : X → V) (xs : List X) (es : List (K × V)) → each f xs ≡ keys es → each g xs ≡ each (λ e. e.1) es → each (λ x. (f x, g x)) xs ≡ es
+pairs : {X K V : Type 0} (f : X → K) (g : X → V) (xs : List X) (es : List (K × V)) → each f xs ≡ keys es → each g xs ≡ each (λ e. e.1) es
+    → each (λ x. (f x, g x)) xs ≡ es
 pairs f g [] [] h k = refl
 pairs f g [] (e ∷ es) h k = absurd (cc h)
 pairs f g (x ∷ xs) [] h k = absurd (cc h)
@@ -79,9 +81,11 @@ pub forest_found : (f : Forest) → list_text (λ p. children_text (p, children_
 forest_found f = fused (λ p. (p, children_of f p)) children_text (parents f) (lists_of f) (lists_found entity_cmp_total f)
 
 -- tables that are those of the kind sets with rows, in their order
-tables_are : {X : Type 0} (mask : X → ℕ) (rows : X → List Row) (ts : List X) (tables : Tables) → each mask ts ≡ masks_of tables → each rows ts ≡ each (rows_at tables) (masks_of tables)
+tables_are : {X : Type 0} (mask : X → ℕ) (rows : X → List Row) (ts : List X) (tables : Tables) → each mask ts ≡ masks_of tables → each rows ts
+    ≡ each (rows_at tables) (masks_of tables)
     → each (λ t. (mask t, rows t)) ts ≡ lists_of tables
-tables_are mask rows ts tables h k = pairs mask rows ts (lists_of tables) (h ∙ sym (first_parts tables.entries)) (k ∙ second_parts tables.entries (found_in_order nat_cmp_total tables.entries tables.sorted))
+tables_are mask rows ts tables h k = pairs mask rows ts (lists_of tables) (h ∙ sym (first_parts tables.entries))
+    (k ∙ second_parts tables.entries (found_in_order nat_cmp_total tables.entries tables.sorted))
   where
     first_parts : (es : List (ℕ × (Row × List Row))) → keys (each {B = ℕ × List Row} (λ e. (e.0, whole e.1)) es) ≡ keys es
     first_parts [] = refl
@@ -95,7 +99,8 @@ tables_are mask rows ts tables h k = pairs mask rows ts (lists_of tables) (h ∙
         let left : each (λ k. find nat_cmp k tables.entries) (keys es) ≡ each (λ e. Some e.1) es = cc h in
         λ i. listed (first i) ∷ second_parts es left i
 
-pub tables_found : {X : Type 0} (mask : X → ℕ) (rows : X → List Row) (ts : List X) (tables : Tables) → each mask ts ≡ masks_of tables → each rows ts ≡ each (rows_at tables) (masks_of tables)
+pub tables_found : {X : Type 0} (mask : X → ℕ) (rows : X → List Row) (ts : List X) (tables : Tables) → each mask ts ≡ masks_of tables
+    → each rows ts ≡ each (rows_at tables) (masks_of tables)
     → list_text (λ t. table_json (mask t, rows t)) ts ≡ list_text table_text (lists_of tables)
 unfolding table_json
 tables_found mask rows ts tables h k = fused (λ t. (mask t, rows t)) table_text ts (lists_of tables) (tables_are mask rows ts tables h k)

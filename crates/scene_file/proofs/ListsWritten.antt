@@ -34,7 +34,8 @@ closed {A = A} later text xs at old opened there after past whole first last =
     ∙ ap (λ b. b ++ rest_text false text xs) first ∙ append_assoc old (codes "[") (rest_text false text xs)
 
 -- what a last call has written where it was accepted
-pub accepted : {X E : Type 0} {Q : Type 0} (r : Result X E) (after new before : List ℕ) → after ≡ (if is_ok r then new else before) → (after ≡ new → Q) → OnOk r Q
+pub accepted : {X E : Type 0} {Q : Type 0} (r : Result X E) (after new before : List ℕ) → after ≡ (if is_ok r then new else before)
+    → (after ≡ new → Q) → OnOk r Q
 accepted (Ok x) after new before h k = k h
 accepted (Err e) after new before h k = tt
 
@@ -48,11 +49,14 @@ pub chain : (old a rest s1 s2 : List ℕ) → s1 ≡ old ++ a → s2 ≡ s1 ++ r
 chain old a rest s1 s2 h k = k ∙ ap (λ s. s ++ rest) h ∙ append_assoc old a rest
 
 -- five texts that are written one after another
-pub five : (old a b c d e s1 s2 s3 s4 s5 text : List ℕ) → text ≡ a ++ (b ++ (c ++ (d ++ e))) → s1 ≡ old ++ a → s2 ≡ s1 ++ b → s3 ≡ s2 ++ c → s4 ≡ s3 ++ d → s5 ≡ s4 ++ e
+pub five : (old a b c d e s1 s2 s3 s4 s5 text : List ℕ) → text ≡ a ++ (b ++ (c ++ (d ++ e))) → s1 ≡ old ++ a → s2 ≡ s1 ++ b → s3 ≡ s2 ++ c → s4
+    ≡ s3 ++ d → s5 ≡ s4 ++ e
     → s5 ≡ old ++ text
 five old a b c d e s1 s2 s3 s4 s5 text h h1 h2 h3 h4 h5 =
-    chain old a (b ++ (c ++ (d ++ e))) s1 s5 h1 (chain s1 b (c ++ (d ++ e)) s2 s5 h2 (chain s2 c (d ++ e) s3 s5 h3 (chain s3 d e s4 s5 h4 h5))) ∙ ap (λ t. old ++ t) (sym h)
+    chain old a (b ++ (c ++ (d ++ e))) s1 s5 h1 (chain s1 b (c ++ (d ++ e)) s2 s5 h2 (chain s2 c (d ++ e) s3 s5 h3 (chain s3 d e s4 s5 h4 h5)))
+        ∙ ap (λ t. old ++ t) (sym h)
 
 -- what is read of a row at a place is that row's
-pub read_of : {A X : Type 0} (f : A → X) (xs : List A) (at : ℕ) (y : A) (x : X) → slice_get xs at ≡ Some y → option_map f (slice_get xs at) ≡ Some x → f y ≡ x
+pub read_of : {A X : Type 0} (f : A → X) (xs : List A) (at : ℕ) (y : A) (x : X) → slice_get xs at ≡ Some y → option_map f (slice_get xs at)
+    ≡ Some x → f y ≡ x
 read_of f xs at y x there read = let same : Some (f y) ≡ Some x = ap (option_map f) (sym there) ∙ read in cc

@@ -10,11 +10,13 @@ use Rattle.scene_kinds.specs.declared.cells.Row.{Row}
 use Rattle.scene_kinds.specs.declared.entity.Entity.{Entity}
 use Rattle.scene_model.specs.World.{World}
 use Rattle.scene_parts.specs.Parts.{lists_of}
-use Rattle.scene_file.specs.Text.{list_text, count_text, entity_json, cell_text, resource_cell_text, row_text, kind_text, table_text, children_text, resource_text, world_text}
+use Rattle.scene_file.specs.Text.{list_text, count_text, entity_json, cell_text, resource_cell_text}
+use Rattle.scene_file.specs.Text.{row_text, kind_text, table_text, children_text, resource_text, world_text}
 use Rattle.scene_file.specs.Printing.{kinds_json, table_json, first_members, last_members}
 
 pub row_is : (r : Row) → compact_text (row_text r)
-    ≡ codes "{\"cells\":" ++ (compact_text (list_text (λ c. cell_text c.1) r.cells) ++ (codes ",\"entity\":" ++ (compact_text (entity_json r.entity) ++ codes "}")))
+    ≡ codes "{\"cells\":" ++ (compact_text (list_text (λ c. cell_text c.1) r.cells) ++
+        (codes ",\"entity\":" ++ (compact_text (entity_json r.entity) ++ codes "}")))
 unfolding serde_json_on_literals
 row_is r = refl
 
@@ -43,7 +45,8 @@ members_is : (w : World) → compact_text (world_text w)
 unfolding serde_json_on_literals digits
 members_is w = refl
 
-nine : (a b c d e f g h i j k : List ℕ) → (a ++ (b ++ (c ++ (d ++ (e ++ (f ++ (g ++ (h ++ (i ++ j))))))))) ++ k ≡ a ++ (b ++ (c ++ (d ++ (e ++ (f ++ (g ++ (h ++ (i ++ (j ++ k)))))))))
+nine : (a b c d e f g h i j k : List ℕ) → (a ++ (b ++ (c ++ (d ++ (e ++ (f ++ (g ++ (h ++ (i ++ j))))))))) ++ k
+    ≡ a ++ (b ++ (c ++ (d ++ (e ++ (f ++ (g ++ (h ++ (i ++ (j ++ k)))))))))
 nine a b c d e f g h i j k = simp append_assoc refl
 
 pub world_is : (w : World) → compact_text (world_text w) ≡ first_members w ++ last_members w

@@ -41,15 +41,18 @@ one_plain : (n : ℕ) → n < 10 → IsPlain ((48 + n) ∷ [])
 one_plain n h = ap (λ r. r ++ []) (digit_plain n h)
 
 more_plain : (n : ℕ) (ds : List ℕ) → 10 ≤ n → IsPlain ds → IsPlain (ds ++ (48 + n % 10) ∷ [])
-more_plain n ds h p = escape_append ds ((48 + n % 10) ∷ []) ∙ ap (λ r. r ++ escape ((48 + n % 10) ∷ [])) p ∙ ap (λ r. ds ++ r) (one_plain (n % 10) (omega arith))
+more_plain n ds h p = escape_append ds ((48 + n % 10) ∷ []) ∙ ap (λ r. r ++ escape ((48 + n % 10) ∷ [])) p
+    ∙ ap (λ r. ds ++ r) (one_plain (n % 10) (omega arith))
 
 decimal_plain : (n : ℕ) → n < 2 ^ 64 → IsPlain (decimal n)
 decimal_plain n h = decimal_by_steps (λ n ds. IsPlain ds) one_plain more_plain n h
 
 entity_plain : (i g : ℕ) → i < 2 ^ 64 → g < 2 ^ 64 → IsPlain (entity_text i g)
 unfolding escape_byte
-entity_plain i g h k = escape_append (decimal i) (118 ∷ decimal g) ∙ ap (λ s. s ++ (118 ∷ escape (decimal g))) (decimal_plain i h) ∙ ap (λ s. decimal i ++ (118 ∷ s)) (decimal_plain g k)
+entity_plain i g h k = escape_append (decimal i) (118 ∷ decimal g) ∙ ap (λ s. s ++ (118 ∷ escape (decimal g))) (decimal_plain i h)
+    ∙ ap (λ s. decimal i ++ (118 ∷ s)) (decimal_plain g k)
 
 -- an entity's text stands between quotes as it is
-pub entity_quoted : (e : Entity) → e.index < 2 ^ 32 → e.generation < 2 ^ 32 → compact_text (entity_json e) ≡ 34 ∷ (entity_text e.index e.generation ++ 34 ∷ [])
+pub entity_quoted : (e : Entity) → e.index < 2 ^ 32 → e.generation < 2 ^ 32 → compact_text (entity_json e)
+    ≡ 34 ∷ (entity_text e.index e.generation ++ 34 ∷ [])
 entity_quoted e h k = ap (λ s. 34 ∷ (s ++ 34 ∷ [])) (entity_plain e.index e.generation (omega (arith, h)) (omega (arith, k)))

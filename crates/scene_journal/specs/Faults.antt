@@ -67,3 +67,13 @@ pub record IsBeforeSome (ds : List Delta) (w v : World) : Type 0 where
   pub taken : List Delta
   pub cut : ds ≡ left ++ taken
   pub before : v ≡ back_all taken w
+
+-- what a refused redo leaves: the very world where its tick is at fault, else the raised one after the first of the deltas
+pub record IsRedoneInPart (r : Record) (w v : World) : Type 0 where
+  pub same : (CanRaiseFor r w → ⊥) → v ≡ w
+  pub part : CanRaiseFor r w → IsAfterSome r.deltas (raised w) v
+
+-- what a refused undo leaves: the very world where its tick is at fault, else the one before the last of the deltas
+pub record IsUndoneInPart (r : Record) (w v : World) : Type 0 where
+  pub same : w.tick ≢ r.tick_before + 1 → v ≡ w
+  pub part : w.tick ≡ r.tick_before + 1 → IsBeforeSome r.deltas w v

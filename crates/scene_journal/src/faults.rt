@@ -1,8 +1,9 @@
 //! Whether records fit, and else their first fault.
-ghost use Rattle.std.specs.Prelude.{◌≡◌, OnOk, IfErr};
+ghost use Rattle.std.specs.Prelude.{◌≡◌, OnOk, OnErr, IfErr};
 ghost use Rattle.scene_kinds.specs.Answers.{refusal_of};
 ghost use Rattle.scene_kinds.specs.declared.fault.Fault.TheVariants.{BadRecord};
 ghost use Rattle.scene_journal.specs.Faults.{FaultsAreFaults, IsFirstUnfit, IsLastUnfit, IsFaultOn, IsFaultBack, Names};
+ghost use Rattle.scene_journal.specs.Faults.{IsAfterSome, IsBeforeSome, IsRedoneInPart, IsUndoneInPart};
 ghost use Rattle.scene_journal.specs.Ready.{AreReady, AreReadyOn};
 ghost use Rattle.scene_journal.specs.Records.{fwd_all, back_all, raised, redone, undone, RecordFitsOn, RecordFitsBack};
 ghost use Rattle.scene_world.specs.Room.{IsWider};
@@ -32,6 +33,7 @@ fn redo_fitting(draft: &mut World, deltas: &[Delta]) -> Result<(), Refusal>
     ensures ready { OnOk result (AreReadyOn draft.new.room deltas.now draft.old.world) }
     ensures done { OnOk result (draft.new.world ≡ fwd_all deltas.now draft.old.world) }
     ensures refused { IfErr result (Names (IsFirstUnfit deltas.now draft.old.world)) }
+    ensures part { OnErr result (IsAfterSome deltas.now draft.old.world draft.new.world) }
     ensures wide { IsWider draft.old.room draft.new.room }
 {
     for (number, delta) in deltas.iter().enumerate() {
@@ -49,6 +51,7 @@ fn undo_fitting(draft: &mut World, deltas: &[Delta]) -> Result<(), Refusal>
     ensures ready { OnOk result (AreReady draft.new.room deltas.now draft.old.world) }
     ensures done { OnOk result (draft.new.world ≡ back_all deltas.now draft.old.world) }
     ensures refused { IfErr result (Names (IsLastUnfit deltas.now draft.old.world)) }
+    ensures part { OnErr result (IsBeforeSome deltas.now draft.old.world draft.new.world) }
     ensures wide { IsWider draft.old.room draft.new.room }
 {
     let mut left = deltas;
@@ -69,13 +72,15 @@ impl FrameRecord {
     ///
     /// Refused: `BadRecord` with frame 0 and the number of the first delta that doesn't fit at its turn, or, where the
     /// draft's tick isn't the one before the record or can't be raised, with the number of deltas (docs/JOURNAL.md,
-    /// "Records"); `NoMemory`. Then the draft may be after some of the deltas.
+    /// "Records"); `NoMemory`. Where the tick is at fault, the draft stays. Else its tick is raised then, and some of the
+    /// deltas are made, the first ones.
     #[tactic(auto, using(crate::proofs::Turns::ready_fits))]
     pub fn redo_checked(&self, draft: &mut World) -> Result<(), Refusal>
         ensures fits { OnOk result (RecordFitsOn self.now draft.old.world) }
         ensures ready { OnOk result (AreReadyOn draft.new.room self.now.deltas (raised draft.old.world)) }
         ensures done { OnOk result (draft.new.world ≡ redone self.now draft.old.world) }
         ensures refused { IfErr result (Names (IsFaultOn self.now draft.old.world)) }
+        ensures part { OnErr result (IsRedoneInPart self.now draft.old.world draft.new.world) }
         ensures wide { IsWider draft.old.room draft.new.room }
     {
         let tick = draft.tick();
@@ -91,13 +96,15 @@ impl FrameRecord {
     ///
     /// Refused: `BadRecord` with frame 0 and the number of the last delta that doesn't fit back at its turn, or, where the
     /// draft's tick isn't one above the one before the record, or a cell would be left that was changed later than that,
-    /// with the number of deltas (docs/JOURNAL.md, "Records"); `NoMemory`. Then the draft may be before some of the deltas.
+    /// with the number of deltas (docs/JOURNAL.md, "Records"); `NoMemory`. Where the tick is at fault, the draft stays. Else
+    /// some of the deltas are taken back then, the last ones.
     #[tactic(auto, using(crate::proofs::Turns::ready_fits))]
     pub fn undo_checked(&self, draft: &mut World) -> Result<(), Refusal>
         ensures fits { OnOk result (RecordFitsBack self.now draft.old.world) }
         ensures ready { OnOk result (AreReady draft.new.room self.now.deltas draft.old.world) }
         ensures done { OnOk result (draft.new.world ≡ undone self.now draft.old.world) }
         ensures refused { IfErr result (Names (IsFaultBack self.now draft.old.world)) }
+        ensures part { OnErr result (IsUndoneInPart self.now draft.old.world draft.new.world) }
         ensures wide { IsWider draft.old.room draft.new.room }
     {
         let before = self.tick_before();

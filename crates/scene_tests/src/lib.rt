@@ -5,6 +5,8 @@
 #![tactic(auto)]
 
 #[cfg(test)]
+mod home_tests;
+#[cfg(test)]
 mod queue_tests;
 #[cfg(test)]
 mod run_tests;

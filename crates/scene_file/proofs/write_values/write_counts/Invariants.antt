@@ -5,4 +5,5 @@ use Rattle.scene_file.specs.Printing.{rest_text}
 use Rattle.scene_file.proofs.write_values.write_counts.Given as goal
 
 abbrev pub invariant-numbers : goal.invariant-numbers
-invariant-numbers l = string_bytes l.out ++ rest_text l.later count_text (drop l.n-index l.numbers) ≡ string_bytes l.initial.out ++ rest_text false count_text l.numbers
+invariant-numbers l = string_bytes l.out ++ rest_text l.later count_text (drop l.n-index l.numbers)
+    ≡ string_bytes l.initial.out ++ rest_text false count_text l.numbers

@@ -6,5 +6,6 @@ use Rattle.scene_file.specs.Printing.{named_cells}
 use Rattle.scene_file.proofs.write_world.write_named.Given as goal
 
 abbrev pub invariant-names : goal.invariant-names
-invariant-names l = string_bytes l.out ++ rest_text l.later resource_text (named_cells l.resources.cells (each string_bytes (drop l.name-index l.names)))
+invariant-names l = string_bytes l.out ++ rest_text l.later resource_text
+    (named_cells l.resources.cells (each string_bytes (drop l.name-index l.names)))
     ≡ string_bytes l.initial.out ++ rest_text false resource_text (named_cells l.resources.cells (each string_bytes l.names))

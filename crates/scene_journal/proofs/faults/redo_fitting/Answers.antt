@@ -1,6 +1,6 @@
-use Rattle.std.proofs.Common.{◌≡◌, true, false, sym, take, ◌∙◌}
+use Rattle.std.proofs.Common.{◌≡◌, true, false, rules, sym, take, ◌∙◌}
 use Rattle.scene_world.proofs.Room.{wider_wider}
-use Rattle.scene_journal.proofs.SomeDeltas.{made_next, ready_next, unfit_here}
+use Rattle.scene_journal.proofs.SomeDeltas.{made_next, ready_next, some_made, unfit_here}
 use Rattle.scene_journal.proofs.Turns.{ready_fits_on}
 use Rattle.scene_journal.proofs.faults.redo_fitting.Goals as goal
 
@@ -14,6 +14,14 @@ returns-then-not-fits_on-clause-refused c = λ other. (
         (λ fits. absurd (let both : false ≡ true = sym c.if-not-fits_on.true ∙ c.fits_on.ensures.1 fits in cc)),
   ),
 )
+
+pub returns-then-not-fits_on-clause-part : goal.returns-then-not-fits_on-clause-part
+returns-then-not-fits_on-clause-part c = some_made c.args.deltas.now c.args.draft.now.world c.loop-number.draft.world c.loop-number.number c.loop-number.invariant.1.0
+
+pub returns-in_err-redo_delta-clause-part : goal.returns-in_err-redo_delta-clause-part
+returns-in_err-redo_delta-clause-part c =
+    let part = some_made c.args.deltas.now c.args.draft.now.world c.redo_delta.new.world.world c.loop-number.number (c.in_err-redo_delta.ensures.full ∙ c.loop-number.invariant.1.0) in
+    search (part, rules)
 
 pub loop-number-preserved : goal.loop-number-preserved
 loop-number-preserved c =

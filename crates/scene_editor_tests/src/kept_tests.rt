@@ -1,0 +1,134 @@
+//! A past that is kept outside, and taken up by another editor.
+use crate::small::{editor_of, first, given, queue_of};
+use scene_commands::{Command, Target};
+use scene_journal::FrameRecord;
+use scene_kinds::{Refusal, Shape, Value};
+use scene_queue::Queue;
+use scene_undo::Editor;
+use scene_world::World;
+use std::alloc::{AllocError, Global};
+use std::test::Fail;
+
+/// Puts the spawn of a tagged entity last in a queue.
+fn spawn(alloc: Global, queue: &mut Queue) -> Result<Target, Refusal> {
+    queue
+        .spawn(given(alloc, Value::Tag)?)
+        .map_err(|back| back.refusal)
+}
+
+/// Three entities, of which the first is the parent of the others.
+fn tree(alloc: Global) -> Result<Queue, Refusal> {
+    let mut queue = Queue::new(alloc);
+    let root = spawn(alloc, &mut queue)?;
+    for _ in 0..2 {
+        let child = spawn(alloc, &mut queue)?;
+        queue
+            .push(Command::SetParent(child, root))
+            .map_err(|back| back.refusal)?;
+    }
+    Ok(queue)
+}
+
+/// An editor of two frames: the first spawns a tree, the second despawns all of it.
+fn grown_and_felled(alloc: Global) -> Result<Editor, Refusal> {
+    let mut editor = editor_of(alloc, Shape::Tag)?;
+    let grow = vec![in alloc; tree(alloc)?]?;
+    let _grown = editor.submit(grow.as_slice())?;
+    let fell = queue_of(alloc, Command::DespawnAll(Target::Id(first(0))))?;
+    let _felled = editor.submit(vec![in alloc; fell]?.as_slice())?;
+    Ok(editor)
+}
+
+/// Whether a world is of this tick and has these slots.
+fn has_slots(world: &World, tick: u64, generations: &[u32], free: &[u32]) -> bool {
+    let slots = world.slots();
+    world.tick() == tick && slots.generations() == generations && slots.free() == free
+}
+
+/// Whether nothing is alive.
+fn is_bare(world: &World) -> bool {
+    world.rows_of(1).is_none() && world.links().is_empty()
+}
+
+/// Whether it is the world between the two frames.
+fn has_tree(world: &World) -> bool {
+    let Some(table) = world.rows_of(1) else {
+        return false;
+    };
+    let Some(tags) = table.column(0) else {
+        return false;
+    };
+    has_slots(world, 1, &[1, 1, 1], &[])
+        && table.entities() == [first(0), first(1), first(2)].as_slice()
+        && tags.added == [1, 1, 1].as_slice()
+        && tags.changed == [1, 1, 1].as_slice()
+        && world.links().children_of(first(0)) == [first(1), first(2)].as_slice()
+}
+
+/// Whether it is the world before both frames.
+fn is_new(world: &World) -> bool {
+    has_slots(world, 0, &[], &[]) && is_bare(world)
+}
+
+/// Whether it is the world after both.
+fn is_felled(world: &World) -> bool {
+    has_slots(world, 2, &[2, 2, 2], &[1, 2, 0]) && is_bare(world)
+}
+
+fn copies(alloc: Global, records: &[FrameRecord]) -> Result<Vec<FrameRecord>, AllocError> {
+    let mut copies = Vec::new(alloc);
+    for record in records {
+        copies.push(record.try_clone()?)?;
+    }
+    Ok(copies)
+}
+
+/// An editor of clones of the world and the records of another.
+fn taken_up(alloc: Global, editor: &Editor) -> Result<Editor, Refusal> {
+    let (past, future) = editor.records();
+    let past = copies(alloc, past)?;
+    let future = copies(alloc, future)?;
+    Editor::from_parts(alloc, editor.world().try_clone()?, past, future)
+}
+
+/// Whether both frames can be undone and redone, through the worlds that there were.
+fn goes_back_and_on(editor: &mut Editor) -> bool {
+    is_felled(editor.world())
+        && editor.undo().is_ok()
+        && has_tree(editor.world())
+        && editor.undo().is_ok()
+        && is_new(editor.world())
+        && goes_on(editor)
+}
+
+/// Whether both frames can be redone.
+fn goes_on(editor: &mut Editor) -> bool {
+    editor.redo().is_ok()
+        && has_tree(editor.world())
+        && editor.redo().is_ok()
+        && is_felled(editor.world())
+}
+
+/// Takes all back.
+fn is_undone(editor: &mut Editor) -> bool {
+    editor.undo().is_ok() && editor.undo().is_ok() && editor.undo_len() == 0
+}
+
+#[test]
+fn kept_past_is_undone_and_redone(rt: HostRuntime) -> Result<(), Fail> {
+    let before = grown_and_felled(rt.alloc())?;
+    let mut editor = taken_up(rt.alloc(), &before)?;
+    assert!(rt; goes_back_and_on(&mut editor));
+    assert_eq!(rt; editor.rewinds(), 2);
+    Ok(())
+}
+
+#[test]
+fn kept_future_is_redone(rt: HostRuntime) -> Result<(), Fail> {
+    let mut before = grown_and_felled(rt.alloc())?;
+    assert!(rt; is_undone(&mut before));
+    let mut editor = taken_up(rt.alloc(), &before)?;
+    assert!(rt; goes_on(&mut editor));
+    assert_eq!(rt; editor.rewinds(), 0);
+    Ok(())
+}
