@@ -17,13 +17,13 @@ in_filter p k ks b e = ap (λ c. cond c (k ∷ filter p ks) (filter p ks)) e
 -- a kind that the set has comes first, and one that it hasn't is left out
 rest_in : (end : ℕ) (p : ℕ → Bool) (later : Bool) (k : ℕ) → k < end → p k ≡ true
     → rest_text later count_text (filter p (range_with_len k (end - k)))
-        ≡ comma_if later ++ (decimal k ++ rest_text true count_text (filter p (range_with_len (k + 1) (end - (k + 1)))))
+    ≡ comma_if later ++ (decimal k ++ rest_text true count_text (filter p (range_with_len (k + 1) (end - (k + 1)))))
 rest_in end p later k h e = ap (λ ks. rest_text later count_text (filter p ks)) (range_step end k h)
     ∙ ap (rest_text later count_text) (in_filter p k (range_with_len (k + 1) (end - (k + 1))) true e)
 
 rest_out : (end : ℕ) (p : ℕ → Bool) (later : Bool) (k : ℕ) → k < end → p k ≡ false
     → rest_text later count_text (filter p (range_with_len k (end - k)))
-        ≡ rest_text later count_text (filter p (range_with_len (k + 1) (end - (k + 1))))
+    ≡ rest_text later count_text (filter p (range_with_len (k + 1) (end - (k + 1))))
 rest_out end p later k h e = ap (λ ks. rest_text later count_text (filter p ks)) (range_step end k h)
     ∙ ap (rest_text later count_text) (in_filter p k (range_with_len (k + 1) (end - (k + 1))) false e)
 

@@ -54,7 +54,7 @@ pub five : (old a b c d e s1 s2 s3 s4 s5 text : List ℕ) → text ≡ a ++ (b +
     → s5 ≡ old ++ text
 five old a b c d e s1 s2 s3 s4 s5 text h h1 h2 h3 h4 h5 =
     chain old a (b ++ (c ++ (d ++ e))) s1 s5 h1 (chain s1 b (c ++ (d ++ e)) s2 s5 h2 (chain s2 c (d ++ e) s3 s5 h3 (chain s3 d e s4 s5 h4 h5)))
-        ∙ ap (λ t. old ++ t) (sym h)
+    ∙ ap (λ t. old ++ t) (sym h)
 
 -- what is read of a row at a place is that row's
 pub read_of : {A X : Type 0} (f : A → X) (xs : List A) (at : ℕ) (y : A) (x : X) → slice_get xs at ≡ Some y → option_map f (slice_get xs at)

@@ -16,7 +16,7 @@ use Rattle.scene_file.specs.Printing.{kinds_json, table_json, first_members, las
 
 pub row_is : (r : Row) → compact_text (row_text r)
     ≡ codes "{\"cells\":" ++ (compact_text (list_text (λ c. cell_text c.1) r.cells) ++
-        (codes ",\"entity\":" ++ (compact_text (entity_json r.entity) ++ codes "}")))
+    (codes ",\"entity\":" ++ (compact_text (entity_json r.entity) ++ codes "}")))
 unfolding serde_json_on_literals
 row_is r = refl
 

@@ -76,8 +76,10 @@ shift_row w e kind cell inward = by_row w (row_of w e) (λ h row. record w { tab
 
 -- the row moves back to a place of the table from which it came
 abbrev pub unshift_row : World → Entity → ℕ → ℕ → Cell → Bool → World
-unshift_row w e place kind cell inward = by_row w (row_of w e) (λ h row. record w { tables = with_row_back (without_row w.tables h) place
-    (row_for row.entity (shifted row.cells kind cell (not inward))) })
+unshift_row w e place kind cell inward = by_row w (row_of w e) (λ h row. record w {
+  tables = with_row_back (without_row w.tables h) place
+      (row_for row.entity (shifted row.cells kind cell (not inward)));
+})
 
 -- ---- what is written in its place
 

@@ -17,7 +17,7 @@ frame_of queues = map (λ q. requests q.commands) queues
 abbrev pub ArePassed : {S : Type 0} → Act S → List (List Request) → (old new : S) → Type 0
 ArePassed {S} act rss old new =
     (count : ℕ) × ((mid : S) × ((es : List Entity) × ((queues_from act 0 (take count rss) old ≡ Ok (es, mid))
-        × IsPassed act (get_or rss count []) mid new)))
+    × IsPassed act (get_or rss count []) mid new)))
 
 -- what a stage came to, as what its world came to
 abbrev pub on_world : {A N : Type 0} → Outcome A (Staged N) → Outcome A World

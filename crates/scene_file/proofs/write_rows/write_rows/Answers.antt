@@ -9,5 +9,5 @@ rows-preserved c =
     let rows = c.args.table.now.rows in
     let r = element_at rows c.rows.at (omega (arith, c.rows-test.true, c.len-at-end.ensures.count)) in
     written c.rows.later row_text rows c.rows.at r.0 (string_bytes c.rows.out) (string_bytes c.write_comma.new.out)
-        (string_bytes c.write_row.new.out) _
+    (string_bytes c.write_row.new.out) _
     r.1 c.rows.invariant c.in_ok-write_comma.ensures (c.in_ok-write_row.ensures r.0 r.1)

@@ -13,9 +13,9 @@ returns c =
     let mask = c.mask.result in
     accepted c.push_str-3.result _ _ _ c.push_str-3.ensures.bytes (λ last.
     five (string_bytes c.args.out.now) (codes "{\"kinds\":") (compact_text (kinds_json mask)) (codes ",\"rows\":")
-        (compact_text (list_text row_text rows)) (codes "}")
+    (compact_text (list_text row_text rows)) (codes "}")
     (string_bytes c.push_str.new.self) (string_bytes c.write_kind_set.new.out) (string_bytes c.push_str-2.new.self)
-        (string_bytes c.write_rows.new.out) (string_bytes c.push_str-3.new.self)
+    (string_bytes c.write_rows.new.out) (string_bytes c.push_str-3.new.self)
     (compact_text (table_json (c.args.table.now.mask, rows))) (ap (λ m. compact_text (table_json (m, rows))) (sym c.mask.ensures)
-        ∙ table_is mask rows)
+    ∙ table_is mask rows)
     c.in_ok-push_str.ensures.bytes c.in_ok-write_kind_set.ensures c.in_ok-push_str-2.ensures.bytes c.in_ok-write_rows.ensures last)

@@ -11,4 +11,4 @@ returns c = so c.write_tables.result c.write_tables.ensures (λ h.
     h ∙ ap (λ ts. string_bytes c.args.out.now ++ compact_text (list_text (λ t. table_json (t.now.mask, t.now.rows)) ts)) c.as_slice.ensures.value
     ∙ ap (λ t. string_bytes c.args.out.now ++ compact_text t)
     (tables_found (λ t. t.now.mask) (λ t. t.now.rows) c.in_ok-tables.tables.items c.args.world.now.world.tables c.in_ok-tables.ensures.masks
-        c.in_ok-tables.ensures.rows))
+    c.in_ok-tables.ensures.rows))

@@ -25,7 +25,7 @@ returns c =
     c.in_ok-write_counts.ensures ∙ ap (λ ns. s3 ++ compact_text (list_text count_text ns)) (c.free.ensures ∙ ap (λ s. s.free) c.slots.ensures) in
     let generations : s6 ≡ s5 ++ compact_text (list_text count_text w.slots.generations) =
     c.in_ok-write_counts-2.ensures ∙ ap (λ ns. s5 ++ compact_text (list_text count_text ns))
-        (c.generations.ensures ∙ ap (λ s. s.generations) c.slots-2.ensures) in
+    (c.generations.ensures ∙ ap (λ s. s.generations) c.slots-2.ensures) in
     let kinds : s8 ≡ s7 ++ compact_text (list_text kind_text w.schema) =
     c.in_ok-write_kinds.ensures ∙ ap (λ ks. s7 ++ compact_text (list_text kind_text ks)) c.schema.ensures in
     let limit : end ≡ s8 ++ (codes ",\"limit\":" ++ decimal w.slots.limit) =

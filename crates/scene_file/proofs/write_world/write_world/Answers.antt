@@ -9,5 +9,5 @@ returns c =
     let w = c.args.world.now.world in
     so c.write_last_members.result c.write_last_members.ensures (λ h.
     chain (string_bytes c.args.out.now) (first_members w) (last_members w) (string_bytes c.write_first_members.new.out)
-        (string_bytes c.write_last_members.new.out) c.in_ok-write_first_members.ensures h
+    (string_bytes c.write_last_members.new.out) c.in_ok-write_first_members.ensures h
     ∙ ap (λ t. string_bytes c.args.out.now ++ t) (sym (world_is w)))
