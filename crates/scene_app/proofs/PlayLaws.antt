@@ -9,7 +9,7 @@ use Rattle.scene_commands.specs.declared.command.Command.{Command}
 use Rattle.scene_queue.specs.Queue.{QueueState, push_of}
 use Rattle.scene_script.specs.declared.bad_line.BadLine.{BadLine}
 use Rattle.scene_app.specs.OpenFrame.{Opened, and_last, with_command, queue_count}
-use Rattle.scene_app.specs.Play.{with_frame, queued_reply, frame_reply, reply_within, Reply, Printed, said_reply, reports_at, then_rest, run_from}
+use Rattle.scene_app.specs.Play.{with_frame, lone_reply, line_reply, queued_reply, frame_reply, reply_within, Reply, Printed, said_reply, reports_at, then_rest, run_from}
 use Rattle.scene_app.specs.Reports.{Tally}
 use Rattle.scene_app.specs.Steps.{LinePlayed, Prints, noted}
 use Rattle.scene_app.proofs.ReportLaws.{noted-append}
@@ -34,6 +34,11 @@ line_played before after number line others old new r s h =
     let rest : PlayState → Printed = λ t. run_from (number + 1) t others in
     let more = printed_more old new (new ++ (rest after).text) r s (noted s (rest after).bad) number (said_reply before (line_in before.machine.now.schema line)) rest after h (refl, refl) in
     more
+
+-- where no frame is open, the reply is the one outside a frame
+pub alone_within : (s : PlayState) (f : Option Opened) (line : Line) → s.frame ≡ None → f ≡ None → lone_reply (with_frame s f) line ≡ line_reply s line
+alone_within s f line none after =
+    ap (λ g. lone_reply (with_frame s g) line) (after ∙ sym none) ∙ sym (ap (reply_within s line) none)
 
 -- a line opens at most one queue more
 count_queued : (s : PlayState) (f : Opened) (command : Command) (o : Outcome (Unit {0}) QueueState)

@@ -1,29 +1,16 @@
 -- A line of the setup that is answered, and one that ends it.
-use Rattle.std.proofs.Common.{◌≡◌, ◌≢◌, ℕ, ◌+◌, List, ◌∷◌, ◌++◌, Option, Some, None, Result, Ok, refl, sym, ap, ◌∙◌}
+use Rattle.std.proofs.Common.{◌≡◌, ℕ, ◌+◌, List, ◌∷◌, ◌++◌, Option, Some, None, Result, Ok, refl, sym, ap, ◌∙◌}
 use Rattle.std.proofs.lemmas.List.{append_assoc}
-use Rattle.scene_kinds.specs.declared.shape.Shape.{Shape}
 use Rattle.scene_script.specs.declared.script_line.Line.{Line}
-use Rattle.scene_script.specs.declared.script_line.Line.TheVariants.{Empty, Kind, Slots, Load, Queue, Commit}
 use Rattle.scene_script.specs.declared.bad_line.BadLine.{BadLine}
 use Rattle.scene_script.specs.Script.{line_in}
 use Rattle.scene_app.specs.declared.setup_answer.SetupAnswer.TheVariants.{Given, Ends}
 use Rattle.scene_app.specs.declared.play_state.PlayState.{PlayState}
-use Rattle.scene_app.specs.Play.{SetupState, Declared, Loaded, SetupReply, Printed, setup_kinds, first_world, setup_reply, setup_said, then_setup, setup_from, opening_state, said_reply, reports_at, then_rest, run_from}
+use Rattle.scene_app.specs.Play.{SetupState, Declared, Loaded, SetupReply, Printed, setup_kinds, first_world, setup_said, then_setup, setup_from, opening_state, said_reply, reports_at, then_rest, run_from}
 use Rattle.scene_app.specs.Reports.{Tally}
 use Rattle.scene_app.specs.SetupSteps.{AnswersSetup}
 use Rattle.scene_app.specs.Steps.{noted}
 use Rattle.scene_app.proofs.ReportLaws.{noted-append}
-
--- a line that is none of the setup's has no reply there
-pub no_reply : (s : SetupState) (line : Line) → line ≢ Empty → ((name : List ℕ) (shape : Shape) → line ≢ Kind name shape) → ((n : ℕ) → line ≢ Slots n)
-    → ((text : List ℕ) → line ≢ Load text) → line ≢ Queue → line ≢ Commit → setup_reply s line ≡ None
-no_reply s Empty empty kind slots load queue commit = absurd (empty refl)
-no_reply s (Kind name shape) empty kind slots load queue commit = absurd (kind name shape refl)
-no_reply s (Slots n) empty kind slots load queue commit = absurd (slots n refl)
-no_reply s (Load text) empty kind slots load queue commit = absurd (load text refl)
-no_reply s Queue empty kind slots load queue commit = absurd (queue refl)
-no_reply s Commit empty kind slots load queue commit = absurd (commit refl)
-no_reply s line empty kind slots load queue commit = refl
 
 -- a line that was answered by its reply adds that to the rest
 answered_by : (old new : List ℕ) (s t : SetupState) (said : Result Line BadLine) (bad : Option BadLine) (o : Option SetupReply)
