@@ -23,7 +23,7 @@ fn copy_cells(alloc: Global, table: &Table, place: u32) -> Result<Cells, AllocEr
     ensures { (row : Row) → slice_get table.now.rows place ≡ Some row → IfOk result (λ cells. cells ≡ row.cells) }
 {
     let place = place as usize;
-    let mut cells = Vec::new(alloc);
+    let mut cells = Vec::with_capacity(alloc, table.cell_count(place))?;
     for i in 0..table.cell_count(place) {
         let (kind, cell) = table.nth_cell(place, i);
         cells.push((kind, cell.try_to_cell()?))?;

@@ -69,7 +69,9 @@ fn recorded(
     match apply(alloc, queues, &mut recorder) {
         Ok(made) => {
             let (after, noted) = recorder.into_parts();
-            let (_, deltas) = noted.into_parts();
+            let (_, mut deltas) = noted.into_parts();
+            // The record is kept: most have one delta, and lists grow to four at once.
+            deltas.shrink_to_fit();
             (after, Ok((made, deltas)))
         }
         Err(refusal) => (recorder.revert(), Err(refusal)),

@@ -17,28 +17,28 @@ const FRIEND: u8 = 2;
 /// The number of the Tag that no entity has from its spawn.
 const MARK: u8 = 3;
 
-/// What is done to a world of so many entities of three kinds.
+/// What is done to a world of so many entities of three kinds. Where a pass is spoken of, so many are made on one world.
 #[derive(Clone, Copy, PartialEq, Eq)]
 pub enum Work {
     /// Nothing after the spawns.
     Spawn,
-    /// A read of one component of each entity.
+    /// A pass reads one component of each entity.
     Get,
-    /// A new value in place of a component of each.
+    /// A pass writes a new value in place of a component of each.
     Insert,
-    /// Each goes to the table of one kind more, and back.
+    /// In a pass each goes to the table of one kind more, and back.
     Move,
-    /// All others become children of the first.
+    /// All others become children of the first. In a pass they leave it, the last one first, and come back.
     Wide,
-    /// Each becomes the child of the one before.
+    /// Each becomes the child of the one before. In a pass they leave it, the last one first, and come back.
     Deep,
     /// Each is despawned, the first one first.
     Despawn,
-    /// The first is despawned with all its children.
+    /// The first is despawned with all others, which are its children.
     DespawnWide,
-    /// The first is despawned with all below it.
+    /// The first is despawned with all others, each of which is the child of the one before.
     DespawnDeep,
-    /// A resource is put as often as there are entities.
+    /// In a pass a resource is put as often as there are entities.
     Put,
 }
 
@@ -162,6 +162,14 @@ fn link_deep(world: &mut World, size: u32) -> Result<(), Refusal> {
     Ok(())
 }
 
+/// Each child leaves its parent, the last one first.
+fn unlink_each(world: &mut World, size: u32) -> Result<(), Refusal> {
+    for index in (1..size).rev() {
+        world.remove_parent(first(index))?;
+    }
+    Ok(())
+}
+
 fn despawn_each(world: &mut World, size: u32) -> Result<(), Refusal> {
     for index in 0..size {
         world.despawn(first(index))?;
@@ -176,49 +184,70 @@ fn put_often(world: &mut World, size: u32) -> Result<(), Refusal> {
     Ok(())
 }
 
-/// Despawns the first entity with all below it, once they are linked.
-fn despawn_all(world: &mut World, linked: Result<(), Refusal>) -> Result<(), Refusal> {
-    linked?;
-    world.despawn_recursive(first(0))
-}
-
-/// Does some work on a world that has this many entities.
-fn work_on(world: &mut World, work: Work, size: u32) -> Result<(), Refusal> {
+/// Makes one pass of some work over a world of so many entities; of work that takes the world apart, none.
+fn pass_over(world: &mut World, work: Work, size: u32) -> Result<(), Refusal> {
     match work {
-        Work::Spawn => Ok(()),
         Work::Get => get_each(world, size),
         Work::Insert => insert_each(world, size),
         Work::Move => move_each(world, size),
-        Work::Wide => link_wide(world, size),
-        Work::Deep => link_deep(world, size),
-        Work::Despawn => despawn_each(world, size),
-        Work::DespawnWide => {
-            let linked = link_wide(world, size);
-            despawn_all(world, linked)
+        Work::Wide => {
+            unlink_each(world, size)?;
+            link_wide(world, size)
         }
-        Work::DespawnDeep => {
-            let linked = link_deep(world, size);
-            despawn_all(world, linked)
+        Work::Deep => {
+            unlink_each(world, size)?;
+            link_deep(world, size)
         }
         Work::Put => put_often(world, size),
+        Work::Spawn | Work::Despawn | Work::DespawnWide | Work::DespawnDeep => Ok(()),
     }
 }
 
-/// Spawns so many entities in an empty world, and does some work on it.
-fn fill_and_work(alloc: Global, world: &mut World, work: Work, size: u32) -> Result<(), Refusal> {
-    spawn_each(alloc, world, size)?;
-    work_on(world, work, size)
+/// Links the entities that some work wants linked.
+fn link_each(world: &mut World, work: Work, size: u32) -> Result<(), Refusal> {
+    match work {
+        Work::Wide | Work::DespawnWide => link_wide(world, size),
+        Work::Deep | Work::DespawnDeep => link_deep(world, size),
+        _ => Ok(()),
+    }
 }
 
-/// Does some work on a new world of so many entities, and answers how many indices are free in the end.
-pub fn done(alloc: Global, work: Work, size: u32) -> Result<usize, Refusal>
-    requires least { 1 ≤ size }
-    requires most { size ≤ 1048576 }
+/// Despawns the entities that some work wants despawned.
+fn take_apart(world: &mut World, work: Work, size: u32) -> Result<(), Refusal> {
+    match work {
+        Work::Despawn => despawn_each(world, size),
+        Work::DespawnWide | Work::DespawnDeep => world.despawn_recursive(first(0)),
+        _ => Ok(()),
+    }
+}
+
+/// Some work, in an empty world, with so many entities and so many passes.
+#[derive(Clone, Copy)]
+pub struct Job {
+    pub work: Work,
+    pub size: u32,
+    pub passes: u32,
+}
+
+/// Does a job on an empty world.
+fn fill_and_work(alloc: Global, world: &mut World, job: Job) -> Result<(), Refusal> {
+    spawn_each(alloc, world, job.size)?;
+    link_each(world, job.work, job.size)?;
+    for _ in 0..job.passes {
+        pass_over(world, job.work, job.size)?;
+    }
+    take_apart(world, job.work, job.size)
+}
+
+/// Does a job on a new world, and answers how many indices are free in the end.
+pub fn done(alloc: Global, job: Job) -> Result<usize, Refusal>
+    requires least { 1 ≤ job.size }
+    requires most { job.size ≤ 1048576 }
 {
     let mut schema = Schema::new(alloc);
     let added = add_kinds(alloc, &mut schema);
-    let mut world = World::new(alloc, schema, size);
-    let worked = added.and(fill_and_work(alloc, &mut world, work, size));
+    let mut world = World::new(alloc, schema, job.size);
+    let worked = added.and(fill_and_work(alloc, &mut world, job));
     let free = world.slots().free().len();
     worked.map(|()| free)
 }

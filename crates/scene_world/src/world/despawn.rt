@@ -11,7 +11,7 @@ impl World {
     /// Despawns an entity: its row leaves its table, the last row taking its place (docs/MODEL.md, "The rule of
     /// rows"); its index goes last in the free list with a raised generation, or is retired ("The rule of
     /// retirement"); and it leaves its parent's list ("The rule of links"). It takes no memory, and costs a
-    /// walk over that list.
+    /// walk over that list, but for the first child and the last.
     ///
     /// Refused, in this order: `NoSuchEntity` where the entity isn't alive; `HasChildren`. After a refusal the
     /// world is as it was.

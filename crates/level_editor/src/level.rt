@@ -1,0 +1,198 @@
+//! A level: things with names and positions, which an editor holds.
+ghost use Rattle.std.specs.Prelude.{◌≡◌, OnErr};
+
+use crate::error::LevelError;
+use scene_commands::{Command, Components, Target};
+use scene_kinds::{Entity, Fault, Refusal, Schema, Shape, Text, Value};
+use scene_pass::{CellName, Filter, changed_since, matching};
+use scene_queue::Queue;
+use scene_undo::{Editor, Made};
+use scene_world::World;
+use std::alloc::{AllocError, Global};
+
+/// The kind of names, a Text.
+const NAME: u8 = 0;
+
+/// The kind of positions, a Vec3.
+const POSITION: u8 = 1;
+
+/// How many slots a level has.
+const SLOTS: u32 = 65_536;
+
+/// A moment of a level, since which changes can be asked for until something is undone.
+#[derive(Clone, Copy, Drop)]
+pub struct Cursor {
+    rewinds: u64,
+    tick: u64,
+}
+
+/// A drag of a selection, with the positions from which it began.
+#[derive(Drop)]
+pub struct Drag {
+    starts: Vec<(Entity, [i64; 3])>,
+}
+
+/// A level. Each change is a frame of its editor, all or nothing.
+#[derive(Drop)]
+pub struct Level {
+    alloc: Global,
+    editor: Editor,
+}
+
+/// A position moved by an offset; at the end of its range it stays.
+fn moved(from: [i64; 3], by: [i64; 3]) -> [i64; 3] {
+    let [x, y, z] = from;
+    let [right, up, back] = by;
+    [
+        x.saturating_add(right),
+        y.saturating_add(up),
+        z.saturating_add(back),
+    ]
+}
+
+/// The components of a thing of this name, at the middle of the level.
+fn thing(alloc: Global, name: &str) -> Result<Components, AllocError> {
+    let name = Text::from(String::from_str(alloc, name)?);
+    let cells = vec![in alloc;
+        (NAME, Value::Text(name)),
+        (POSITION, Value::Vec3([0, 0, 0])),
+    ]?;
+    Ok(Components::from(cells))
+}
+
+impl Level {
+    /// A level without things.
+    pub fn open(alloc: Global) -> Result<Level, LevelError> {
+        let mut schema = Schema::new(alloc);
+        let _name = schema.add(String::from_str(alloc, "Name")?, Shape::Text)?;
+        let _position = schema.add(String::from_str(alloc, "Position")?, Shape::Vec3)?;
+        let editor = Editor::new(alloc, World::new(alloc, schema, SLOTS));
+        Ok(Level { alloc, editor })
+    }
+
+    /// Does a frame of one queue.
+    fn frame(&mut self, queue: Queue) -> Result<Made, LevelError>
+        ensures same { OnErr result (self.new.editor ≡ self.old.editor) }
+    {
+        let queues = vec![in self.alloc; queue]?;
+        Ok(self.editor.submit(queues.as_slice())?)
+    }
+
+    /// Spawns a root with parts below it, in one frame, and gives their entities, the root first.
+    pub fn place(&mut self, root: &str, parts: &[&str]) -> Result<Vec<Entity>, LevelError> {
+        let mut queue = Queue::new(self.alloc);
+        let parent = queue.spawn(thing(self.alloc, root)?)?;
+        for part in parts {
+            let child = queue.spawn(thing(self.alloc, *part)?)?;
+            queue.push(Command::SetParent(child, parent))?;
+        }
+        let made = self.frame(queue)?;
+        Ok(made.entities)
+    }
+
+    /// Begins to drag a selection.
+    pub fn begin_drag(&self, selected: &[Entity]) -> Result<Drag, LevelError> {
+        let mut starts = Vec::new(self.alloc);
+        for entity in selected {
+            starts.push((*entity, self.position(*entity)?))?;
+        }
+        Ok(Drag { starts })
+    }
+
+    /// Moves what is dragged so far from where the drag began, in one frame. Where one of the things is gone, none moves.
+    pub fn drag_to(&mut self, drag: &Drag, offset: [i64; 3]) -> Result<(), LevelError>
+        ensures same { OnErr result (self.new.editor ≡ self.old.editor) }
+    {
+        let mut queue = Queue::new(self.alloc);
+        for (entity, start) in &drag.starts {
+            let position = Value::Vec3(moved(*start, offset));
+            queue.push(Command::Insert(Target::Id(*entity), POSITION, position))?;
+        }
+        let _made = self.frame(queue)?;
+        Ok(())
+    }
+
+    /// Puts a thing last below another.
+    pub fn put_below(&mut self, child: Entity, parent: Entity) -> Result<(), LevelError> {
+        let mut queue = Queue::new(self.alloc);
+        queue.push(Command::SetParent(Target::Id(child), Target::Id(parent)))?;
+        let _made = self.frame(queue)?;
+        Ok(())
+    }
+
+    /// Deletes a thing and all below it.
+    pub fn delete(&mut self, entity: Entity) -> Result<(), LevelError> {
+        let mut queue = Queue::new(self.alloc);
+        queue.push(Command::DespawnAll(Target::Id(entity)))?;
+        let _made = self.frame(queue)?;
+        Ok(())
+    }
+
+    /// Takes the newest change back.
+    pub fn undo(&mut self) -> Result<(), LevelError> {
+        Ok(self.editor.undo()?)
+    }
+
+    /// Makes the newest change that was taken back again.
+    pub fn redo(&mut self) -> Result<(), LevelError> {
+        Ok(self.editor.redo()?)
+    }
+
+    /// How many changes can be taken back.
+    pub fn undo_len(&self) -> usize {
+        self.editor.undo_len()
+    }
+
+    /// Where a thing is.
+    pub fn position(&self, entity: Entity) -> Result<[i64; 3], LevelError> {
+        match self.editor.world().get(entity, POSITION)?.value {
+            Value::Vec3(position) => Ok(*position),
+            _ => Err(LevelError::Refused(Refusal::from(Fault::WrongShape))),
+        }
+    }
+
+    /// Whether a thing has this name.
+    fn is_named(&self, entity: Entity, name: &str) -> bool {
+        match self.editor.world().get(entity, NAME) {
+            Ok(cell) => match cell.value {
+                Value::Text(text) => text.as_str() == name,
+                _ => false,
+            },
+            Err(_) => false,
+        }
+    }
+
+    /// The name of a kind.
+    pub fn kind_name(&self, kind: u8) -> &str {
+        self.editor.world().schema().name_of(kind).unwrap_or("")
+    }
+
+    /// The first thing of this name.
+    pub fn find(&self, name: &str) -> Result<Entity, LevelError> {
+        let things = matching(self.alloc, self.editor.world(), Filter::all())?;
+        for entity in &things {
+            if self.is_named(*entity, name) {
+                return Ok(*entity);
+            }
+        }
+        Err(LevelError::NoSuchName)
+    }
+
+    /// The level as it is now.
+    pub fn cursor(&self) -> Cursor {
+        Cursor {
+            rewinds: self.editor.rewinds(),
+            tick: self.editor.world().tick(),
+        }
+    }
+
+    /// The cells that were written since a cursor. A cursor of before an undo is refused.
+    pub fn changed(&self, since: Cursor) -> Result<Vec<CellName>, LevelError> {
+        let rewinds = self.editor.rewinds();
+        if since.rewinds != rewinds {
+            return Err(LevelError::Refused(Refusal::from(Fault::Rewound(rewinds))));
+        }
+        let world = self.editor.world();
+        Ok(changed_since(self.alloc, world, Filter::all(), since.tick)?)
+    }
+}
