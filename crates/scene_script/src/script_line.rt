@@ -331,7 +331,14 @@ fn runs_later(word: &str) -> bool
     ensures { result ≡ runs_later word.now }
 {
     match word {
-        "calls" | "depth" | "phase" | "system" | "clear" | "advance" | "dumpall" | "as"
+        "calls"
+        | "depth"
+        | "phase"
+        | "system"
+        | "clear"
+        | "advance"
+        | "dumpall"
+        | "as"
         | "history" => true,
         _ => false,
     }
