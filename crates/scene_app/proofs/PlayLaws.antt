@@ -36,7 +36,8 @@ line_played before after number line others old new r s h =
     more
 
 -- where no frame is open, the reply is the one outside a frame
-pub alone_within : (s : PlayState) (f : Option Opened) (line : Line) → s.frame ≡ None → f ≡ None → lone_reply (with_frame s f) line ≡ line_reply s line
+pub alone_within : (s : PlayState) (f : Option Opened) (line : Line) → s.frame ≡ None → f ≡ None
+    → lone_reply (with_frame s f) line ≡ line_reply s line
 alone_within s f line none after =
     ap (λ g. lone_reply (with_frame s g) line) (after ∙ sym none) ∙ sym (ap (reply_within s line) none)
 
