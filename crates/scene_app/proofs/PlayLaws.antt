@@ -1,18 +1,15 @@
 -- A line that is played, and then the others.
-use Rattle.std.proofs.Common.{◌≡◌, ◌≢◌, ℕ, ◌+◌, ◌≤◌, List, [], ◌∷◌, ◌++◌, Option, Some, None, Result, Ok, Err, refl, sym, ap, ◌∙◌, arith}
+use Rattle.std.proofs.Common.{◌≡◌, ℕ, ◌+◌, ◌≤◌, List, [], ◌∷◌, ◌++◌, Option, Some, None, Result, Ok, Err, refl, sym, ap, ◌∙◌, arith}
 use Rattle.std.proofs.lemmas.List.{append_assoc, length-append}
-use Rattle.scene_kinds.specs.declared.shape.Shape.{Shape}
-use Rattle.scene_kinds.specs.Schema.{Kinds}
-use Rattle.scene_model.specs.World.{new_world}
 use Rattle.scene_app.specs.declared.play_state.PlayState.{PlayState}
 use Rattle.scene_script.specs.declared.script_line.Line.{Line}
-use Rattle.scene_script.specs.declared.script_line.Line.TheVariants.{Empty, Kind, Slots, Do, Begin, Queue, Commit}
+use Rattle.scene_script.specs.declared.script_line.Line.TheVariants.{Do, Begin, Queue, Commit}
 use Rattle.scene_kinds.specs.Answers.{Outcome}
 use Rattle.scene_commands.specs.declared.command.Command.{Command}
 use Rattle.scene_queue.specs.Queue.{QueueState, push_of}
 use Rattle.scene_script.specs.declared.bad_line.BadLine.{BadLine}
 use Rattle.scene_app.specs.OpenFrame.{Opened, and_last, with_command, queue_count}
-use Rattle.scene_app.specs.Play.{with_frame, queued_reply, frame_reply, reply_within, Reply, Printed, opening_state, said_reply, reports_at, then_rest, run_from, setup_line, setup_said, setup_from}
+use Rattle.scene_app.specs.Play.{with_frame, lone_reply, line_reply, queued_reply, frame_reply, reply_within, Reply, Printed, said_reply, reports_at, then_rest, run_from}
 use Rattle.scene_app.specs.Reports.{Tally}
 use Rattle.scene_app.specs.Steps.{LinePlayed, Prints, noted}
 use Rattle.scene_app.proofs.ReportLaws.{noted-append}
@@ -38,34 +35,11 @@ line_played before after number line others old new r s h =
     let more = printed_more old new (new ++ (rest after).text) r s (noted s (rest after).bad) number (said_reply before (line_in before.machine.now.schema line)) rest after h (refl, refl) in
     more
 
--- a line that the setup doesn't have ends it
-ends_setup : (number : ℕ) (kinds : Kinds) (limit : ℕ) (rest : Kinds → ℕ → Printed) (begin : Printed) (line : Line)
-    → line ≢ Empty → ((name : List ℕ) (shape : Shape) → line ≢ Kind name shape) → ((n : ℕ) → line ≢ Slots n) → line ≢ Queue → line ≢ Commit
-    → setup_line number kinds limit rest begin line ≡ begin
-ends_setup number kinds limit rest begin Empty empty kind slots queue commit = absurd (empty refl)
-ends_setup number kinds limit rest begin (Kind name shape) empty kind slots queue commit = absurd (kind name shape refl)
-ends_setup number kinds limit rest begin (Slots n) empty kind slots queue commit = absurd (slots n refl)
-ends_setup number kinds limit rest begin Queue empty kind slots queue commit = absurd (queue refl)
-ends_setup number kinds limit rest begin Commit empty kind slots queue commit = absurd (commit refl)
-ends_setup number kinds limit rest begin line empty kind slots queue commit = refl
-
--- and the run begins with it
-pub run_begins : (number : ℕ) (kinds : Kinds) (limit : ℕ) (all : List (List ℕ)) (first : List ℕ) (others : List (List ℕ)) (line : Line)
-    → all ≡ first ∷ others → Ok line ≡ line_in kinds first
-    → line ≢ Empty → ((name : List ℕ) (shape : Shape) → line ≢ Kind name shape) → ((n : ℕ) → line ≢ Slots n) → line ≢ Queue → line ≢ Commit
-    → setup_from number kinds limit all
-    ≡ then_rest number (said_reply (opening_state (new_world kinds limit)) (Ok line)) (λ s. run_from (number + 1) s others)
-run_begins number kinds limit all first others line whole said empty kind slots queue commit =
-    let state = opening_state (new_world kinds limit) in
-    let rest : Kinds → ℕ → Printed = λ k n. setup_from (number + 1) k n others in
-    let begin = run_from number state (first ∷ others) in
-    let ended : setup_said number kinds limit rest begin (Ok line) ≡ begin = ends_setup number kinds limit rest begin line empty kind slots queue commit in
-    let whole_setup : setup_from number kinds limit all ≡ setup_said number kinds limit rest begin (line_in kinds first) = ap (setup_from number kinds limit) whole in
-    let by_said : setup_said number kinds limit rest begin (line_in kinds first) ≡ setup_said number kinds limit rest begin (Ok line) =
-    ap (λ r. setup_said number kinds limit rest begin r) (sym said) in
-    let run : begin ≡ then_rest number (said_reply state (Ok line)) (λ s. run_from (number + 1) s others) =
-    ap (λ r. then_rest number (said_reply state r) (λ s. run_from (number + 1) s others)) (sym said) in
-    whole_setup ∙ (by_said ∙ (ended ∙ run))
+-- where no frame is open, the reply is the one outside a frame
+pub alone_within : (s : PlayState) (f : Option Opened) (line : Line) → s.frame ≡ None → f ≡ None
+    → lone_reply (with_frame s f) line ≡ line_reply s line
+alone_within s f line none after =
+    ap (λ g. lone_reply (with_frame s g) line) (after ∙ sym none) ∙ sym (ap (reply_within s line) none)
 
 -- a line opens at most one queue more
 count_queued : (s : PlayState) (f : Opened) (command : Command) (o : Outcome (Unit {0}) QueueState)

@@ -5,6 +5,7 @@ pub mod MachineCode
 pub mod OpenFrame
 pub mod Play
 pub mod Reports
+pub mod SetupSteps
 pub mod ShowSteps
 pub mod Shown
 pub mod Steps

@@ -22,10 +22,14 @@ use Rattle.scene_pass.specs.declared.filter.Filter.{Filter}
 use Rattle.scene_app.specs.declared.cursor.Cursor.{Cursor}
 use Rattle.scene_app.specs.declared.play_state.PlayState.{PlayState}
 use Rattle.scene_script.specs.declared.script_line.Line.{Line}
-use Rattle.scene_script.specs.declared.script_line.Line.TheVariants.{Empty, Kind, Slots, Do, Begin, Queue, Commit, Undo, Redo, Show, Get, Mark, Changed, Added}
+use Rattle.scene_script.specs.declared.script_line.Line.TheVariants.{Empty, Kind, Slots, Load, Do, Begin, Queue, Commit, Undo, Redo, Show, Get, Mark, Changed, Added, Dump}
 use Rattle.scene_script.specs.declared.bad_line.BadLine.{BadLine}
-use Rattle.scene_script.specs.declared.bad_line.BadLine.TheVariants.{SetupEnded, NoFrame, FrameOpen}
+use Rattle.scene_script.specs.declared.bad_line.BadLine.TheVariants.{SetupEnded, SceneLoaded, NoFrame, FrameOpen}
 use Rattle.scene_app.specs.declared.report.BadLineReport.{BadLineReport}
+use Rattle.scene_file.specs.declared.fault.FileFault.{FileFault}
+use Rattle.scene_file.specs.Saving.{save_of}
+use Rattle.scene_file.specs.Scene.{loaded}
+use Rattle.scene_app.specs.FileFaultText.{file_fault_text}
 use Rattle.scene_app.specs.Listed.{listed_text}
 use Rattle.scene_script.specs.Printed.{row_text}
 use Rattle.scene_script.specs.Script.{line_in}
@@ -101,6 +105,15 @@ changed_text s = since_text (codes "changed") s.machine.now.schema (changed_sinc
 abbrev pub added_text : PlayState → List ℕ
 added_text s = since_text (codes "added") s.machine.now.schema (added_since s.machine.now no_filter) (since s)
 
+-- a scene text as it is written, with its newline, or the line of the fault
+abbrev pub saved_text : Result (List ℕ) FileFault → List ℕ
+saved_text (Ok text) = text
+saved_text (Err fault) = file_fault_text fault
+
+-- what `dump` prints
+abbrev pub dump_text : World → List ℕ
+dump_text w = saved_text (save_of w)
+
 -- what a line prints, why it is bad where it is, and the state after it
 pub record Reply : Type 0 where
   pub text : List ℕ
@@ -133,6 +146,7 @@ abbrev pub lone_reply : PlayState → Line → Reply
 lone_reply s Empty = query_reply s []
 lone_reply s (Kind name shape) = bad_reply s SetupEnded
 lone_reply s (Slots n) = bad_reply s SetupEnded
+lone_reply s (Load text) = bad_reply s SetupEnded
 lone_reply s (Do command) = submit_reply s (alone command)
 lone_reply s Begin = query_reply (with_frame s (Some new_frame)) (codes "ok\n")
 lone_reply s Queue = bad_reply s NoFrame
@@ -144,6 +158,7 @@ lone_reply s (Get e) = query_reply s (row_answer s.machine.now.schema (option_ma
 lone_reply s Mark = record { text = mark_text (cursor_of s.machine); bad = None; state = with_cursor s (cursor_of s.machine) }
 lone_reply s Changed = query_reply s (changed_text s)
 lone_reply s Added = query_reply s (added_text s)
+lone_reply s Dump = query_reply s (dump_text s.machine.now)
 
 -- the reply to a command in a frame: it is queued, or else refused and the frame is as it was
 abbrev pub queued_reply : PlayState → Opened → Outcome (Unit {0}) Opened → Reply
@@ -158,6 +173,7 @@ frame_reply s f Queue = query_reply (with_frame s (Some (with_queue f))) (codes 
 frame_reply s f Commit = submit_reply (with_frame s None) (frame_of (queues_of f))
 frame_reply s f (Kind name shape) = bad_reply (with_frame s (Some f)) SetupEnded
 frame_reply s f (Slots n) = bad_reply (with_frame s (Some f)) SetupEnded
+frame_reply s f (Load text) = bad_reply (with_frame s (Some f)) SetupEnded
 frame_reply s f line = bad_reply (with_frame s (Some f)) FrameOpen
 
 -- the reply to a line after the setup, by the frame that is open, if one is
@@ -203,53 +219,88 @@ abbrev pub run_from : ℕ → PlayState → List (List ℕ) → Printed
 run_from number s [] = nothing
 run_from number s (l ∷ ls) = then_rest number (said_reply s (line_in s.machine.now.schema l)) (λ t. run_from (number + 1) t ls)
 
--- the answer of a declaration, and the kinds after it
-abbrev pub declaration_text : Outcome ℕ Kinds → List ℕ
-declaration_text (Ok p) = codes "ok\n"
-declaration_text (Err r) = refused_text r
+-- ---- the setup
 
--- a refused declaration leaves the kinds as they were
-abbrev pub kinds_after : Kinds → Outcome ℕ Kinds → Kinds
-kinds_after kinds (Ok p) = p.1
-kinds_after kinds (Err r) = kinds
+-- what the setup has come to: the kinds and the slot limit so far, or the world that was loaded last
+pub data SetupState : Type 0 where
+  Declared : Kinds → ℕ → SetupState
+  Loaded : World → SetupState
 
--- what a `kind` line prints
-abbrev pub declared_text : Kinds → List ℕ → Shape → List ℕ
-declared_text kinds name shape = declaration_text (with_kind kinds name shape)
+-- the kinds so far
+abbrev pub setup_kinds : SetupState → Kinds
+setup_kinds (Declared kinds limit) = kinds
+setup_kinds (Loaded w) = w.schema
 
--- the kinds after a `kind` line
-abbrev pub after_kind : Kinds → List ℕ → Shape → Kinds
-after_kind kinds name shape = kinds_after kinds (with_kind kinds name shape)
+-- the world in which the run begins
+abbrev pub first_world : SetupState → World
+first_world (Declared kinds limit) = new_world kinds limit
+first_world (Loaded w) = w
 
--- a bad line of the setup, which doesn't end it
-abbrev pub setup_bad : ℕ → BadLine → Printed → Printed
-setup_bad number reason rest = and_more (codes "bad line\n") (reports_at number (Some reason)) rest
+-- what a line of the setup prints, why it is bad where it is, and the setup after it
+pub record SetupReply : Type 0 where
+  pub text : List ℕ
+  pub bad : Option BadLine
+  pub setup : SetupState
 
--- a line of the setup, or else the run begins with it; an empty one and a comment don't end the setup, nor does a line of a frame,
--- which is bad here
-abbrev pub setup_line : ℕ → Kinds → ℕ → (Kinds → ℕ → Printed) → Printed → Line → Printed
-setup_line number kinds limit rest begin Empty = rest kinds limit
-setup_line number kinds limit rest begin (Kind name shape) = and_more (declared_text kinds name shape) [] (rest (after_kind kinds name shape) limit)
-setup_line number kinds limit rest begin (Slots n) = and_more (codes "ok\n") [] (rest kinds n)
-setup_line number kinds limit rest begin Queue = setup_bad number NoFrame (rest kinds limit)
-setup_line number kinds limit rest begin Commit = setup_bad number NoFrame (rest kinds limit)
-setup_line number kinds limit rest begin line = begin
+-- the reply to a line that isn't bad, by its text and the setup after it
+abbrev pub setup_answer : List ℕ → SetupState → SetupReply
+setup_answer text s = record { text = text; bad = None; setup = s }
 
--- a line of the setup by what it says; a bad one doesn't end it
-abbrev pub setup_said : ℕ → Kinds → ℕ → (Kinds → ℕ → Printed) → Printed → Result Line BadLine → Printed
-setup_said number kinds limit rest begin (Ok line) = setup_line number kinds limit rest begin line
-setup_said number kinds limit rest begin (Err reason) = setup_bad number reason (rest kinds limit)
+-- a bad line leaves the setup as it was
+abbrev pub setup_bad : SetupState → BadLine → SetupReply
+setup_bad s reason = record { text = codes "bad line\n"; bad = Some reason; setup = s }
 
--- the lines from the start, the first of this number, with the kinds and the slot limit so far
-abbrev pub setup_from : ℕ → Kinds → ℕ → List (List ℕ) → Printed
-setup_from number kinds limit [] = nothing
-setup_from number kinds limit (l ∷ ls) =
-    setup_said number kinds limit (λ k n. setup_from (number + 1) k n ls)
-    (run_from number (opening_state (new_world kinds limit)) (l ∷ ls)) (line_in kinds l)
+-- the reply to a declaration; a refused one leaves the kinds as they were
+abbrev pub declared_reply : Kinds → ℕ → Outcome ℕ Kinds → SetupReply
+declared_reply kinds limit (Ok p) = setup_answer (codes "ok\n") (Declared p.1 limit)
+declared_reply kinds limit (Err r) = setup_answer (refused_text r) (Declared kinds limit)
+
+-- the reply to `kind`; a loaded scene has its kinds
+abbrev pub kind_reply : SetupState → List ℕ → Shape → SetupReply
+kind_reply (Declared kinds limit) name shape = declared_reply kinds limit (with_kind kinds name shape)
+kind_reply (Loaded w) name shape = setup_bad (Loaded w) SceneLoaded
+
+-- the reply to `slots`; a loaded scene has its limit
+abbrev pub slots_reply : SetupState → ℕ → SetupReply
+slots_reply (Declared kinds limit) n = setup_answer (codes "ok\n") (Declared kinds n)
+slots_reply (Loaded w) n = setup_bad (Loaded w) SceneLoaded
+
+-- the reply to `load`, by the world that its text says or the first fault, which leaves the setup as it was
+abbrev pub load_reply : SetupState → Result World FileFault → SetupReply
+load_reply s (Ok w) = setup_answer (codes "ok\n") (Loaded w)
+load_reply s (Err fault) = setup_answer (file_fault_text fault) s
+
+-- the reply to a line of the setup, and none where the line ends it; an empty one and a comment don't end it, nor does a line
+-- of a frame, which is bad here
+abbrev pub setup_reply : SetupState → Line → Option SetupReply
+setup_reply s Empty = Some (setup_answer [] s)
+setup_reply s (Kind name shape) = Some (kind_reply s name shape)
+setup_reply s (Slots n) = Some (slots_reply s n)
+setup_reply s (Load text) = Some (load_reply s (loaded text))
+setup_reply s Queue = Some (setup_bad s NoFrame)
+setup_reply s Commit = Some (setup_bad s NoFrame)
+setup_reply s line = None
+
+-- the reply to a line by what it says; a bad one doesn't end the setup
+abbrev pub setup_said : SetupState → Result Line BadLine → Option SetupReply
+setup_said s (Ok line) = setup_reply s line
+setup_said s (Err reason) = Some (setup_bad s reason)
+
+-- what a reply adds before the rest of the setup, or else the run, which the line begins
+abbrev pub then_setup : ℕ → (SetupState → Printed) → Printed → Option SetupReply → Printed
+then_setup number rest begin (Some r) = and_more r.text (reports_at number r.bad) (rest r.setup)
+then_setup number rest begin None = begin
+
+-- the lines from the start, the first of this number, after what the setup has come to
+abbrev pub setup_from : ℕ → SetupState → List (List ℕ) → Printed
+setup_from number s [] = nothing
+setup_from number s (l ∷ ls) =
+    then_setup number (λ t. setup_from (number + 1) t ls) (run_from number (opening_state (first_world s)) (l ∷ ls))
+    (setup_said s (line_in (setup_kinds s) l))
 
 -- all of a script, from its first line, with no kinds yet and the greatest slot limit
 abbrev pub printed : List ℕ → Printed
-printed script = setup_from 1 [] 1048576 (lines script)
+printed script = setup_from 1 (Declared [] 1048576) (lines script)
 
 -- what a script prints
 abbrev pub output : List ℕ → List ℕ

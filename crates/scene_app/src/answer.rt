@@ -7,15 +7,17 @@ ghost use Rattle.scene_script.specs.declared.script_line.Line.TheVariants.{Begin
 ghost use Rattle.scene_queue.specs.Frames.{frame_of};
 ghost use Rattle.scene_app.specs.OpenFrame.{alone, queue_count};
 ghost use Rattle.scene_model.specs.World.{row_of};
-ghost use Rattle.scene_app.specs.Play.{line_reply, lone_reply, said_reply, call_reply, submit_reply, made_text, refused_text, row_answer, undone_text, redone_text, mark_text, changed_text, added_text, cursor_of, with_cursor};
+ghost use Rattle.scene_app.specs.Play.{line_reply, lone_reply, said_reply, call_reply, submit_reply, made_text, refused_text, row_answer, undone_text, redone_text, mark_text, changed_text, added_text, dump_text, cursor_of, with_cursor};
 ghost use Rattle.scene_app.specs.Steps.{Replies};
 
+use crate::file_fault_text::answer_file_fault;
 use crate::framed_answer::answer_in_frame;
 use crate::listed::write_listed;
 use crate::open_frame::OpenFrame;
 use crate::play_state::PlayState;
 use crate::show::{write_entities, write_row, write_show};
 use scene_commands::Command;
+use scene_file::save_text;
 use scene_kinds::{Entity, Fault, Refusal};
 use scene_pass::{Filter, added_since, changed_since};
 use scene_queue::Queue;
@@ -179,6 +181,17 @@ fn answer_added(alloc: Global, out: &mut String, state: &PlayState) -> Result<()
     write_listed(out, "added", world.schema(), cells.as_slice())
 }
 
+/// `dump`.
+#[tactic(auto, using(crate::proofs::FileFaultLaws::is_wanted))]
+fn answer_dump(alloc: Global, out: &mut String, world: &World) -> Result<(), AllocError>
+    ensures { OnOk result (string_bytes out.new ≡ string_bytes out.old ++ dump_text world.now.world) }
+{
+    match save_text(alloc, world) {
+        Ok(text) => out.push_str(text.as_str()),
+        Err(fault) => answer_file_fault(alloc, out, fault),
+    }
+}
+
 /// Answers a bad line, and gives the reason back.
 pub(crate) fn answer_bad(out: &mut String, reason: BadLine) -> Result<Option<BadLine>, AllocError>
     ensures text { OnOk result (string_bytes out.new ≡ string_bytes out.old ++ codes "bad line\n") }
@@ -199,7 +212,9 @@ fn answer_alone(
 {
     match line {
         Line::Empty => {}
-        Line::Kind(..) | Line::Slots(_) => return answer_bad(out, BadLine::SetupEnded),
+        Line::Kind(..) | Line::Slots(_) | Line::Load(_) => {
+            return answer_bad(out, BadLine::SetupEnded);
+        }
         Line::Queue | Line::Commit => return answer_bad(out, BadLine::NoFrame),
         Line::Do(command) => answer_command(alloc, out, state, command)?,
         Line::Begin => answer_begin(alloc, out, state)?,
@@ -210,6 +225,7 @@ fn answer_alone(
         Line::Mark => answer_mark(out, state)?,
         Line::Changed => answer_changed(alloc, out, state)?,
         Line::Added => answer_added(alloc, out, state)?,
+        Line::Dump => answer_dump(alloc, out, state.machine.now())?,
     }
     Ok(None)
 }

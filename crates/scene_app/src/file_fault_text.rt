@@ -1,5 +1,6 @@
 //! The line of a fault of a scene text.
-ghost use Rattle.std.specs.Prelude.{◌≡◌, ◌++◌, OnOk, string_bytes};
+ghost use Rattle.std.specs.Prelude.{◌≡◌, ◌≢◌, ◌++◌, OnOk, string_bytes};
+ghost use Rattle.scene_file.specs.declared.fault.FileFault.TheVariants.{NoMemory};
 ghost use Rattle.scene_app.specs.FileFaultText.{file_fault_fields, file_fault_text};
 
 use scene_file::FileFault;
@@ -33,4 +34,19 @@ pub(crate) fn write_file_fault(
     write!(out, "fault {} {}", fault.number(), fault.name())?;
     write_fields(alloc, out, fault)?;
     out.push_str("\n")
+}
+
+/// Adds the line of a fault of a load or a save; want of memory is no answer, and ends the run.
+pub(crate) fn answer_file_fault(
+    alloc: Global,
+    out: &mut String,
+    fault: FileFault,
+) -> Result<(), AllocError>
+    ensures text { OnOk result (string_bytes out.new ≡ string_bytes out.old ++ file_fault_text fault) }
+    ensures memory { OnOk result (fault ≢ NoMemory) }
+{
+    match fault {
+        FileFault::NoMemory => Err(AllocError),
+        _ => write_file_fault(alloc, out, &fault),
+    }
 }

@@ -91,7 +91,7 @@ pub(crate) fn answer_in_frame(
         Line::Do(command) => answer_queued(out, state, frame, command)?,
         Line::Queue => answer_queue(alloc, out, state, frame)?,
         Line::Commit => answer_commit(alloc, out, state, frame)?,
-        Line::Kind(..) | Line::Slots(_) => {
+        Line::Kind(..) | Line::Slots(_) | Line::Load(_) => {
             return answer_unfit(out, state, frame, BadLine::SetupEnded);
         }
         _ => return answer_unfit(out, state, frame, BadLine::FrameOpen),

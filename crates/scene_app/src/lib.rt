@@ -18,6 +18,8 @@ mod play;
 mod play_state;
 mod report;
 mod run;
+mod setup;
+mod setup_answer;
 mod show;
 
 pub use fault::AppFault;

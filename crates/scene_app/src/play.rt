@@ -2,17 +2,19 @@
 ghost use Rattle.std.specs.Prelude.{◌≡◌, ◌++◌, ◌+◌, ◌<◌, ◌≤◌, ◌^◌, OnOk, IfOk, length, string_bytes, Ok};
 ghost use Rattle.std.specs.Str.Lines.{lines};
 ghost use Rattle.scene_script.specs.Script.{line_in};
-ghost use Rattle.scene_app.specs.Play.{said_reply, opening_state, then_rest, run_from, printed, declared_text, after_kind, setup_bad, nothing};
+ghost use Rattle.scene_app.specs.Play.{said_reply, opening_state, then_rest, run_from, printed};
 ghost use Rattle.scene_app.specs.OpenFrame.{queue_count};
 ghost use Rattle.scene_streams.specs.Limits.{most_bytes};
 ghost use Rattle.scene_app.specs.Steps.{Prints, LinePlayed};
 ghost use Rattle.scene_app.specs.Reports.{no_bad_lines};
 
-use crate::answer::{answer, answer_refused};
+use crate::answer::answer;
 use crate::play_state::PlayState;
 use crate::report::Reports;
-use scene_kinds::{Schema, Shape};
-use scene_script::{BadLine, Line, LineError, SlotLimit, first_line, read_line};
+use crate::setup::Setup;
+use crate::setup_answer::{SetupAnswer, answer_setup};
+use scene_kinds::Schema;
+use scene_script::{BadLine, Line, LineError, first_line, read_line};
 use scene_world::World;
 use std::alloc::{AllocError, Global};
 
@@ -100,42 +102,9 @@ fn play_run(
     play_lines(alloc, &mut state, number + 1, after, out, reports)
 }
 
-/// Declares a kind, and adds the answer.
-fn declare(
-    alloc: Global,
-    out: &mut String,
-    schema: &mut Schema,
-    name: &str,
-    shape: Shape,
-) -> Result<(), AllocError>
-    ensures text { OnOk result (string_bytes out.new ≡ string_bytes out.old ++ declared_text schema.old name.now shape) }
-    ensures kinds { OnOk result (schema.new ≡ after_kind schema.old name.now shape) }
-{
-    let name = String::from_str(alloc, name)?;
-    match schema.add(name, shape) {
-        Ok(_) => out.push_str("ok\n"),
-        Err(refusal) => answer_refused(out, refusal),
-    }
-}
-
-/// Answers a bad line of the setup, and notes it.
-fn setup_bad(
-    out: &mut String,
-    reports: &mut Reports,
-    number: usize,
-    reason: BadLine,
-) -> Result<(), AllocError>
-    requires { reports.old.count + 1 < 2 ^ 64 }
-    ensures printed { OnOk result (Prints (string_bytes out.old) (string_bytes out.new) reports.old reports.new (setup_bad number reason nothing)) }
-    ensures few { OnOk result (reports.new.count ≤ reports.old.count + 1) }
-{
-    out.push_str("bad line\n")?;
-    reports.note(number, Some(reason))
-}
-
 /// Plays a script from its first line, adds what it prints, and notes its bad lines (docs/SCRIPTS.md, "Lines").
 ///
-/// The first line that is no `kind` or `slots`, not empty and not bad ends the setup, and is played itself. Want
+/// The first line that is no `kind`, `slots` or `load`, not empty and not bad ends the setup, and is played itself. Want
 /// of memory ends it with an error, and then a part of the text may be there. Each frame costs a copy of the
 /// world.
 pub(crate) fn play_script(
@@ -147,26 +116,17 @@ pub(crate) fn play_script(
     ensures printed { IfOk result (λ reports. Prints (string_bytes out.old) (string_bytes out.new) no_bad_lines reports (printed script.now)) }
     ensures few { IfOk result (λ reports. reports.count ≤ length script.now) }
 {
-    let mut schema = Schema::new(alloc);
-    let mut limit = SlotLimit::most();
+    let mut setup = Setup::new(alloc);
     let mut reports = Reports::new(alloc);
     let mut rest = script;
     let mut number = 1usize;
     'lines: while !rest.is_empty() {
         let (bytes, after) = first_line(rest);
-        match said_in(alloc, &schema, bytes)? {
-            Err(reason) => setup_bad(out, &mut reports, number, reason)?,
-            Ok(Line::Queue | Line::Commit) => {
-                setup_bad(out, &mut reports, number, BadLine::NoFrame)?;
-            }
-            Ok(Line::Empty) => {}
-            Ok(Line::Kind(name, shape)) => declare(alloc, out, &mut schema, name.as_str(), shape)?,
-            Ok(Line::Slots(slots)) => {
-                out.push_str("ok\n")?;
-                limit = slots;
-            }
-            Ok(line) => {
-                let world = World::new(alloc, schema, limit.get());
+        let said = said_in(alloc, setup.schema(), bytes)?;
+        match answer_setup(alloc, out, &mut setup, said)? {
+            SetupAnswer::Given(bad) => reports.note(number, bad)?,
+            SetupAnswer::Ends(line) => {
+                let world = setup.into_world(alloc);
                 play_run(alloc, world, number, line, after, out, &mut reports)?;
                 return Ok(reports);
             }

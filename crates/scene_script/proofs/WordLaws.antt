@@ -4,7 +4,7 @@ use Rattle.std.specs.Prelude.{◌==◌}
 use denote.Ref.{Bor}
 use Rattle.std.proofs.lemmas.Bool.Decides.{nat_tests}
 use Rattle.std.proofs.lemmas.Str.Pattern.{IsSplitOnceResult, split_parts}
-use Rattle.scene_script.specs.Words.{cut_at}
+use Rattle.scene_script.specs.Words.{cut_at, without_spaces}
 
 -- another byte fails the test
 other : (b mark : ℕ) → b ≢ mark → (b == mark) ≡ false
@@ -64,3 +64,14 @@ by_parts mark bs (Some x) h = sym (ap (cut_at mark) h.0 ∙ cut_at-parts mark x.
 pub cut_by_split : (mark : ℕ) (bs : List ℕ) (r : Option (Bor (List ℕ) × Bor (List ℕ))) → IsSplitOnceResult mark bs r → mark < 128
     → option_map (λ p. (p.0.now, p.1.now)) r ≡ cut_at mark bs
 cut_by_split mark bs r h small = by_parts mark bs r (split_parts mark bs r h small)
+
+-- a text that no space begins stands as it is
+stays_at : (t : Bool) (b : ℕ) (bs : List ℕ) → (b == 32) ≡ t → ((rest : List ℕ) → b ∷ bs ≢ 32 ∷ rest) → b ∷ bs ≡ without_spaces (b ∷ bs)
+stays_at true b bs e h =
+    let space : b ≡ 32 = grind (arith, nat_tests, e) in
+    absurd (h bs (ap (λ c. c ∷ bs) space))
+stays_at false b bs e h = rw e refl
+
+pub spaces_cut : (bs : List ℕ) → ((rest : List ℕ) → bs ≢ 32 ∷ rest) → bs ≡ without_spaces bs
+spaces_cut [] h = refl
+spaces_cut (b ∷ bs) h = stays_at (b == 32) b bs refl h

@@ -9,6 +9,7 @@ abbrev pub form_named : List ℕ → Option Form
 form_named word =
     if bytes_eq word (codes "kind") then Some form.Kind
     else if bytes_eq word (codes "slots") then Some form.Slots
+    else if bytes_eq word (codes "load") then Some form.Load
     else if bytes_eq word (codes "spawn") then Some form.Spawn
     else if bytes_eq word (codes "insert") then Some form.Insert
     else if bytes_eq word (codes "despawn") then Some form.Despawn
@@ -29,19 +30,18 @@ form_named word =
     else if bytes_eq word (codes "mark") then Some form.Mark
     else if bytes_eq word (codes "changed") then Some form.Changed
     else if bytes_eq word (codes "added") then Some form.Added
+    else if bytes_eq word (codes "dump") then Some form.Dump
     else None
 
 -- whether a first word is one of the language that doesn't run yet
 abbrev pub runs_later : List ℕ → Bool
 runs_later word =
-    if bytes_eq word (codes "load") then true
-    else if bytes_eq word (codes "calls") then true
+    if bytes_eq word (codes "calls") then true
     else if bytes_eq word (codes "depth") then true
     else if bytes_eq word (codes "phase") then true
     else if bytes_eq word (codes "system") then true
     else if bytes_eq word (codes "clear") then true
     else if bytes_eq word (codes "advance") then true
-    else if bytes_eq word (codes "dump") then true
     else if bytes_eq word (codes "dumpall") then true
     else if bytes_eq word (codes "as") then true
     else bytes_eq word (codes "history")

@@ -5,7 +5,7 @@ use Rattle.scene_kinds.specs.declared.value.Value.{Value}
 use Rattle.scene_kinds.specs.Schema.{Kinds}
 use Rattle.scene_commands.specs.declared.command.Command.TheVariants.{Spawn, Insert, Despawn, Remove, SetParent, RemoveParent, DespawnAll, DespawnAllIfAlive, PutResource, RemoveResource}
 use Rattle.scene_script.specs.declared.script_line.Line.{Line}
-use Rattle.scene_script.specs.declared.script_line.Line.TheVariants.{Empty, Kind, Slots, Do, Begin, Queue, Commit, Undo, Redo, Show, Get, Mark, Changed, Added}
+use Rattle.scene_script.specs.declared.script_line.Line.TheVariants.{Empty, Kind, Slots, Load, Do, Begin, Queue, Commit, Undo, Redo, Show, Get, Mark, Changed, Added, Dump}
 use Rattle.scene_script.specs.declared.form.Form.{Form}
 use Rattle.scene_script.specs.declared.form.Form.TheVariants as form
 use Rattle.scene_script.specs.declared.bad_line.BadLine.{BadLine}
@@ -14,7 +14,7 @@ use Rattle.scene_script.specs.Forms.{form_named, runs_later}
 use Rattle.scene_script.specs.Reading.{◌>>=◌, or_bad, next_word, ended}
 use Rattle.scene_script.specs.Cells.{kind_said, cell_said, shape_said, shaped_value_said, target_said}
 use Rattle.scene_script.specs.Numbers.{count_in, bad_number, entity_said}
-use Rattle.scene_script.specs.Words.{words_of}
+use Rattle.scene_script.specs.Words.{words_of, behind_first}
 
 -- `kind NAME SHAPE`; the name is any word
 abbrev pub kind_line : List (List ℕ) → Result Line BadLine
@@ -129,40 +129,46 @@ get_line words = do
   e ← entity_said word.0
   ended form.Get word.1 (Get e)
 
+-- `load TEXT`; the text is the rest of the line
+abbrev pub load_line : List ℕ → Result Line BadLine
+load_line line = Ok (Load (behind_first line))
+
 -- a line by its form and the words behind the first
-abbrev pub line_of_form : Kinds → Form → List (List ℕ) → Result Line BadLine
-line_of_form kinds form.Kind words = kind_line words
-line_of_form kinds form.Slots words = slots_line words
-line_of_form kinds form.Spawn words = spawn_line kinds words
-line_of_form kinds form.Insert words = insert_line kinds words
-line_of_form kinds form.Despawn words = despawn_line words
-line_of_form kinds form.Remove words = remove_line kinds words
-line_of_form kinds form.Parent words = parent_line words
-line_of_form kinds form.Unparent words = unparent_line words
-line_of_form kinds form.DespawnAll words = despawnall_line words
-line_of_form kinds form.DespawnIfAlive words = despawnifalive_line words
-line_of_form kinds form.Put words = put_line words
-line_of_form kinds form.Drop words = drop_line words
-line_of_form kinds form.Begin words = ended form.Begin words Begin
-line_of_form kinds form.Queue words = ended form.Queue words Queue
-line_of_form kinds form.Commit words = ended form.Commit words Commit
-line_of_form kinds form.Undo words = ended form.Undo words Undo
-line_of_form kinds form.Redo words = ended form.Redo words Redo
-line_of_form kinds form.Show words = ended form.Show words Show
-line_of_form kinds form.Get words = get_line words
-line_of_form kinds form.Mark words = ended form.Mark words Mark
-line_of_form kinds form.Changed words = ended form.Changed words Changed
-line_of_form kinds form.Added words = ended form.Added words Added
+abbrev pub line_of_form : Kinds → Form → List ℕ → List (List ℕ) → Result Line BadLine
+line_of_form kinds form.Kind line words = kind_line words
+line_of_form kinds form.Slots line words = slots_line words
+line_of_form kinds form.Load line words = load_line line
+line_of_form kinds form.Spawn line words = spawn_line kinds words
+line_of_form kinds form.Insert line words = insert_line kinds words
+line_of_form kinds form.Despawn line words = despawn_line words
+line_of_form kinds form.Remove line words = remove_line kinds words
+line_of_form kinds form.Parent line words = parent_line words
+line_of_form kinds form.Unparent line words = unparent_line words
+line_of_form kinds form.DespawnAll line words = despawnall_line words
+line_of_form kinds form.DespawnIfAlive line words = despawnifalive_line words
+line_of_form kinds form.Put line words = put_line words
+line_of_form kinds form.Drop line words = drop_line words
+line_of_form kinds form.Begin line words = ended form.Begin words Begin
+line_of_form kinds form.Queue line words = ended form.Queue words Queue
+line_of_form kinds form.Commit line words = ended form.Commit words Commit
+line_of_form kinds form.Undo line words = ended form.Undo words Undo
+line_of_form kinds form.Redo line words = ended form.Redo words Redo
+line_of_form kinds form.Show line words = ended form.Show words Show
+line_of_form kinds form.Get line words = get_line words
+line_of_form kinds form.Mark line words = ended form.Mark words Mark
+line_of_form kinds form.Changed line words = ended form.Changed words Changed
+line_of_form kinds form.Added line words = ended form.Added words Added
+line_of_form kinds form.Dump line words = ended form.Dump words Dump
 
 -- why a first word names no form
 abbrev pub unknown_word : List ℕ → BadLine
 unknown_word word = if runs_later word then bad.NotYet word else bad.UnknownCommand word
 
 -- a line by its first word and the others
-abbrev pub named_line : Kinds → List ℕ → List (List ℕ) → Result Line BadLine
-named_line kinds first rest = do
+abbrev pub named_line : Kinds → List ℕ → List ℕ → List (List ℕ) → Result Line BadLine
+named_line kinds line first rest = do
   f ← or_bad (unknown_word first) (form_named first)
-  line_of_form kinds f rest
+  line_of_form kinds f line rest
 
 -- whether a word begins a comment, with # (35)
 abbrev pub is_comment : List ℕ → Bool
@@ -170,10 +176,10 @@ is_comment [] = false
 is_comment (b ∷ bs) = b == 35
 
 -- a line by its words: one without words and a comment say nothing
-abbrev pub line_of_words : Kinds → List (List ℕ) → Result Line BadLine
-line_of_words kinds [] = Ok Empty
-line_of_words kinds (first ∷ rest) = if is_comment first then Ok Empty else named_line kinds first rest
+abbrev pub line_of_words : Kinds → List ℕ → List (List ℕ) → Result Line BadLine
+line_of_words kinds line [] = Ok Empty
+line_of_words kinds line (first ∷ rest) = if is_comment first then Ok Empty else named_line kinds line first rest
 
 -- a line that is no UTF-8 is bad, a comment too
 abbrev pub line_in : Kinds → List ℕ → Result Line BadLine
-line_in kinds bytes = if is_utf8 bytes then line_of_words kinds (words_of bytes) else Err bad.NotUtf8
+line_in kinds bytes = if is_utf8 bytes then line_of_words kinds bytes (words_of bytes) else Err bad.NotUtf8

@@ -10,3 +10,17 @@ words_of line = filter (λ w. nat_lt 0 (length w)) (slice_split (λ b. b == 32) 
 abbrev pub cut_at : ℕ → List ℕ → Option (List ℕ × List ℕ)
 cut_at mark [] = None
 cut_at mark (b ∷ bs) = if b == mark then Some ([], bs) else option_map (λ p. (b ∷ p.0, p.1)) (cut_at mark bs)
+
+-- a text without the spaces (32) that it begins with
+abbrev pub without_spaces : List ℕ → List ℕ
+without_spaces [] = []
+without_spaces (b ∷ bs) = if b == 32 then without_spaces bs else b ∷ bs
+
+-- what a cut at a space leaves behind it, without the spaces there; nothing where there is no space
+abbrev pub behind_space : Option (List ℕ × List ℕ) → List ℕ
+behind_space None = []
+behind_space (Some p) = without_spaces p.1
+
+-- what stands behind the first word of a line and the spaces there, as it stands
+abbrev pub behind_first : List ℕ → List ℕ
+behind_first line = behind_space (cut_at 32 (without_spaces line))

@@ -46,8 +46,11 @@ pub enum BadLine {
     #[error("`{}` is neither an entity, as 0v1, nor + and a number", quoted(.0))]
     NoTarget(Text),
     /// A line of the setup behind it.
-    #[error("the setup has ended: kind and slots come before all other lines")]
+    #[error("the setup has ended: kind, slots and load come before all other lines")]
     SetupEnded,
+    /// A kind or a slot limit behind a load, which gives both.
+    #[error("a scene is loaded: its kinds and its slot limit stay")]
+    SceneLoaded,
     /// A line of a frame where none is open.
     #[error("no frame is open: queue and commit come only behind begin")]
     NoFrame,

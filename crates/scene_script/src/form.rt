@@ -9,6 +9,7 @@ use std::fmt;
 pub enum Form {
     Kind,
     Slots,
+    Load,
     Spawn,
     Insert,
     Despawn,
@@ -29,6 +30,7 @@ pub enum Form {
     Mark,
     Changed,
     Added,
+    Dump,
 }
 
 impl Form {
@@ -39,6 +41,7 @@ impl Form {
         match word {
             "kind" => Some(Form::Kind),
             "slots" => Some(Form::Slots),
+            "load" => Some(Form::Load),
             "spawn" => Some(Form::Spawn),
             "insert" => Some(Form::Insert),
             "despawn" => Some(Form::Despawn),
@@ -59,6 +62,7 @@ impl Form {
             "mark" => Some(Form::Mark),
             "changed" => Some(Form::Changed),
             "added" => Some(Form::Added),
+            "dump" => Some(Form::Dump),
             _ => None,
         }
     }
@@ -70,6 +74,7 @@ impl fmt::Display for Form {
         let text = match self {
             Form::Kind => "kind NAME SHAPE",
             Form::Slots => "slots N",
+            Form::Load => "load TEXT",
             Form::Spawn => "spawn CELL..",
             Form::Insert => "insert T CELL",
             Form::Despawn => "despawn T",
@@ -90,6 +95,7 @@ impl fmt::Display for Form {
             Form::Mark => "mark",
             Form::Changed => "changed",
             Form::Added => "added",
+            Form::Dump => "dump",
         };
         write!(f, "{text}")
     }

@@ -27,4 +27,4 @@ pub use print::{write_cell, write_json_text, write_row_cell, write_row_head, wri
 pub use script_line::{Line, read_line};
 pub use slot_limit::SlotLimit;
 pub use target::read_target;
-pub use word::{cut, words};
+pub use word::{behind_first, cut, words};

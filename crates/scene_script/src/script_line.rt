@@ -2,7 +2,7 @@
 ghost use Rattle.std.specs.Prelude.{◌≡◌, IfOk, map};
 ghost use Rattle.scene_script.specs.Reading.{Reads, ended};
 ghost use Rattle.scene_script.specs.Forms.{runs_later};
-ghost use Rattle.scene_script.specs.Script.{line_in, line_of_words, unknown_word, named_line, line_of_form, kind_line, limit_said, slots_line, cells_said, spawn_line, insert_line, despawn_line, remove_line, parent_line, unparent_line, despawnall_line, despawnifalive_line, put_line, drop_line, get_line};
+ghost use Rattle.scene_script.specs.Script.{line_in, line_of_words, unknown_word, named_line, line_of_form, kind_line, limit_said, slots_line, load_line, cells_said, spawn_line, insert_line, despawn_line, remove_line, parent_line, unparent_line, despawnall_line, despawnifalive_line, put_line, drop_line, get_line};
 
 use crate::bad_line::{BadLine, LineError, text_of};
 use crate::cell_word::{cell_word, kind_word, shape_word, shaped_value_word};
@@ -10,7 +10,7 @@ use crate::form::Form;
 use crate::number::{bad_number, entity_word, read_count};
 use crate::slot_limit::SlotLimit;
 use crate::target::target_word;
-use crate::word::words;
+use crate::word::{behind_first, words};
 use scene_commands::{Command, Components};
 use scene_kinds::{Entity, Schema, Shape, Text};
 use std::alloc::{AllocError, Global};
@@ -24,6 +24,8 @@ pub enum Line {
     Kind(Text, Shape),
     /// The slot limit.
     Slots(SlotLimit),
+    /// A scene text, in place of all that the setup has so far.
+    Load(Text),
     /// A command, which is a frame by itself where none is open.
     Do(Command),
     /// A frame is opened.
@@ -39,6 +41,8 @@ pub enum Line {
     Mark,
     Changed,
     Added,
+    /// The scene text of the world.
+    Dump,
 }
 
 /// A line that ends here says this.
@@ -85,6 +89,13 @@ fn slots_line(alloc: Global, words: &[&str]) -> Result<Line, LineError>
     };
     let limit = limit_word(alloc, word)?;
     ended(alloc, Form::Slots, rest, Line::Slots(limit))
+}
+
+/// `load TEXT`.
+fn load_line(alloc: Global, line: &str) -> Result<Line, LineError>
+    ensures { Reads result (load_line line.now) }
+{
+    Ok(Line::Load(text_of(alloc, behind_first(line))?))
 }
 
 /// The components that words name.
@@ -282,13 +293,15 @@ fn line_of_form(
     alloc: Global,
     schema: &Schema,
     form: Form,
+    line: &str,
     words: &[&str],
 ) -> Result<Line, LineError>
-    ensures { Reads result (line_of_form schema.now form (map (λ w. w.now) words.now)) }
+    ensures { Reads result (line_of_form schema.now form line.now (map (λ w. w.now) words.now)) }
 {
     match form {
         Form::Kind => kind_line(alloc, words),
         Form::Slots => slots_line(alloc, words),
+        Form::Load => load_line(alloc, line),
         Form::Spawn => spawn_line(alloc, schema, words),
         Form::Insert => insert_line(alloc, schema, words),
         Form::Despawn => despawn_line(alloc, words),
@@ -309,6 +322,7 @@ fn line_of_form(
         Form::Mark => ended(alloc, form, words, Line::Mark),
         Form::Changed => ended(alloc, form, words, Line::Changed),
         Form::Added => ended(alloc, form, words, Line::Added),
+        Form::Dump => ended(alloc, form, words, Line::Dump),
     }
 }
 
@@ -317,14 +331,12 @@ fn runs_later(word: &str) -> bool
     ensures { result ≡ runs_later word.now }
 {
     match word {
-        "load"
-        | "calls"
+        "calls"
         | "depth"
         | "phase"
         | "system"
         | "clear"
         | "advance"
-        | "dump"
         | "dumpall"
         | "as"
         | "history" => true,
@@ -345,18 +357,29 @@ fn unknown_word(alloc: Global, word: &str) -> Result<BadLine, AllocError>
 }
 
 /// A line by its first word and the others.
-fn named_line(alloc: Global, schema: &Schema, first: &str, rest: &[&str]) -> Result<Line, LineError>
-    ensures { Reads result (named_line schema.now first.now (map (λ w. w.now) rest.now)) }
+fn named_line(
+    alloc: Global,
+    schema: &Schema,
+    line: &str,
+    first: &str,
+    rest: &[&str],
+) -> Result<Line, LineError>
+    ensures { Reads result (named_line schema.now line.now first.now (map (λ w. w.now) rest.now)) }
 {
     match Form::named(first) {
-        Some(form) => line_of_form(alloc, schema, form, rest),
+        Some(form) => line_of_form(alloc, schema, form, line, rest),
         None => Err(LineError::Bad(unknown_word(alloc, first)?)),
     }
 }
 
 /// A line by its words.
-fn line_of_words(alloc: Global, schema: &Schema, words: &[&str]) -> Result<Line, LineError>
-    ensures { Reads result (line_of_words schema.now (map (λ w. w.now) words.now)) }
+fn line_of_words(
+    alloc: Global,
+    schema: &Schema,
+    line: &str,
+    words: &[&str],
+) -> Result<Line, LineError>
+    ensures { Reads result (line_of_words schema.now line.now (map (λ w. w.now) words.now)) }
 {
     let [first, rest @ ..] = words else {
         return Ok(Line::Empty);
@@ -364,7 +387,7 @@ fn line_of_words(alloc: Global, schema: &Schema, words: &[&str]) -> Result<Line,
     if first.starts_with('#') {
         return Ok(Line::Empty);
     }
-    named_line(alloc, schema, first, rest)
+    named_line(alloc, schema, line, first, rest)
 }
 
 /// What a line says, where these kinds are declared. It costs a walk over the line.
@@ -378,7 +401,7 @@ pub fn read_line(alloc: Global, schema: &Schema, bytes: &[u8]) -> Result<Line, L
         Err(_) => Err(LineError::Bad(BadLine::NotUtf8)),
         Ok(text) => {
             let words = words(alloc, text)?;
-            line_of_words(alloc, schema, words.as_slice())
+            line_of_words(alloc, schema, text, words.as_slice())
         }
     }
 }

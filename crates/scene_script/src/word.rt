@@ -1,7 +1,7 @@
 //! The words of a line, and where a word is cut.
 ghost use Rattle.std.specs.Prelude.{◌≡◌, ◌<◌, IfOk, map};
 ghost use Rattle.std.specs.Option.{option_map};
-ghost use Rattle.scene_script.specs.Words.{words_of, cut_at};
+ghost use Rattle.scene_script.specs.Words.{words_of, cut_at, without_spaces, behind_first};
 
 use std::alloc::{AllocError, Global};
 
@@ -22,4 +22,26 @@ pub fn cut(word: &str, mark: char) -> Option<(&str, &str)>
     ensures { option_map (λ p. (p.0.now, p.1.now)) result ≡ cut_at mark word.now }
 {
     word.split_once(mark)
+}
+
+/// A text without the spaces that it begins with.
+fn without_spaces(text: &str) -> &str
+    ensures { result.now ≡ without_spaces text.now }
+{
+    let mut rest = text;
+    'spaces: while let Some(after) = rest.strip_prefix(' ') {
+        rest = after;
+    }
+    rest
+}
+
+/// What stands behind the first word of a line and the spaces there, as it stands (docs/SCRIPTS.md, "Words"); nothing
+/// where nothing follows. It costs a walk over the word and the spaces.
+pub fn behind_first(line: &str) -> &str
+    ensures { result.now ≡ behind_first line.now }
+{
+    match cut(without_spaces(line), ' ') {
+        Some((_, rest)) => without_spaces(rest),
+        None => "",
+    }
 }

@@ -1,0 +1,105 @@
+//! The answer to one line of the setup.
+ghost use Rattle.std.specs.Prelude.{◌≡◌, ◌++◌, OnOk, IfOk, string_bytes};
+ghost use Rattle.scene_app.specs.Play.{kind_reply, slots_reply, load_reply, setup_said};
+ghost use Rattle.scene_app.specs.SetupSteps.{setup_of, SetupReplies, AnswersSetup};
+ghost use Rattle.scene_file.specs.Scene.{loaded};
+
+use crate::answer::{answer_bad, answer_refused};
+use crate::file_fault_text::answer_file_fault;
+use crate::setup::Setup;
+use scene_file::load_text;
+use scene_kinds::Shape;
+use scene_script::{BadLine, Line, SlotLimit};
+use std::alloc::{AllocError, Global};
+
+/// What became of a line in the setup.
+#[derive(Drop)]
+pub(crate) enum SetupAnswer {
+    /// It is answered; where it is bad, this is why.
+    Given(Option<BadLine>),
+    /// It ends the setup, and isn't answered yet.
+    Ends(Line),
+}
+
+/// `kind`.
+fn answer_kind(
+    alloc: Global,
+    out: &mut String,
+    setup: &mut Setup,
+    name: &str,
+    shape: Shape,
+) -> Result<Option<BadLine>, AllocError>
+    ensures { IfOk result (λ bad. SetupReplies (string_bytes out.old) (string_bytes out.new) (setup_of setup.new) bad
+        (kind_reply (setup_of setup.old) name.now shape)) }
+{
+    let Setup::Declared(schema, _) = setup else {
+        return answer_bad(out, BadLine::SceneLoaded);
+    };
+    let name = String::from_str(alloc, name)?;
+    match schema.add(name, shape) {
+        Ok(_) => out.push_str("ok\n")?,
+        Err(refusal) => answer_refused(out, refusal)?,
+    }
+    Ok(None)
+}
+
+/// `slots`.
+fn answer_slots(
+    out: &mut String,
+    setup: &mut Setup,
+    slots: SlotLimit,
+) -> Result<Option<BadLine>, AllocError>
+    ensures { IfOk result (λ bad. SetupReplies (string_bytes out.old) (string_bytes out.new) (setup_of setup.new) bad
+        (slots_reply (setup_of setup.old) slots)) }
+{
+    let Setup::Declared(_, limit) = setup else {
+        return answer_bad(out, BadLine::SceneLoaded);
+    };
+    *limit = slots;
+    out.push_str("ok\n")?;
+    Ok(None)
+}
+
+/// `load`. One that fails leaves the setup as it was.
+#[tactic(auto, using(crate::proofs::FileFaultLaws::is_wanted))]
+fn answer_load(
+    alloc: Global,
+    out: &mut String,
+    setup: &mut Setup,
+    text: &str,
+) -> Result<Option<BadLine>, AllocError>
+    ensures { IfOk result (λ bad. SetupReplies (string_bytes out.old) (string_bytes out.new) (setup_of setup.new) bad
+        (load_reply (setup_of setup.old) (loaded text.now))) }
+{
+    let loaded = load_text(alloc, text.as_bytes());
+    match loaded {
+        Ok(world) => {
+            *setup = Setup::Loaded(world);
+            out.push_str("ok\n")?;
+        }
+        Err(fault) => answer_file_fault(alloc, out, fault)?,
+    }
+    Ok(None)
+}
+
+/// Answers what a line of the setup says, or hands a line back that ends it.
+pub(crate) fn answer_setup(
+    alloc: Global,
+    out: &mut String,
+    setup: &mut Setup,
+    said: Result<Line, BadLine>,
+) -> Result<SetupAnswer, AllocError>
+    ensures { IfOk result (AnswersSetup (string_bytes out.old) (string_bytes out.new) (setup_of setup.old) (setup_of setup.new) said
+        (setup_said (setup_of setup.old) said)) }
+{
+    let bad = match said {
+        Err(reason) => answer_bad(out, reason)?,
+        Ok(Line::Queue | Line::Commit) => answer_bad(out, BadLine::NoFrame)?,
+        Ok(Line::Empty) => None,
+        Ok(Line::Kind(name, shape)) => answer_kind(alloc, out, setup, name.as_str(), shape)?,
+        Ok(Line::Slots(slots)) => answer_slots(out, setup, slots)?,
+        Ok(Line::Load(text)) => answer_load(alloc, out, setup, text.as_str())?,
+        Ok(line) => return Ok(SetupAnswer::Ends(line)),
+    };
+    Ok(SetupAnswer::Given(bad))
+}
