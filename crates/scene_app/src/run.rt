@@ -48,7 +48,8 @@ fn played(alloc: Global, script: &[u8]) -> Result<(String, RunEnd), AppFault>
 /// Refused: `ReadFault` exactly where the source has failed, now or before, and where it hadn't then in a call of
 /// its reader; `TooLong` where the script is longer than 67,108,864 bytes or its end doesn't come in the turns of the
 /// source; `NoMemory`; and then nothing is written. `WriteFault` where the sink has failed, now or before; then a
-/// prefix of the output is written. A run costs, for each frame, a copy of the world.
+/// prefix of the output is written. A run costs what its lines ask for, and the memory of the script, of the output and
+/// of the records of its frames.
 pub fn run_script<R: Read, W: Write>(
     alloc: Global,
     source: &mut Source<R>,
