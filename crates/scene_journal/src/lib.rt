@@ -21,6 +21,7 @@ mod notes;
 mod record;
 mod recorder;
 mod redo;
+mod resource_cell;
 mod same;
 mod sound;
 mod spawned;
@@ -34,4 +35,5 @@ pub use laws::{commands_are_deltas, deltas_come_back, frames_are_records, record
 pub use record::FrameRecord;
 pub use recorder::Recorder;
 pub use redo::{redo_delta, undo_delta};
+pub use resource_cell::ResourceCell;
 pub use steps::{make_again, make_all_again, take_all_back, take_back};
