@@ -97,10 +97,10 @@ pub(crate) fn standing(world: &World, entity: Entity) -> Option<(&Table, u32)>
     ensures none { IfNone result (row_of world.now.world entity ≡ None) }
     ensures some { IfSome result (λ s. Stands world.now.world entity s.0.now s.1) }
 {
-    let mask = world.mask_of(entity)?;
-    let place = world.place_of(entity)?;
-    let table = world.rows_of(mask)?;
-    Some((table, place))
+    // This tells the prover that the world is valid.
+    let _tick = world.tick();
+    let (table, place) = world.row_of(entity)?;
+    Some((table, place as u32))
 }
 
 /// Whether an entry has this kind and this cell.

@@ -16,6 +16,7 @@ mod examples;
 mod faults;
 mod fits;
 mod fits_back;
+mod inserted;
 mod laws;
 mod notes;
 mod record;
