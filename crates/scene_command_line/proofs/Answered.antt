@@ -1,5 +1,6 @@
 -- What follows from an answer of `clap`.
-use Rattle.std.proofs.Common.{◌≡◌, ◌⊎◌, true, false, IfOk, IsErr, Result, Ok, Err, Option, Some, None, Box, inl, inr, refl, subst, option_map, [], ◌∷◌}
+use Rattle.std.proofs.Common.{◌≡◌, ◌⊎◌, true, false, Result, Ok, Err, IfOk, IsErr, Option, Some, None, Box}
+use Rattle.std.proofs.Common.{[], ◌∷◌, inl, inr, option_map, refl, subst}
 use Rattle.std.specs.Option.{option_map_or}
 use Rattle.std.specs.Box.{box_value}
 use Rattle.std.specs.declared.alloc.AllocError.{AllocError}

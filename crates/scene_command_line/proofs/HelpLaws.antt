@@ -1,5 +1,5 @@
 -- What `clap` makes of a command line that asks for help.
-use Rattle.std.proofs.Common.{◌≡◌, ◌⊎◌, true, false, Bool, List, inl, inr, refl, sym, ap, subst, codes, [], ◌∷◌, ◌||◌}
+use Rattle.std.proofs.Common.{◌≡◌, true, List, inl, inr, refl, sym, subst, codes, [], ◌∷◌}
 use Rattle.std.specs.Str.{bytes_eq}
 use Rattle.std.proofs.lemmas.Bool.{and_parts, false≢true, or_cases}
 use Rattle.std.proofs.lemmas.Slice.Eq.{bytes_eq-Decides}

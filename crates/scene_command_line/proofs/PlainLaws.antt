@@ -1,6 +1,6 @@
 -- What `clap` makes of a command line without options.
-use Rattle.std.proofs.Common.{◌≡◌, ◌∙◌, ◌⊎◌, ℕ, true, false, Option, Some, None, List, inl, inr, refl, sym, ap, ap₂, subst, codes, [], ◌∷◌, ◌++◌, not, drop}
-use Rattle.std.specs.Prelude.{Bool, map, fold, is_some, option_map}
+use Rattle.std.proofs.Common.{◌≡◌, ◌∙◌, ◌⊎◌, ℕ, true, false, Some, None, List, inl, inr, refl, sym, ap, subst, codes, [], ◌∷◌}
+use Rattle.std.specs.Prelude.{Bool, fold}
 use Rattle.std.specs.List.{list_all}
 use Rattle.std.specs.Str.{bytes_eq}
 use Rattle.std.proofs.lemmas.Bool.{and_parts, both_ways, cases_Bool, false_from_ne_true, not-true}
@@ -17,7 +17,7 @@ use Rattle.clap.proofs.FaultLemmas.{stopped_fault}
 use Rattle.clap.proofs.WalkLemmas.{walk_stopped}
 use Rattle.scene_command_line.specs.declared.asked.Asked.{Asked}
 use Rattle.scene_command_line.specs.declared.asked.Asked.TheVariants.{Run, Check, Print, Bad}
-use Rattle.scene_command_line.specs.Words.{Answers, AsksFor, command_in, command_named, scene_line}
+use Rattle.scene_command_line.specs.Words.{Answers, AsksFor, command_in, scene_line}
 use Rattle.scene_command_line.specs.Plain.{are_plain, is_option, is_plain, plainly_asked}
 
 -- ---- words that are no options
@@ -146,8 +146,10 @@ taken kinds command named asked none is answers = subst (λ (ks : Kinds). Answer
 
 refused_once : (kinds : Kinds) (command asked : Asked) → (kinds ≡ MissingSubcommand ∷ []) ⊎ (kinds ≡ UnknownArgument ∷ [])
     → Answers kinds command asked → asked ≡ Bad
-refused_once kinds command asked (inl one) answers = elim (subst (λ (ks : Kinds). Answers ks command asked) one answers) [ inl bad ↦ bad | inr none ↦ absurd none ]
-refused_once kinds command asked (inr one) answers = elim (subst (λ (ks : Kinds). Answers ks command asked) one answers) [ inl bad ↦ bad | inr none ↦ absurd none ]
+refused_once kinds command asked (inl one) answers =
+    elim (subst (λ (ks : Kinds). Answers ks command asked) one answers) [ inl bad ↦ bad | inr none ↦ absurd none ]
+refused_once kinds command asked (inr one) answers =
+    elim (subst (λ (ks : Kinds). Answers ks command asked) one answers) [ inl bad ↦ bad | inr none ↦ absurd none ]
 
 refused_twice : (kinds : Kinds) (command asked : Asked) → kinds ≡ UnknownArgument ∷ InvalidSubcommand ∷ []
     → Answers kinds command asked → asked ≡ Bad

@@ -1,5 +1,5 @@
 -- What the plain command lines ask for: those without options, and those that ask for help.
-use Rattle.std.specs.Prelude.{ℕ, Bool, List, [], ◌∷◌, ◌==◌, ◌&&◌, ◌||◌, not, false, codes, drop}
+use Rattle.std.specs.Prelude.{Bool, List, [], ◌∷◌, ◌==◌, ◌&&◌, ◌||◌, not, false, codes, drop}
 use Rattle.std.specs.List.{list_all}
 use Rattle.std.specs.Str.{bytes_eq}
 use Rattle.clap.specs.Words.{Text}

@@ -58,11 +58,8 @@ fn without_command(alloc: Global, error: &Error) -> Result<Asked, AllocError>
     }
 }
 
-/// What the words of a command line ask for, the program's own name first (docs/SCRIPTS.md, "Command line").
-///
-/// # Errors
-///
-/// `AllocError` where a growth of memory was refused.
+/// What the words of a command line ask for, the program's own name first (docs/SCRIPTS.md, "Command line"). It is
+/// refused only for want of memory, and costs as much as the library takes to look through the words.
 pub fn read_words<'a>(alloc: Global, words: &'a [String]) -> Result<Asked, AllocError>
     ensures asked { IfOk result (λ asked. AsksFor asked (map string_bytes words.now)) }
     ensures plain { are_plain (map string_bytes words.now) ≡ true

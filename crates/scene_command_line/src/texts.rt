@@ -1,7 +1,8 @@
 //! What the help texts of the program and of its commands say beside the names.
 
 /// What the program is.
-pub(crate) const PROGRAM: &str = "Plays scripts of commands on a world of entities, with undo, and looks at saved scenes";
+pub(crate) const PROGRAM: &str =
+    "Plays scripts of commands on a world of entities, with undo, and looks at saved scenes";
 
 /// What all commands have in common.
 pub(crate) const PROGRAM_MORE: &str = "\
