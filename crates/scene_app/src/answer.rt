@@ -12,16 +12,15 @@ ghost use Rattle.scene_app.specs.Steps.{Replies};
 
 use crate::file_fault_text::answer_file_fault;
 use crate::framed_answer::answer_in_frame;
-use crate::listed::write_listed;
 use crate::open_frame::OpenFrame;
 use crate::play_state::PlayState;
-use crate::show::{write_entities, write_row, write_show};
 use scene_commands::Command;
 use scene_file::save_text;
 use scene_kinds::{Entity, Fault, Refusal};
 use scene_pass::{Filter, added_since, changed_since};
 use scene_queue::Queue;
 use scene_script::{BadLine, Line};
+use scene_show::{write_entities, write_listed, write_row, write_show};
 use scene_world::World;
 use std::alloc::{AllocError, Global};
 
