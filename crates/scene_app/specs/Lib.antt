@@ -1,11 +1,9 @@
+pub mod Checked
 pub mod Fault
 pub mod FileFaultText
-pub mod Listed
 pub mod MachineCode
 pub mod OpenFrame
 pub mod Play
 pub mod Reports
 pub mod SetupSteps
-pub mod ShowSteps
-pub mod Shown
 pub mod Steps

@@ -30,10 +30,10 @@ use Rattle.scene_file.specs.declared.fault.FileFault.{FileFault}
 use Rattle.scene_file.specs.Saving.{save_of}
 use Rattle.scene_file.specs.Scene.{loaded}
 use Rattle.scene_app.specs.FileFaultText.{file_fault_text}
-use Rattle.scene_app.specs.Listed.{listed_text}
+use Rattle.scene_show.specs.Listed.{listed_text}
 use Rattle.scene_script.specs.Printed.{row_text}
 use Rattle.scene_script.specs.Script.{line_in}
-use Rattle.scene_app.specs.Shown.{entities_text, show_text}
+use Rattle.scene_show.specs.Shown.{entities_text, show_text}
 
 -- ---- the state between two lines, and cursors
 

@@ -12,16 +12,15 @@ ghost use Rattle.scene_app.specs.Steps.{Replies};
 
 use crate::file_fault_text::answer_file_fault;
 use crate::framed_answer::answer_in_frame;
-use crate::listed::write_listed;
 use crate::open_frame::OpenFrame;
 use crate::play_state::PlayState;
-use crate::show::{write_entities, write_row, write_show};
 use scene_commands::Command;
 use scene_file::save_text;
 use scene_kinds::{Entity, Fault, Refusal};
 use scene_pass::{Filter, added_since, changed_since};
 use scene_queue::Queue;
 use scene_script::{BadLine, Line};
+use scene_show::{write_entities, write_listed, write_row, write_show};
 use scene_world::World;
 use std::alloc::{AllocError, Global};
 
@@ -63,8 +62,8 @@ pub(crate) fn answer_frame(
     requires { length queues.now ≤ 4294967295 }
     ensures { OnOk result (Replies (string_bytes out.old) (string_bytes out.new) state.new None (submit_reply state.old (frame_of queues.now))) }
 {
-    match state.machine.submit(queues) {
-        Ok(entities) => write_made(out, entities.as_slice()),
+    match state.machine.editor.submit(queues) {
+        Ok(made) => write_made(out, made.entities.as_slice()),
         Err(refusal) => answer_refused(out, refusal),
     }
 }
@@ -109,7 +108,7 @@ fn answer_undo(out: &mut String, state: &mut PlayState) -> Result<(), AllocError
     ensures { OnOk result (Replies (string_bytes out.old) (string_bytes out.new) state.new None
         (call_reply state.old undone_text (step state.old.machine UndoCall))) }
 {
-    match state.machine.undo() {
+    match state.machine.editor.undo() {
         Ok(()) => out.push_str("undone\n"),
         Err(refusal) => answer_refused(out, refusal),
     }
@@ -120,7 +119,7 @@ fn answer_redo(out: &mut String, state: &mut PlayState) -> Result<(), AllocError
     ensures { OnOk result (Replies (string_bytes out.old) (string_bytes out.new) state.new None
         (call_reply state.old redone_text (step state.old.machine RedoCall))) }
 {
-    match state.machine.redo() {
+    match state.machine.editor.redo() {
         Ok(()) => out.push_str("redone\n"),
         Err(refusal) => answer_refused(out, refusal),
     }

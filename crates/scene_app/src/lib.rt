@@ -7,11 +7,11 @@
 #![tactic(auto)]
 
 mod answer;
+mod check;
 mod cursor;
 mod fault;
 mod file_fault_text;
 mod framed_answer;
-mod listed;
 mod machine;
 mod open_frame;
 mod play;
@@ -20,8 +20,8 @@ mod report;
 mod run;
 mod setup;
 mod setup_answer;
-mod show;
 
+pub use check::{check_scene, print_scene};
 pub use fault::AppFault;
 pub use report::BadLineReport;
 pub use run::{RunEnd, run_script};

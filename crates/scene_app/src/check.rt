@@ -1,0 +1,135 @@
+//! The commands over a scene text: one says whether it is good, one prints its world.
+ghost use Rattle.std.specs.Prelude.{◌≡◌, ◌≢◌, ◌++◌, ◌<◌, ◌≤◌, ◌⊎◌, ◌↔◌, true, false, length, Ok, Err, string_bytes, OnOk, OnErr, IfOk, IfErr, IfSome};
+ghost use Rattle.std.specs.Io.KnownBytes.{Appends, IsAtEnd};
+ghost use Rattle.scene_streams.specs.Known.{AppendsPrefix};
+ghost use Rattle.scene_streams.specs.Source.{reader_of, turns_left, read_failed};
+ghost use Rattle.scene_streams.specs.Sink.{writer_of, write_failed};
+ghost use Rattle.scene_streams.specs.Limits.{most_bytes};
+ghost use Rattle.scene_file.specs.Scene.{loaded};
+ghost use Rattle.scene_app.specs.Checked.{good_text, check_output, print_output, is_scene};
+ghost use Rattle.scene_app.specs.declared.fault.AppFault.TheVariants.{NoMemory, ReadFault, WriteFault, TooLong};
+
+use crate::fault::AppFault;
+use crate::file_fault_text::answer_file_fault;
+use scene_file::load_text;
+use scene_pass::{Filter, matching};
+use scene_show::write_show;
+use scene_streams::{Sink, Source};
+use scene_world::World;
+use std::alloc::{AllocError, Global};
+use std::io::{Read, Write};
+
+/// Adds what a check says of a scene that it accepts.
+fn write_good(alloc: Global, out: &mut String, world: &World) -> Result<(), AllocError>
+    ensures { OnOk result (string_bytes out.new ≡ string_bytes out.old ++ good_text world.now.world) }
+{
+    let live = matching(alloc, world, Filter::all())?;
+    write!(out, "good {} {}\n", world.tick(), live.len())?;
+    Ok(())
+}
+
+/// What `scene check` prints for a text, and whether it is a scene.
+#[tactic(auto, using(crate::proofs::FileFaultLaws::is_wanted))]
+fn checked(alloc: Global, text: &[u8]) -> Result<(String, bool), AllocError>
+    ensures printed { IfOk result (λ p. string_bytes p.0 ≡ check_output text.now) }
+    ensures accepted { IfOk result (λ p. p.1 ≡ is_scene text.now) }
+{
+    let mut out = String::new(alloc);
+    match load_text(alloc, text) {
+        Ok(world) => {
+            write_good(alloc, &mut out, &world)?;
+            Ok((out, true))
+        }
+        Err(fault) => {
+            answer_file_fault(alloc, &mut out, fault)?;
+            Ok((out, false))
+        }
+    }
+}
+
+/// What `scene print` prints for a text, and whether it is a scene.
+#[tactic(auto, using(crate::proofs::FileFaultLaws::is_wanted))]
+fn printed(alloc: Global, text: &[u8]) -> Result<(String, bool), AllocError>
+    ensures printed { IfOk result (λ p. string_bytes p.0 ≡ print_output text.now) }
+    ensures accepted { IfOk result (λ p. p.1 ≡ is_scene text.now) }
+{
+    let mut out = String::new(alloc);
+    match load_text(alloc, text) {
+        Ok(world) => {
+            write_show(alloc, &mut out, &world)?;
+            Ok((out, true))
+        }
+        Err(fault) => {
+            answer_file_fault(alloc, &mut out, fault)?;
+            Ok((out, false))
+        }
+    }
+}
+
+/// Reads a scene text to its end, and writes `good TICK LIVE`, LIVE being the number of live entities, where it is a
+/// scene, or else the line of its first fault (docs/SCRIPTS.md, "Scene texts"). It answers whether it is a scene.
+///
+/// Refused, and then nothing is written: `ReadFault` exactly where the source has failed, now or before, and where it
+/// hadn't then in a call of its reader; `TooLong` where the text is longer than 67,108,864 bytes or its end doesn't come
+/// in the turns of the source; `NoMemory`. `WriteFault` where the sink has failed, now or before; then a prefix of the
+/// line is written. It costs what the load of the text costs.
+pub fn check_scene<R: Read, W: Write>(
+    alloc: Global,
+    source: &mut Source<R>,
+    sink: &mut Sink<W>,
+) -> Result<bool, AppFault>
+    ensures accepted { IfOk result (λ good. IfSome (R.remaining (reader_of source.old)) (λ text. good ≡ is_scene text)) }
+    ensures printed { OnOk result (IfSome (R.remaining (reader_of source.old))
+        (λ text. Appends (W.contents (writer_of sink.old)) (W.contents (writer_of sink.new)) (check_output text))) }
+    ensures within { OnOk result (IfSome (R.remaining (reader_of source.old)) (λ text. length text ≤ most_bytes)) }
+    ensures end { OnOk result (IsAtEnd (R.remaining (reader_of source.new))) }
+    ensures prefix { OnErr result (IfSome (R.remaining (reader_of source.old))
+        (λ text. AppendsPrefix (W.contents (writer_of sink.old)) (W.contents (writer_of sink.new)) (check_output text))) }
+    ensures nothing { IfErr result (λ f. f ≢ WriteFault → sink.new ≡ sink.old) }
+    ensures read { (result ≡ Err ReadFault) ↔ (read_failed source.new ≡ true) }
+    ensures marked { read_failed source.old ≡ true → source.new ≡ source.old }
+    ensures called { read_failed source.old ≡ false → IfErr result (λ f. f ≡ ReadFault → turns_left source.new < turns_left source.old) }
+    ensures long { IfErr result (λ f. f ≡ TooLong
+        → (turns_left source.new ≡ 0) ⊎ IfSome (R.remaining (reader_of source.old)) (λ text. most_bytes < length text)) }
+    ensures write { write_failed sink.old ≡ false → (result ≡ Err WriteFault) ↔ (write_failed sink.new ≡ true) }
+    ensures refused { write_failed sink.old ≡ true → sink.new ≡ sink.old }
+    ensures unmarked { OnOk result (write_failed sink.new ≡ false) }
+{
+    let text = source.read_all(alloc)?;
+    let (out, accepted) = checked(alloc, text.as_slice())?;
+    sink.write_all(out.as_bytes())?;
+    Ok(accepted)
+}
+
+/// Reads a scene text to its end, and writes its world as `show` does where it is a scene, or else the line of its first
+/// fault (docs/SCRIPTS.md, "Scene texts"). It answers whether it is a scene.
+///
+/// Refused as `check_scene` is, where `WriteFault` leaves a prefix of the lines. It costs what the load of the text and
+/// `show` cost.
+pub fn print_scene<R: Read, W: Write>(
+    alloc: Global,
+    source: &mut Source<R>,
+    sink: &mut Sink<W>,
+) -> Result<bool, AppFault>
+    ensures accepted { IfOk result (λ good. IfSome (R.remaining (reader_of source.old)) (λ text. good ≡ is_scene text)) }
+    ensures printed { OnOk result (IfSome (R.remaining (reader_of source.old))
+        (λ text. Appends (W.contents (writer_of sink.old)) (W.contents (writer_of sink.new)) (print_output text))) }
+    ensures within { OnOk result (IfSome (R.remaining (reader_of source.old)) (λ text. length text ≤ most_bytes)) }
+    ensures end { OnOk result (IsAtEnd (R.remaining (reader_of source.new))) }
+    ensures prefix { OnErr result (IfSome (R.remaining (reader_of source.old))
+        (λ text. AppendsPrefix (W.contents (writer_of sink.old)) (W.contents (writer_of sink.new)) (print_output text))) }
+    ensures nothing { IfErr result (λ f. f ≢ WriteFault → sink.new ≡ sink.old) }
+    ensures read { (result ≡ Err ReadFault) ↔ (read_failed source.new ≡ true) }
+    ensures marked { read_failed source.old ≡ true → source.new ≡ source.old }
+    ensures called { read_failed source.old ≡ false → IfErr result (λ f. f ≡ ReadFault → turns_left source.new < turns_left source.old) }
+    ensures long { IfErr result (λ f. f ≡ TooLong
+        → (turns_left source.new ≡ 0) ⊎ IfSome (R.remaining (reader_of source.old)) (λ text. most_bytes < length text)) }
+    ensures write { write_failed sink.old ≡ false → (result ≡ Err WriteFault) ↔ (write_failed sink.new ≡ true) }
+    ensures refused { write_failed sink.old ≡ true → sink.new ≡ sink.old }
+    ensures unmarked { OnOk result (write_failed sink.new ≡ false) }
+{
+    let text = source.read_all(alloc)?;
+    let (out, accepted) = printed(alloc, text.as_slice())?;
+    sink.write_all(out.as_bytes())?;
+    Ok(accepted)
+}

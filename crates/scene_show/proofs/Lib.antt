@@ -1,0 +1,2 @@
+pub mod ResourceLaws
+pub mod ShowLaws
