@@ -1,5 +1,5 @@
 //! A past that is kept outside, and taken up by another editor.
-use crate::small::{editor_of, first, given, queue_of};
+use crate::small::{editor_of, first, given, queue_of, submit_one};
 use scene_commands::{Command, Target};
 use scene_journal::FrameRecord;
 use scene_kinds::{Refusal, Shape, Value};
@@ -29,13 +29,23 @@ fn tree(alloc: Global) -> Result<Queue, Refusal> {
     Ok(queue)
 }
 
+/// Spawns the tree in one frame.
+fn grow(alloc: Global, editor: &mut Editor) -> Result<(), Refusal> {
+    let queue = tree(alloc)?;
+    submit_one(alloc, editor, queue)
+}
+
+/// Despawns the root with all below it.
+fn fell(alloc: Global, editor: &mut Editor) -> Result<(), Refusal> {
+    let queue = queue_of(alloc, Command::DespawnAll(Target::Id(first(0))))?;
+    submit_one(alloc, editor, queue)
+}
+
 /// An editor of two frames: the first spawns a tree, the second despawns all of it.
 fn grown_and_felled(alloc: Global) -> Result<Editor, Refusal> {
     let mut editor = editor_of(alloc, Shape::Tag)?;
-    let grow = vec![in alloc; tree(alloc)?]?;
-    let _grown = editor.submit(grow.as_slice())?;
-    let fell = queue_of(alloc, Command::DespawnAll(Target::Id(first(0))))?;
-    let _felled = editor.submit(vec![in alloc; fell]?.as_slice())?;
+    grow(alloc, &mut editor)?;
+    fell(alloc, &mut editor)?;
     Ok(editor)
 }
 
