@@ -4,7 +4,7 @@ use Rattle.scene_model.specs.Queue.{and_spawned}
 use Rattle.scene_queue.specs.Requests.{request_of}
 use Rattle.scene_queue.proofs.Folds.{goes_on, passed_over, stops_there}
 use Rattle.scene_world.proofs.Room.{wider_wider}
-use Rattle.scene_queue.proofs.apply.apply_commands.Goals as goal
+use Rattle.scene_queue.proofs.queue.apply_commands.Goals as goal
 
 pub returns-then-is_err-clause-passed : goal.returns-then-is_err-clause-passed
 returns-then-is_err-clause-passed g c = passed_over (act g.S.Stage.note) request_of _ c.loop-command.command-index _ _ _ _ refl c.loop-command.invariant.1.0

@@ -3,7 +3,7 @@ use Rattle.scene_model.specs.Queue.{reached, whole, play}
 use Rattle.scene_world.specs.Room.{IsWider}
 use Rattle.scene_world.specs.Stage.{act}
 use Rattle.scene_queue.specs.Requests.{requests}
-use Rattle.scene_queue.proofs.apply.apply_commands.Given as goal
+use Rattle.scene_queue.proofs.queue.apply_commands.Given as goal
 
 -- the commands so far were done, and spawned these entities
 abbrev pub invariant-loop-command : goal.invariant-loop-command

@@ -11,7 +11,7 @@ use Rattle.scene_journal.specs.Ready.{AreReady}
 use Rattle.scene_journal.specs.Records.{record_of, back_all}
 use Rattle.scene_undo.specs.Kept.{CanUndo}
 use Rattle.scene_undo.proofs.WholeFrames.{lowers, record_is, record_can}
-use Rattle.scene_undo.proofs.framed.frame.Goals as goal
+use Rattle.scene_undo.proofs.editor.frame.Goals as goal
 
 pub set_tick-requires : goal.set_tick-requires
 set_tick-requires c =

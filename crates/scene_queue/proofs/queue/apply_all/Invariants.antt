@@ -3,7 +3,7 @@ use Rattle.scene_model.specs.Frame.{queues_from}
 use Rattle.scene_world.specs.Room.{IsWider}
 use Rattle.scene_world.specs.Stage.{act}
 use Rattle.scene_queue.specs.Frames.{frame_of}
-use Rattle.scene_queue.proofs.frame.apply_all.Given as goal
+use Rattle.scene_queue.proofs.queue.apply_all.Given as goal
 
 -- the queues so far were applied, and spawned these entities
 abbrev pub invariant-loop-queue : goal.invariant-loop-queue

@@ -8,7 +8,7 @@ use Rattle.scene_queue.specs.Frames.{frame_of, on_world}
 use Rattle.scene_queue.proofs.Frames.{whole_one, refused_one, passed_some, passed_whole}
 use Rattle.scene_queue.proofs.Worlds.{queues_world}
 use Rattle.scene_world.proofs.Room.{wider_wider}
-use Rattle.scene_queue.proofs.frame.apply_all.Goals as goal
+use Rattle.scene_queue.proofs.queue.apply_all.Goals as goal
 
 pub returns-in-Err-clause-refused : goal.returns-in-Err-clause-refused
 returns-in-Err-clause-refused g c = λ named.
