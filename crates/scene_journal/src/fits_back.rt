@@ -14,8 +14,8 @@ use scene_kinds::{Cell, Cells, Entity, KindSet, set_with, set_without};
 use scene_table::Table;
 use scene_world::World;
 
-/// The table in which the row of an entity stands, with all rows of its kind set, and the row's place there; `None` where
-/// it has none.
+/// The table in which the row of an entity stands, with all rows of its kind set, and the row's place there; `None`
+/// where it has none.
 fn standing_in_whole(world: &World, entity: Entity) -> Option<(&Table, u32)>
     ensures none { IfNone result (row_of world.now.world entity ≡ None) }
     ensures some { IfSome result (λ s. Stands world.now.world entity s.0.now s.1) }

@@ -7,8 +7,8 @@ use std::alloc::{AllocError, Global};
 use std::fmt;
 use std::marker::Model;
 
-/// The cell of a resource, or none. It stands on the heap, since two cells and a name would make every delta as large as
-/// those of resources, and most deltas are others.
+/// The cell of a resource, or none. It stands on the heap, since two cells and a name would make every delta as large
+/// as those of resources, and most deltas are others.
 ///
 /// Contracts see the cell, where there is one.
 #[derive(Drop)]
