@@ -10,10 +10,7 @@ mod home_tests;
 mod queue_tests;
 #[cfg(test)]
 mod run_tests;
-mod streams;
 #[cfg(test)]
 mod tree_tests;
 #[cfg(test)]
 mod world_tests;
-
-pub use streams::{Pieces, Taker};

@@ -1,6 +1,6 @@
 //! Runs whose reader or writer fails at each call in turn.
-use crate::{Pieces, Taker};
 use scene_app::{AppFault, run_script};
+use scene_lower_tests::{Pieces, Taker};
 use scene_streams::{Sink, Source};
 use std::io::ErrorKind;
 use std::test::Fail;
