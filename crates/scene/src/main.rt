@@ -1,13 +1,16 @@
-//! `scene run`: plays the script on standard input, and prints to standard output (docs/SCRIPTS.md).
+//! The program `scene`: plays a script, or looks at a scene text, that it reads from standard input
+//! (docs/SCRIPTS.md, "Command line").
 //!
-//! The exit status is 0 after a run without bad lines, 1 after one with bad lines, 2 where the words after `scene`
-//! are no command, and 3 where a fault ended the run. Standard error says where the first bad lines are and why.
+//! What the words of the command line ask for is scene_command_line's, and what is read and printed is scene_app's.
+//! Here the streams are joined to them, and it is said with which exit status the program ends and what standard error
+//! tells.
 #![tactic(auto)]
 
-mod asked;
+mod ending;
 
-use crate::asked::{Asked, read_words};
-use scene_app::{AppFault, RunEnd, run_script};
+use crate::ending::Ending;
+use scene_app::{AppFault, RunEnd, check_scene, print_scene, run_script};
+use scene_command_line::{Asked, read_words};
 use scene_streams::{Sink, Source};
 use std::io::ErrorKind;
 use std::process::ExitCode;
@@ -16,16 +19,6 @@ use std::{env, io};
 /// The words of the command line, the program's own name first.
 fn words_given(rt: &HostRuntime) -> io::Result<Vec<String>> {
     Ok(env::args(rt)?.collect(rt.alloc())?)
-}
-
-fn end_bad_command_line(rt: &HostRuntime) -> io::Result<ExitCode> {
-    eprintln!(rt; "scene: bad command line")?;
-    Ok(ExitCode::from(2))
-}
-
-fn end_by_fault(rt: &HostRuntime, fault: AppFault) -> io::Result<ExitCode> {
-    eprintln!(rt; "scene: {fault}")?;
-    Ok(ExitCode::from(3))
 }
 
 /// Says on standard error where the first bad lines are and why, and how many more there are.
@@ -40,37 +33,80 @@ fn tell_bad_lines(rt: &HostRuntime, end: &RunEnd) -> io::Result<()> {
     }
 }
 
-fn play_input(rt: &HostRuntime) -> io::Result<ExitCode> {
+/// Plays the script on standard input.
+fn run(rt: &HostRuntime) -> Ending {
     let mut source = Source::new(rt.stdin());
     let mut sink = Sink::new(rt.stdout());
     match run_script(rt.alloc(), &mut source, &mut sink) {
-        Ok(end) if end.bad_lines == 0 => Ok(ExitCode::SUCCESS),
         Ok(end) => {
             // A standard error that can't be written changes no status.
             let _told = tell_bad_lines(rt, &end);
-            Ok(ExitCode::from(1))
+            Ending::after_bad_lines(end.bad_lines)
         }
-        Err(fault) => end_by_fault(rt, fault),
+        Err(fault) => Ending::Fault(fault),
     }
 }
 
-fn run(rt: &HostRuntime) -> io::Result<ExitCode> {
+/// Says whether the scene text on standard input is good.
+fn check(rt: &HostRuntime) -> Ending {
+    let mut source = Source::new(rt.stdin());
+    let mut sink = Sink::new(rt.stdout());
+    match check_scene(rt.alloc(), &mut source, &mut sink) {
+        Ok(accepted) => Ending::after_scene(accepted),
+        Err(fault) => Ending::Fault(fault),
+    }
+}
+
+/// Shows the world of the scene text on standard input.
+fn print(rt: &HostRuntime) -> Ending {
+    let mut source = Source::new(rt.stdin());
+    let mut sink = Sink::new(rt.stdout());
+    match print_scene(rt.alloc(), &mut source, &mut sink) {
+        Ok(accepted) => Ending::after_scene(accepted),
+        Err(fault) => Ending::Fault(fault),
+    }
+}
+
+/// Prints a help text.
+fn help(rt: &HostRuntime, text: &str) -> Ending {
+    match rt.print(text) {
+        Ok(()) => Ending::Done,
+        Err(_) => Ending::Fault(AppFault::WriteFault),
+    }
+}
+
+/// Does what the command line asks for.
+fn end(rt: &HostRuntime) -> Ending {
     let words = match words_given(rt) {
         Ok(words) => words,
         Err(error) if error.kind() == ErrorKind::OutOfMemory => {
-            return end_by_fault(rt, AppFault::NoMemory);
+            return Ending::Fault(AppFault::NoMemory);
         }
-        Err(_) => return end_bad_command_line(rt),
+        Err(_) => return Ending::BadCommandLine,
     };
-    match read_words(words.as_slice()) {
-        Asked::Nothing => end_bad_command_line(rt),
-        Asked::Run => play_input(rt),
+    match read_words(rt.alloc(), words.as_slice()) {
+        Ok(Asked::Run) => run(rt),
+        Ok(Asked::Check) => check(rt),
+        Ok(Asked::Print) => print(rt),
+        Ok(Asked::Help(text)) => help(rt, text.as_str()),
+        Ok(Asked::Bad) => Ending::BadCommandLine,
+        Err(_) => Ending::Fault(AppFault::NoMemory),
+    }
+}
+
+/// Says on standard error why the program ends, where its output doesn't say it.
+fn tell(rt: &HostRuntime, ending: Ending) -> io::Result<()> {
+    match ending {
+        Ending::Done | Ending::Refused => Ok(()),
+        Ending::BadCommandLine => eprintln!(rt; "scene: bad command line"),
+        Ending::Fault(fault) => eprintln!(rt; "scene: {fault}"),
     }
 }
 
 fn main(rt: HostRuntime) -> ExitCode {
-    match run(&rt) {
-        Ok(code) => code,
+    let ending = end(&rt);
+    match tell(&rt, ending) {
+        Ok(()) => ending.exit_code(),
         Err(_) => ExitCode::from(3),
     }
 }

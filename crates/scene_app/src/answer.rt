@@ -62,8 +62,8 @@ pub(crate) fn answer_frame(
     requires { length queues.now ≤ 4294967295 }
     ensures { OnOk result (Replies (string_bytes out.old) (string_bytes out.new) state.new None (submit_reply state.old (frame_of queues.now))) }
 {
-    match state.machine.submit(queues) {
-        Ok(entities) => write_made(out, entities.as_slice()),
+    match state.machine.editor.submit(queues) {
+        Ok(made) => write_made(out, made.entities.as_slice()),
         Err(refusal) => answer_refused(out, refusal),
     }
 }
@@ -108,7 +108,7 @@ fn answer_undo(out: &mut String, state: &mut PlayState) -> Result<(), AllocError
     ensures { OnOk result (Replies (string_bytes out.old) (string_bytes out.new) state.new None
         (call_reply state.old undone_text (step state.old.machine UndoCall))) }
 {
-    match state.machine.undo() {
+    match state.machine.editor.undo() {
         Ok(()) => out.push_str("undone\n"),
         Err(refusal) => answer_refused(out, refusal),
     }
@@ -119,7 +119,7 @@ fn answer_redo(out: &mut String, state: &mut PlayState) -> Result<(), AllocError
     ensures { OnOk result (Replies (string_bytes out.old) (string_bytes out.new) state.new None
         (call_reply state.old redone_text (step state.old.machine RedoCall))) }
 {
-    match state.machine.redo() {
+    match state.machine.editor.redo() {
         Ok(()) => out.push_str("redone\n"),
         Err(refusal) => answer_refused(out, refusal),
     }

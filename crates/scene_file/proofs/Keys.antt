@@ -21,7 +21,9 @@ at_head : (b : Bool) (k : String Global) (rest : Option (String Global)) (u : Op
 at_head true k rest u e = e
 at_head false k rest u e = refl
 
-find_unknown : (known : List (Bor (List ℕ))) (es : List Entry) → option_map string_bytes (find (λ k. not (is_one_of known (string_bytes k))) (keys_of es)) ≡ unknown_in (each (λ k. k.now) known) (members_view es)
+find_unknown : (known : List (Bor (List ℕ))) (es : List Entry)
+    → option_map string_bytes (find (λ k. not (is_one_of known (string_bytes k))) (keys_of es))
+    ≡ unknown_in (each (λ k. k.now) known) (members_view es)
 find_unknown known [] = refl
 find_unknown known (e ∷ es) =
     at_head (is_one_of known (string_bytes e.0)) e.0 _ _ (find_unknown known es)
@@ -32,6 +34,7 @@ seen_through None = refl
 seen_through (Some k) = refl
 
 -- what a search among the keys finds
-pub unknown_found : (known : List (Bor (List ℕ))) (r : Option (Bor (String Global))) (es : List Entry) → option_map (λ k. k.now) r ≡ find (λ k. not (is_one_of known (string_bytes k))) (keys_of es)
+pub unknown_found : (known : List (Bor (List ℕ))) (r : Option (Bor (String Global))) (es : List Entry)
+    → option_map (λ k. k.now) r ≡ find (λ k. not (is_one_of known (string_bytes k))) (keys_of es)
     → option_map (λ k. string_bytes k.now) r ≡ unknown_in (each (λ k. k.now) known) (members_view es)
 unknown_found known r es e = seen_through r ∙ (ap (option_map string_bytes) e ∙ find_unknown known es)

@@ -75,18 +75,21 @@ known_below k known (member l d ms) r =
     ∙ ap (λ o. cond (list_any (bytes_eq l) known) o (Some l)) (known_below k known ms (lower k l ms r.0 r.1))
 
 -- keys above the first one are found behind it
-found_behind : (l : List ℕ) (e : Data) (ms : Members) (ks : List (List ℕ × Data)) → NamesRise (Some l) ks → AreFound (member l e ms) ks → AreFound ms ks
+found_behind : (l : List ℕ) (e : Data) (ms : Members) (ks : List (List ℕ × Data)) → NamesRise (Some l) ks → AreFound (member l e ms) ks
+    → AreFound ms ks
 found_behind l e ms [] r f = tt
-found_behind l e ms (k ∷ ks) r f =
-    (sym (ap (λ o. match_ordering o (get_member k.0 ms) (Some e) (get_member k.0 ms)) (above l k.0 r.0)) ∙ f.0,
-    found_behind l e ms ks (lower_name l k.0 ks r.0 r.1) f.1)
+found_behind l e ms (k ∷ ks) r f = (
+  sym (ap (λ o. match_ordering o (get_member k.0 ms) (Some e) (get_member k.0 ms)) (above l k.0 r.0)) ∙ f.0,
+  found_behind l e ms ks (lower_name l k.0 ks r.0 r.1) f.1,
+)
 
 -- ---- the whole
 
 not_both : {P : Type 0} {A : Type 0} (o : Option A) (a : A) → o ≡ None → o ≡ Some a → P
 not_both o a h k = absurd (let e : None ≡ Some a = sym h ∙ k in cc)
 
-pub members_are : (ks : List (List ℕ × Data)) (ms : Members) → KeysRise None ms → NamesRise None ks → unknown_in (names ks) ms ≡ None → AreFound ms ks → ms ≡ members_of ks
+pub members_are : (ks : List (List ℕ × Data)) (ms : Members) → KeysRise None ms → NamesRise None ks → unknown_in (names ks) ms ≡ None
+    → AreFound ms ks → ms ≡ members_of ks
 members_are [] no_members r n u f = refl
 members_are [] (member l e ms) r n u f = absurd (let h : Some l ≡ None = u in cc)
 members_are (k ∷ ks) no_members r n u f = absurd (let h : None ≡ Some k.1 = f.0 in cc)
@@ -100,7 +103,8 @@ members_are (k ∷ ks) (member l e ms) r n u f =
           let value : e ≡ k.1 = (let s : Some e ≡ Some k.1 = there in cc) in
           let rise : NamesRise (Some l) ks = subst (λ x. NamesRise (Some x) ks) key n.1 in
           let own : KeysRise (Some k.0) ms = subst (λ x. KeysRise (Some x) ms) (sym key) r.1 in
-          let left : unknown_in (names (k ∷ ks)) ms ≡ None = sym (ap (λ b. cond b (unknown_in (names (k ∷ ks)) ms) (Some l)) (head_known l k.0 (names ks) key)) ∙ u in
+          let left : unknown_in (names (k ∷ ks)) ms ≡ None = sym
+          (ap (λ b. cond b (unknown_in (names (k ∷ ks)) ms) (Some l)) (head_known l k.0 (names ks) key)) ∙ u in
           let rest : ms ≡ members_of ks = members_are ks ms (any_lower (Some l) ms r.1) (from_any key_cmp (Some l) (names ks) rise)
           (sym (known_below k.0 (names ks) ms own) ∙ left) (found_behind l e ms ks rise f.1) in
           λ i. member (sym key i) (value i) (rest i)

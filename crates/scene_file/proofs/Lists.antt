@@ -20,12 +20,14 @@ pub joined-none : {A : Type 0} (x : Result (List A) FileFault) → x ≡ joined 
 joined-none (Ok ys) = refl
 joined-none (Err f) = refl
 
-joined-more : {A : Type 0} (xs : List A) (a : A) (rest : Result (List A) FileFault) → joined xs (rest >>= λ ys. Ok (a ∷ ys)) ≡ joined (xs ++ a ∷ []) rest
+joined-more : {A : Type 0} (xs : List A) (a : A) (rest : Result (List A) FileFault)
+    → joined xs (rest >>= λ ys. Ok (a ∷ ys)) ≡ joined (xs ++ a ∷ []) rest
 joined-more xs a (Ok ys) = ap Ok (sym (append_assoc xs (a ∷ []) ys))
 joined-more xs a (Err f) = refl
 
 -- the values from a place on
-pub next_value : (vs : List Value) (i : ℕ) (v : Value) → i < length vs → v ≡ get_or vs i v → each view (drop i vs) ≡ view v ∷ each view (drop (i + 1) vs)
+pub next_value : (vs : List Value) (i : ℕ) (v : Value) → i < length vs → v ≡ get_or vs i v
+    → each view (drop i vs) ≡ view v ∷ each view (drop (i + 1) vs)
 next_value vs i v h e = ap (each view) (drop_more vs i v h) ∙ ap (λ w. view w ∷ each view (drop (i + 1) vs)) (sym e)
 
 -- the last item
@@ -44,16 +46,21 @@ module _ {A : Type 0} (read : List ℕ → Data → Result A FileFault) (path : 
   abbrev pub AreRead : Result (List A) FileFault → List A → ℕ → List Data → Type 0
   AreRead whole xs i ds = whole ≡ joined xs (each_at read path i ds)
 
-  pub one_read : (whole : Result (List A) FileFault) (xs : List A) (i : ℕ) (d : Data) (all ds : List Data) (a : A) → all ≡ d ∷ ds → AreRead whole xs i all
+  pub one_read : (whole : Result (List A) FileFault) (xs : List A) (i : ℕ) (d : Data) (all ds : List Data) (a : A) → all ≡ d ∷ ds
+      → AreRead whole xs i all
       → read (place_in path i) d ≡ Ok a → AreRead whole (xs ++ a ∷ []) (i + 1) ds
   one_read whole xs i d all ds a e h r =
-      h ∙ (ap (λ l. joined xs (each_at read path i l)) e ∙ (ap (λ x. joined xs (x >>= λ b. each_at read path (i + 1) ds >>= λ rest. Ok (b ∷ rest))) r ∙ joined-more xs a (each_at read path (i + 1) ds)))
+      h ∙ (ap (λ l. joined xs (each_at read path i l)) e
+      ∙ (ap (λ x. joined xs (x >>= λ b. each_at read path (i + 1) ds >>= λ rest. Ok (b ∷ rest))) r
+      ∙ joined-more xs a (each_at read path (i + 1) ds)))
 
-  pub one_faulty : (whole : Result (List A) FileFault) (xs : List A) (i : ℕ) (d : Data) (all ds : List Data) (f : FileFault) → all ≡ d ∷ ds → AreRead whole xs i all
+  pub one_faulty : (whole : Result (List A) FileFault) (xs : List A) (i : ℕ) (d : Data) (all ds : List Data) (f : FileFault) → all ≡ d ∷ ds
+      → AreRead whole xs i all
       → IsTextFault f (read (place_in path i) d) → IsTextFault f whole
   one_faulty whole xs i d all ds f e h r =
       subst (IsTextFault f) (sym (h ∙ ap (λ l. joined xs (each_at read path i l)) e))
-      (fault_stays f (each_at read path i (d ∷ ds)) (λ ys. Ok (xs ++ ys)) (fault_stays f (read (place_in path i) d) (λ b. each_at read path (i + 1) ds >>= λ rest. Ok (b ∷ rest)) r))
+      (fault_stays f (each_at read path i (d ∷ ds)) (λ ys. Ok (xs ++ ys))
+      (fault_stays f (read (place_in path i) d) (λ b. each_at read path (i + 1) ds >>= λ rest. Ok (b ∷ rest)) r))
 
   pub all_read : (whole : Result (List A) FileFault) (xs : List A) (i : ℕ) (ds : List Data) → ds ≡ [] → AreRead whole xs i ds → whole ≡ Ok xs
   all_read whole xs i ds e h = h ∙ (ap (λ l. joined xs (each_at read path i l)) e ∙ ap Ok (append-nil xs))
@@ -63,45 +70,56 @@ module _ {A : Type 0} (read : List ℕ → Data → Result A FileFault) (path : 
     abbrev pub AreRisen : Result (List A) FileFault → List A → ℕ → Option A → List Data → Type 0
     AreRisen whole xs i before ds = whole ≡ joined xs (rising_at read follows path i before ds)
 
-    pub one_risen : (whole : Result (List A) FileFault) (xs : List A) (i : ℕ) (before : Option A) (d : Data) (all ds : List Data) (a : A) → all ≡ d ∷ ds → AreRisen whole xs i before all
+    pub one_risen : (whole : Result (List A) FileFault) (xs : List A) (i : ℕ) (before : Option A) (d : Data) (all ds : List Data) (a : A)
+        → all ≡ d ∷ ds → AreRisen whole xs i before all
         → read (place_in path i) d ≡ Ok a → may_follow follows before a ≡ true → AreRisen whole (xs ++ a ∷ []) (i + 1) (Some a) ds
     one_risen whole xs i before d all ds a e h r m =
         h ∙ (ap (λ l. joined xs (rising_at read follows path i before l)) e
-        ∙ (ap (λ x. joined xs (x >>= λ a. if_good (place_in path i) (may_follow follows before a) a >>= λ b. rising_at read follows path (i + 1) (Some b) ds >>= λ rest. Ok (b ∷ rest))) r
+        ∙ (ap (λ x. joined xs (x >>= λ a. if_good (place_in path i) (may_follow follows before a) a
+        >>= λ b. rising_at read follows path (i + 1) (Some b) ds >>= λ rest. Ok (b ∷ rest))) r
         ∙ (ap (λ t. joined xs (if_good (place_in path i) t a >>= λ b. rising_at read follows path (i + 1) (Some b) ds >>= λ rest. Ok (b ∷ rest))) m
         ∙ joined-more xs a (rising_at read follows path (i + 1) (Some a) ds))))
 
-    pub one_unrisen : (whole : Result (List A) FileFault) (xs : List A) (i : ℕ) (before : Option A) (d : Data) (all ds : List Data) (f : FileFault) → all ≡ d ∷ ds → AreRisen whole xs i before all
+    pub one_unrisen : (whole : Result (List A) FileFault) (xs : List A) (i : ℕ) (before : Option A) (d : Data) (all ds : List Data) (f : FileFault)
+        → all ≡ d ∷ ds → AreRisen whole xs i before all
         → IsTextFault f (read (place_in path i) d) → IsTextFault f whole
     one_unrisen whole xs i before d all ds f e h r =
         subst (IsTextFault f) (sym (h ∙ ap (λ l. joined xs (rising_at read follows path i before l)) e))
         (fault_stays f (rising_at read follows path i before (d ∷ ds)) (λ ys. Ok (xs ++ ys))
-        (fault_stays f (read (place_in path i) d) (λ a. if_good (place_in path i) (may_follow follows before a) a >>= λ b. rising_at read follows path (i + 1) (Some b) ds >>= λ rest. Ok (b ∷ rest)) r))
+        (fault_stays f (read (place_in path i) d)
+        (λ a. if_good (place_in path i) (may_follow follows before a) a >>= λ b. rising_at read follows path (i + 1) (Some b) ds
+        >>= λ rest. Ok (b ∷ rest)) r))
 
-    pub one_misplaced : (whole : Result (List A) FileFault) (xs : List A) (i : ℕ) (before : Option A) (d : Data) (all ds : List Data) (a : A) (f : FileFault) → all ≡ d ∷ ds → AreRisen whole xs i before all
+    pub one_misplaced : (whole : Result (List A) FileFault) (xs : List A) (i : ℕ) (before : Option A) (d : Data) (all ds : List Data) (a : A)
+        (f : FileFault) → all ≡ d ∷ ds → AreRisen whole xs i before all
         → read (place_in path i) d ≡ Ok a → may_follow follows before a ≡ false → Means f (BadField (place_in path i)) → IsTextFault f whole
     one_misplaced whole xs i before d all ds a f e h r m n =
         fault_means f (BadField (place_in path i)) whole n
         (h ∙ (ap (λ l. joined xs (rising_at read follows path i before l)) e
-        ∙ (ap (λ x. joined xs (x >>= λ a. if_good (place_in path i) (may_follow follows before a) a >>= λ b. rising_at read follows path (i + 1) (Some b) ds >>= λ rest. Ok (b ∷ rest))) r
+        ∙ (ap (λ x. joined xs (x >>= λ a. if_good (place_in path i) (may_follow follows before a) a
+        >>= λ b. rising_at read follows path (i + 1) (Some b) ds >>= λ rest. Ok (b ∷ rest))) r
         ∙ ap (λ t. joined xs (if_good (place_in path i) t a >>= λ b. rising_at read follows path (i + 1) (Some b) ds >>= λ rest. Ok (b ∷ rest))) m)))
 
-    pushed : {X : Type 0} (meant : X → A) (whole : Result (List A) FileFault) (xs : List X) (x : X) (j : ℕ) (ds : List Data) → AreRisen whole (each meant xs ++ meant x ∷ []) j (Some (meant x)) ds
+    pushed : {X : Type 0} (meant : X → A) (whole : Result (List A) FileFault) (xs : List X) (x : X) (j : ℕ) (ds : List Data)
+        → AreRisen whole (each meant xs ++ meant x ∷ []) j (Some (meant x)) ds
         → AreRisen whole (each meant (xs ++ x ∷ [])) j (slice_get (each meant (xs ++ x ∷ [])) (length (xs ++ x ∷ []) - 1)) ds
     pushed meant whole xs x j ds h =
         subst (λ (o : Option A). AreRisen whole (each meant (xs ++ x ∷ [])) j o ds) (sym (last_said meant xs x))
         (subst (λ (l : List A). AreRisen whole l j (Some (meant x)) ds) (sym (map-append meant xs (x ∷ []))) h)
 
-    pub risen_on : {X : Type 0} (meant : X → A) (whole : Result (List A) FileFault) (xs new : List X) (x : X) (i : ℕ) (v : Value) (vs : List Value) → new ≡ xs ++ x ∷ []
+    pub risen_on : {X : Type 0} (meant : X → A) (whole : Result (List A) FileFault) (xs new : List X) (x : X) (i : ℕ) (v : Value) (vs : List Value)
+        → new ≡ xs ++ x ∷ []
         → i < length vs → v ≡ get_or vs i v → AreRisen whole (each meant xs) i (slice_get (each meant xs) (length xs - 1)) (each view (drop i vs))
         → read (place_in path i) (view v) ≡ Ok (meant x) → may_follow follows (slice_get (each meant xs) (length xs - 1)) (meant x) ≡ true
         → AreRisen whole (each meant new) (i + 1) (slice_get (each meant new) (length new - 1)) (each view (drop (i + 1) vs))
     risen_on {X} meant whole xs new x i v vs e l g h r m =
         subst (λ (n : List X). AreRisen whole (each meant n) (i + 1) (slice_get (each meant n) (length n - 1)) (each view (drop (i + 1) vs))) (sym e)
         (pushed meant whole xs x (i + 1) (each view (drop (i + 1) vs))
-        (one_risen whole (each meant xs) i (slice_get (each meant xs) (length xs - 1)) (view v) (each view (drop i vs)) (each view (drop (i + 1) vs)) (meant x) (next_value vs i v l g) h r m))
+        (one_risen whole (each meant xs) i (slice_get (each meant xs) (length xs - 1)) (view v) (each view (drop i vs)) (each view (drop (i + 1) vs))
+        (meant x) (next_value vs i v l g) h r m))
 
-    pub all_risen : (whole : Result (List A) FileFault) (xs : List A) (i : ℕ) (before : Option A) (ds : List Data) → ds ≡ [] → AreRisen whole xs i before ds → whole ≡ Ok xs
+    pub all_risen : (whole : Result (List A) FileFault) (xs : List A) (i : ℕ) (before : Option A) (ds : List Data) → ds ≡ []
+        → AreRisen whole xs i before ds → whole ≡ Ok xs
     all_risen whole xs i before ds e h = h ∙ (ap (λ l. joined xs (rising_at read follows path i before l)) e ∙ ap Ok (append-nil xs))
 
 pub ruleset lists = (slice_get-map)

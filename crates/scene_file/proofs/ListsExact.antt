@@ -53,7 +53,8 @@ list_was path (array ds) es h r =
     (ap array (sym (items_back ds) ∙ ap items_of same), subst (AllByRecursion IsRead) same (elements_read ds r))
 
 module _ {A : Type 0} (reads : List ℕ → Data → Result A FileFault) (text : A → Data) (exact : IsExact reads text) where
-  pub each_exact : (path : List ℕ) (i : ℕ) (ds : List Data) (xs : List A) → AllByRecursion IsRead ds → each_at reads path i ds ≡ Ok xs → ds ≡ each text xs
+  pub each_exact : (path : List ℕ) (i : ℕ) (ds : List Data) (xs : List A) → AllByRecursion IsRead ds → each_at reads path i ds ≡ Ok xs
+      → ds ≡ each text xs
   each_exact path i [] xs r h = ap (each text) (ok_is [] xs h)
   each_exact path i (d ∷ ds) xs r h =
       let p = ok_after (reads (place_in path i) d) (λ a. each_at reads path (i + 1) ds >>= λ rest. Ok (a ∷ rest)) xs h in
@@ -68,14 +69,17 @@ module _ {A : Type 0} (reads : List ℕ → Data → Result A FileFault) (text :
       let w = list_was path d p.0 p.1 r in
       w.0 ∙ ap array_of (each_exact path 0 p.0 xs w.1 p.2)
 
-  pub rising_exact_from : (follows : A → A → Bool) (path : List ℕ) (i : ℕ) (before : Option A) (ds : List Data) (xs : List A) → AllByRecursion IsRead ds
+  pub rising_exact_from : (follows : A → A → Bool) (path : List ℕ) (i : ℕ) (before : Option A) (ds : List Data) (xs : List A)
+      → AllByRecursion IsRead ds
       → rising_at reads follows path i before ds ≡ Ok xs → (ds ≡ each text xs) × Follow follows before xs
   rising_exact_from follows path i before [] xs r h =
       let same : [] ≡ xs = ok_is [] xs h in (ap (each text) same, subst (Follow follows before) same tt)
   rising_exact_from follows path i before (d ∷ ds) xs r h =
       let p = ok_after (reads (place_in path i) d)
-      (λ a. if_good (place_in path i) (may_follow follows before a) a >>= λ b. rising_at reads follows path (i + 1) (Some b) ds >>= λ rest. Ok (b ∷ rest)) xs h in
-      let q = ok_after (if_good (place_in path i) (may_follow follows before p.0) p.0) (λ b. rising_at reads follows path (i + 1) (Some b) ds >>= λ rest. Ok (b ∷ rest)) xs p.2 in
+      (λ a. if_good (place_in path i) (may_follow follows before a) a >>= λ b. rising_at reads follows path (i + 1) (Some b) ds
+      >>= λ rest. Ok (b ∷ rest)) xs h in
+      let q = ok_after (if_good (place_in path i) (may_follow follows before p.0) p.0) (λ b. rising_at reads follows path (i + 1) (Some b) ds
+      >>= λ rest. Ok (b ∷ rest)) xs p.2 in
       let g = good_was (place_in path i) (may_follow follows before p.0) p.0 q.0 q.1 in
       let s = ok_after (rising_at reads follows path (i + 1) (Some q.0) ds) (λ rest. Ok (q.0 ∷ rest)) xs q.2 in
       let first : d ≡ text q.0 = exact (place_in path i) d p.0 r.0 p.1 ∙ ap text g.1 in
@@ -101,19 +105,22 @@ pub record IsKey {A : Type 0} (reads : List ℕ → Data → Result A FileFault)
   pub was : reads (under path key) value ≡ Ok a
   pub read : IsRead value
 
-pub key_was : {A : Type 0} (reads : List ℕ → Data → Result A FileFault) (path key : List ℕ) (ms : Members) (a : A) → HasRead ms → key_of reads path key ms ≡ Ok a → IsKey reads path key ms a
+pub key_was : {A : Type 0} (reads : List ℕ → Data → Result A FileFault) (path key : List ℕ) (ms : Members) (a : A) → HasRead ms
+    → key_of reads path key ms ≡ Ok a → IsKey reads path key ms a
 key_was reads path key ms a r h =
     let p = ok_after (field (under path key) (get_member key ms)) (λ d. reads (under path key) d) a h in
     let found = field_was (under path key) (get_member key ms) p.0 p.1 in
     record { value = p.0; found = found; was = p.2; read = member_read key ms p.0 r found }
 
-pub key_exact : {A : Type 0} (reads : List ℕ → Data → Result A FileFault) (text : A → Data) → IsExact reads text → (path key : List ℕ) (ms : Members) (a : A)
+pub key_exact : {A : Type 0} (reads : List ℕ → Data → Result A FileFault) (text : A → Data) → IsExact reads text
+    → (path key : List ℕ) (ms : Members) (a : A)
     → HasRead ms → key_of reads path key ms ≡ Ok a → get_member key ms ≡ Some (text a)
 key_exact reads text exact path key ms a r h =
     let k = key_was reads path key ms a r h in k.found ∙ ap (λ x. Some x) (exact (under path key) k.value a k.read k.was)
 
 -- the value of a key, a list that rises
-pub rising_key : {A : Type 0} (reads : List ℕ → Data → Result A FileFault) (text : A → Data) → IsExact reads text → (follows : A → A → Bool) (path key : List ℕ) (ms : Members) (xs : List A)
+pub rising_key : {A : Type 0} (reads : List ℕ → Data → Result A FileFault) (text : A → Data) → IsExact reads text
+    → (follows : A → A → Bool) (path key : List ℕ) (ms : Members) (xs : List A)
     → HasRead ms → key_of (rising_of reads follows) path key ms ≡ Ok xs → (get_member key ms ≡ Some (list_text text xs)) × Follow follows None xs
 rising_key reads text exact follows path key ms xs r h =
     let k = key_was (rising_of reads follows) path key ms xs r h in
@@ -142,5 +149,6 @@ object_was known path (object ns) ms r h =
     subst (λ x. IsObject known (object ns) x) k.1 (record { whole = refl; only = k.0; rise = r.0; read = r.1 })
 
 -- where each known key has its value, it is the object of these
-pub object_is : (ks : List (List ℕ × Data)) (d : Data) (ms : Members) → IsObject (names ks) d ms → NamesRise None ks → AreFound ms ks → d ≡ object_of ks
+pub object_is : (ks : List (List ℕ × Data)) (d : Data) (ms : Members) → IsObject (names ks) d ms → NamesRise None ks → AreFound ms ks
+    → d ≡ object_of ks
 object_is ks d ms o n f = o.whole ∙ ap object (members_are ks ms o.rise n o.only f)

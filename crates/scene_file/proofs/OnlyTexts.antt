@@ -42,7 +42,8 @@ parts_kept d p said h =
     lists_kept nat_cmp_total p.tables (ascend_from nat_cmp table_follows (λ a b k. lower_is a.0 b.0 k) p.tables said.sets) own.tables.some in
     let children : lists_of (forest_of p.children) ≡ p.children =
     lists_kept entity_cmp_total p.children
-    (ascend_from entity_cmp parent_follows (λ a b k. ap (λ o. ordering_then o (nat_cmp a.0.generation b.0.generation)) (lower_is a.0.index b.0.index k)) p.children said.parents)
+    (ascend_from entity_cmp parent_follows (λ a b k. ap (λ o. ordering_then o (nat_cmp a.0.generation b.0.generation))
+    (lower_is a.0.index b.0.index k)) p.children said.parents)
     own.children.some in
     let resources : (resources_of p.resources).entries ≡ p.resources =
     resources_kept p.resources (ascend_from name_cmp name_follows (λ a b k. less_is (name_cmp a.0 b.0) k) p.resources said.names) in

@@ -57,10 +57,12 @@ abbrev mutual
 
 -- ---- what is put into an object
 
-put_above : (key : List ℕ) (d : Data) (before : Option (List ℕ)) (ms : Members) → IsAbove key_cmp before key → KeysRise before ms → KeysRise before (put key d ms)
+put_above : (key : List ℕ) (d : Data) (before : Option (List ℕ)) (ms : Members) → IsAbove key_cmp before key → KeysRise before ms
+    → KeysRise before (put key d ms)
 put_above key d before no_members a r = (a, tt)
 put_above key d before (member l e ms) a r =
-    elim (slice_cmp nat_cmp key l) as (λ o. slice_cmp nat_cmp key l ≡ o → KeysRise before (match_ordering o (member key d (member l e ms)) (member l d ms) (member l e (put key d ms)))) [
+    elim (slice_cmp nat_cmp key l) as (λ o. slice_cmp nat_cmp key l ≡ o → KeysRise before
+    (match_ordering o (member key d (member l e ms)) (member l d ms) (member l e (put key d ms)))) [
       | Less ↦ λ h. (a, (h, r.1))
       | Equal ↦ λ h. (r.0, r.1)
       | Greater ↦ λ h. (r.0, put_above key d (Some l) ms (nat_list_cmp_total.antisymm l key ∙ ap ordering_reverse h) r.1)
@@ -77,11 +79,13 @@ put_read key d (member l e ms) h k =
 
 -- ---- numbers
 
-mapped : {A B : Type 0} (P : A → Type 0) (Q : B → Type 0) (f : A → B) → ((a : A) → P a → Q (f a)) → (o : Option A) → IfSome o P → IfSome (option_map f o) Q
+mapped : {A B : Type 0} (P : A → Type 0) (Q : B → Type 0) (f : A → B) → ((a : A) → P a → Q (f a)) → (o : Option A) → IfSome o P
+    → IfSome (option_map f o) Q
 mapped P Q f h None x = tt
 mapped P Q f h (Some a) x = h a x
 
-then_so : {A B : Type 0} (P : A → Type 0) (Q : B → Type 0) (f : A → Option B) → ((a : A) → P a → IfSome (f a) Q) → (o : Option A) → IfSome o P → IfSome (option_and_then f o) Q
+then_so : {A B : Type 0} (P : A → Type 0) (Q : B → Type 0) (f : A → Option B) → ((a : A) → P a → IfSome (f a) Q) → (o : Option A) → IfSome o P
+    → IfSome (option_and_then f o) Q
 then_so P Q f h None x = tt
 then_so P Q f h (Some a) x = h a x
 
@@ -109,7 +113,8 @@ number_from_is false p =
     ]
 number_from_is true p =
     elim (is_integer p && nat_lt 0 (digits_of p) && nat_le (digits_of p) (2 ^ 63))
-    as (λ b. (is_integer p && nat_lt 0 (digits_of p) && nat_le (digits_of p) (2 ^ 63)) ≡ b → IfSome (cond b (Some (negative (with_sign true (digits_of p)))) (float_of true p)) IsNumber) [
+    as (λ b. (is_integer p && nat_lt 0 (digits_of p) && nat_le (digits_of p) (2 ^ 63)) ≡ b → IfSome
+    (cond b (Some (negative (with_sign true (digits_of p)))) (float_of true p)) IsNumber) [
       | true ↦ λ h. below_zero (digits_of p) (middle_is (is_integer p) (nat_lt 0 (digits_of p)) (nat_le (digits_of p) (2 ^ 63)) h)
       | false ↦ λ h. float_is_number true p
     ] refl
@@ -139,7 +144,8 @@ mutual
   items_read : (js : json.Items) → IfSome (of_items js) AreRead
   items_read json.no_items = tt
   items_read (json.item j js) =
-      then_so IsRead AreRead (λ d. option_map (item d) (of_items js)) (λ d h. mapped AreRead AreRead (item d) (λ ds k. (h, k)) (of_items js) (items_read js)) (of_json j) (json_read j)
+      then_so IsRead AreRead (λ d. option_map (item d) (of_items js))
+      (λ d h. mapped AreRead AreRead (item d) (λ ds k. (h, k)) (of_items js) (items_read js)) (of_json j) (json_read j)
 
   members_read : (ms : json.Members) (found : Members) → AreMembers found → IfSome (of_members ms found) AreMembers
   members_read json.no_members found h = h

@@ -27,7 +27,8 @@ use Rattle.scene_file.proofs.TableKinds.{ok_after, good_was, kinds_in, widened}
 
 -- ---- cells
 
-cells_exact : (shapes : List Shape) (path : List ℕ) (i : ℕ) (ds : List Data) (cs : List Cell) → AllByRecursion IsRead ds → cells_from shapes path i ds ≡ Ok cs
+cells_exact : (shapes : List Shape) (path : List ℕ) (i : ℕ) (ds : List Data) (cs : List Cell) → AllByRecursion IsRead ds
+    → cells_from shapes path i ds ≡ Ok cs
     → (ds ≡ each cell_text cs) × (length cs ≡ length shapes)
 cells_exact [] path i [] cs r h = let same : [] ≡ cs = ok_is [] cs h in (ap (each cell_text) same, ap length (sym same))
 cells_exact [] path i (d ∷ ds) cs r h = no_field path cs h
@@ -71,9 +72,12 @@ row_exact kinds shapes many path d row r h =
     let c = cells_was shapes (under path (codes "cells")) k.value p.0 k.read k.was in
     let made : Row = record { entity = q.0; cells = zip kinds p.0 } in
     let text : list_text cell_text p.0 ≡ list_text (λ (c : ℕ × Cell). cell_text c.1) made.cells = ap array_of (sym (zipped kinds p.0 (c.1 ∙ many))) in
-    let cells : get_member (codes "cells") o.0 ≡ Some (list_text (λ (c : ℕ × Cell). cell_text c.1) made.cells) = k.found ∙ ap (λ x. Some x) (c.0 ∙ text) in
-    let entity : get_member (codes "entity") o.0 ≡ Some (entity_json q.0) = key_exact entity_at entity_json entity_exact path (codes "entity") o.0 q.0 w.read q.1 in
-    object_is ((codes "cells", list_text (λ (c : ℕ × Cell). cell_text c.1) made.cells) ∷ (codes "entity", entity_json q.0) ∷ []) d o.0 w (tt, (refl, tt)) (cells, (entity, tt))
+    let cells : get_member (codes "cells") o.0 ≡ Some (list_text (λ (c : ℕ × Cell). cell_text c.1) made.cells) = k.found
+    ∙ ap (λ x. Some x) (c.0 ∙ text) in
+    let entity : get_member (codes "entity") o.0 ≡ Some (entity_json q.0) = key_exact entity_at entity_json entity_exact path (codes "entity") o.0
+    q.0 w.read q.1 in
+    object_is ((codes "cells", list_text (λ (c : ℕ × Cell). cell_text c.1) made.cells) ∷ (codes "entity", entity_json q.0) ∷ []) d o.0 w
+    (tt, (refl, tt)) (cells, (entity, tt))
     ∙ ap row_text (ok_is made row q.2)
 
 -- ---- the kinds of a table
@@ -117,7 +121,8 @@ pub kinds_kept : (ks : List ℕ) → AreRising 64 None ks → kinds_of (set_of k
 kinds_kept ks h =
     let same : keys (blank ks) ≡ ks = blank_keys ks in
     ap (λ xs. kinds_of (set_of xs)) (sym same) ∙ ap kinds_of (set_of_cells (blank ks))
-    ∙ kinds_of_cells (blank ks) (sorted_is nat_cmp nat_cmp_total (blank ks) (subst (Ascend nat_cmp None) (sym same) (kinds_ascend 64 None ks h))) (blank_low None ks h)
+    ∙ kinds_of_cells (blank ks) (sorted_is nat_cmp nat_cmp_total (blank ks) (subst (Ascend nat_cmp None) (sym same) (kinds_ascend 64 None ks h)))
+    (blank_low None ks h)
     ∙ same
 
 pub table_exact : (schema : Kinds) → length schema ≤ 64 → IsExact (table_at schema) table_text
@@ -132,9 +137,12 @@ table_exact schema few path d t r h =
     let rise : AreRising (length schema) None p.0 = kinds_in (length schema) path (codes "kinds") o.0 p.0 p.1 in
     let kept : kinds_of (set_of p.0) ≡ p.0 = kinds_kept p.0 (widened (length schema) 64 None p.0 few rise) in
     let k = rising_key (below (length schema)) count_text (below_exact (length schema)) nat_lt path (codes "kinds") o.0 p.0 w.read p.1 in
-    let kinds : get_member (codes "kinds") o.0 ≡ Some (list_text count_text (kinds_of (set_of p.0))) = k.0 ∙ ap (λ ks. Some (list_text count_text ks)) (sym kept) in
+    let kinds : get_member (codes "kinds") o.0 ≡ Some (list_text count_text (kinds_of (set_of p.0))) = k.0
+    ∙ ap (λ ks. Some (list_text count_text ks)) (sym kept) in
     let rows : get_member (codes "rows") o.0 ≡ Some (list_text row_text q.0) =
     key_exact (list_of (row_at p.0 (shapes_of schema p.0))) (list_text row_text)
-    (list_exact (row_at p.0 (shapes_of schema p.0)) row_text (row_exact p.0 (shapes_of schema p.0) (shapes_many schema None p.0 rise))) path (codes "rows") o.0 q.0 w.read q.1 in
-    object_is ((codes "kinds", list_text count_text (kinds_of (set_of p.0))) ∷ (codes "rows", list_text row_text q.0) ∷ []) d o.0 w (tt, (refl, tt)) (kinds, (rows, tt))
+    (list_exact (row_at p.0 (shapes_of schema p.0)) row_text (row_exact p.0 (shapes_of schema p.0) (shapes_many schema None p.0 rise))) path
+    (codes "rows") o.0 q.0 w.read q.1 in
+    object_is ((codes "kinds", list_text count_text (kinds_of (set_of p.0))) ∷ (codes "rows", list_text row_text q.0) ∷ []) d o.0 w (tt, (refl, tt))
+    (kinds, (rows, tt))
     ∙ ap table_text (ok_is (set_of p.0, q.0) t q.2)

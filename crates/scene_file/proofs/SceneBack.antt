@@ -26,37 +26,48 @@ use Rattle.scene_file.proofs.RowsBack.{row_back, kinds_of_row, kinds_rise, low_k
 abbrev pub IsGoodRow : Kinds → ℕ → Row → Type 0
 IsGoodRow schema mask r = (is_entity r.entity ≡ true) × IsRowOf schema mask r
 
-rows_back : (schema : Kinds) → length schema ≤ 64 → (mask : ℕ) (r : Row) (rs : List Row) → AllByRecursion (IsGoodRow schema mask) (r ∷ rs) → ReadsBack (table_at schema) table_text (mask, r ∷ rs)
+rows_back : (schema : Kinds) → length schema ≤ 64 → (mask : ℕ) (r : Row) (rs : List Row) → AllByRecursion (IsGoodRow schema mask) (r ∷ rs)
+    → ReadsBack (table_at schema) table_text (mask, r ∷ rs)
 rows_back schema few mask r rs h path =
     let kinds : List ℕ = kinds_of mask in
     let e : kinds_of mask ≡ keys r.cells = kinds_of_row schema mask r h.0.1 few in
     after (rising_of (below (length schema)) nat_lt (under path (codes "kinds")) (list_text count_text (kinds_of mask))) (kinds_of mask)
-    (λ ks. list_of (row_at ks (shapes_of schema ks)) (under path (codes "rows")) (list_text row_text (r ∷ rs)) >>= λ rows. Ok (set_of ks, rows)) (Ok (mask, r ∷ rs))
+    (λ ks. list_of (row_at ks (shapes_of schema ks)) (under path (codes "rows")) (list_text row_text (r ∷ rs)) >>= λ rows. Ok (set_of ks, rows))
+    (Ok (mask, r ∷ rs))
     (rising_back (below (length schema)) count_text nat_lt (kinds_of mask)
-    (subst (AllByRecursion (ReadsBack (below (length schema)) count_text)) (sym e) (all_with (λ k. k < length schema) (ReadsBack (below (length schema)) count_text) (λ k l. below_back (length schema) k l) (keys r.cells) (low_kinds schema r.cells h.0.1.shapes)))
+    (subst (AllByRecursion (ReadsBack (below (length schema)) count_text)) (sym e)
+    (all_with (λ k. k < length schema) (ReadsBack (below (length schema)) count_text) (λ k l. below_back (length schema) k l) (keys r.cells)
+    (low_kinds schema r.cells h.0.1.shapes)))
     (subst (Follow nat_lt None) (sym e) (kinds_rise r.cells h.0.1.kinds.ascending)) (under path (codes "kinds")))
-    (after (list_of (row_at (kinds_of mask) (shapes_of schema (kinds_of mask))) (under path (codes "rows")) (list_text row_text (r ∷ rs))) (r ∷ rs) (λ rows. Ok (set_of (kinds_of mask), rows)) (Ok (mask, r ∷ rs))
+    (after (list_of (row_at (kinds_of mask) (shapes_of schema (kinds_of mask))) (under path (codes "rows")) (list_text row_text (r ∷ rs))) (r ∷ rs)
+    (λ rows. Ok (set_of (kinds_of mask), rows)) (Ok (mask, r ∷ rs))
     (list_back (row_at (kinds_of mask) (shapes_of schema (kinds_of mask))) row_text (r ∷ rs)
     (all_with (IsGoodRow schema mask) (ReadsBack (row_at (kinds_of mask) (shapes_of schema (kinds_of mask))) row_text)
     (λ x k. row_back schema x (kinds_of mask) k.0 k.1.shapes (sym (kinds_of_row schema mask x k.1 few))) (r ∷ rs) h) (under path (codes "rows")))
     (ap (λ m. Ok (m, r ∷ rs)) (ap set_of e ∙ set_of_row schema mask r h.0.1)))
 
-pub table_back : (schema : Kinds) → length schema ≤ 64 → (mask : ℕ) (rows : List Row) → has_some rows ≡ true → AllByRecursion (IsGoodRow schema mask) rows → ReadsBack (table_at schema) table_text (mask, rows)
+pub table_back : (schema : Kinds) → length schema ≤ 64 → (mask : ℕ) (rows : List Row) → has_some rows ≡ true
+    → AllByRecursion (IsGoodRow schema mask) rows → ReadsBack (table_at schema) table_text (mask, rows)
 table_back schema few mask [] s h = absurd (let k : false ≡ true = s in cc)
 table_back schema few mask (r ∷ rs) s h = rows_back schema few mask r rs h
 
-pub list_of_back : (l : Entity × List Entity) → is_entity l.0 ≡ true → AllByRecursion (λ e. is_entity e ≡ true) l.1 → ReadsBack children_at children_text l
+pub list_of_back : (l : Entity × List Entity) → is_entity l.0 ≡ true → AllByRecursion (λ e. is_entity e ≡ true) l.1
+    → ReadsBack children_at children_text l
 list_of_back l p h path =
     after (list_of entity_at (under path (codes "list")) (list_text entity_json l.1)) l.1
     (λ list. entity_at (under path (codes "parent")) (entity_json l.0) >>= λ parent. Ok (parent, list)) (Ok l)
-    (list_back entity_at entity_json l.1 (all_with (λ e. is_entity e ≡ true) (ReadsBack entity_at entity_json) (λ e k. entity_back e k) l.1 h) (under path (codes "list")))
-    (after (entity_at (under path (codes "parent")) (entity_json l.0)) l.0 (λ parent. Ok (parent, l.1)) (Ok l) (entity_back l.0 p (under path (codes "parent"))) refl)
+    (list_back entity_at entity_json l.1 (all_with (λ e. is_entity e ≡ true) (ReadsBack entity_at entity_json) (λ e k. entity_back e k) l.1 h)
+    (under path (codes "list")))
+    (after (entity_at (under path (codes "parent")) (entity_json l.0)) l.0 (λ parent. Ok (parent, l.1)) (Ok l)
+    (entity_back l.0 p (under path (codes "parent"))) refl)
 
 pub resource_back : (r : List ℕ × Cell) → is_good_name r.0 ≡ true → is_in_range r.1.value ≡ true → ReadsBack resource_at resource_text r
 resource_back r n h path =
-    after (resource_cell_at (under path (codes "cell")) (resource_cell_text r.1)) r.1 (λ cell. name_at (under path (codes "name")) (string r.0) >>= λ name. Ok (name, cell)) (Ok r)
+    after (resource_cell_at (under path (codes "cell")) (resource_cell_text r.1)) r.1
+    (λ cell. name_at (under path (codes "name")) (string r.0) >>= λ name. Ok (name, cell)) (Ok r)
     (resource_cell_back r.1 h (under path (codes "cell")))
-    (after (name_at (under path (codes "name")) (string r.0)) r.0 (λ name. Ok (name, r.1)) (Ok r) (good (under path (codes "name")) (is_good_name r.0) r.0 n) refl)
+    (after (name_at (under path (codes "name")) (string r.0)) r.0 (λ name. Ok (name, r.1)) (Ok r)
+    (good (under path (codes "name")) (is_good_name r.0) r.0 n) refl)
 
 -- ---- the whole
 
@@ -75,12 +86,121 @@ pub record AreReadable (p : Parts) : Type 0 where
 
 pub parts_back : (p : Parts) → AreReadable p → parts_in (parts_text p) ≡ Ok p
 parts_back p h =
-    after (rising_of children_at parent_follows (codes "children") (list_text children_text p.children)) p.children (λ x_children. list_of u32_at (codes "free") (list_text count_text p.free) >>= λ x_free. list_of u32_at (codes "generations") (list_text count_text p.generations) >>= λ x_generations. kinds_at (codes "kinds") (list_text kind_text p.schema) >>= λ x_kinds. limit_at (codes "limit") (count_text p.limit) >>= λ x_limit. rising_of resource_at name_follows (codes "resources") (list_text resource_text p.resources) >>= λ x_resources. rising_of (table_at x_kinds) table_follows (codes "tables") (list_text table_text p.tables) >>= λ x_tables. tick_at (codes "tick") (count_text p.tick) >>= λ x_tick. Ok (record { schema = x_kinds; limit = x_limit; tick = x_tick; generations = x_generations; free = x_free; tables = x_tables; children = x_children; resources = x_resources })) (Ok p) (rising_back children_at children_text parent_follows p.children h.children h.parents (codes "children"))
-    (after (list_of u32_at (codes "free") (list_text count_text p.free)) p.free (λ x_free. list_of u32_at (codes "generations") (list_text count_text p.generations) >>= λ x_generations. kinds_at (codes "kinds") (list_text kind_text p.schema) >>= λ x_kinds. limit_at (codes "limit") (count_text p.limit) >>= λ x_limit. rising_of resource_at name_follows (codes "resources") (list_text resource_text p.resources) >>= λ x_resources. rising_of (table_at x_kinds) table_follows (codes "tables") (list_text table_text p.tables) >>= λ x_tables. tick_at (codes "tick") (count_text p.tick) >>= λ x_tick. Ok (record { schema = x_kinds; limit = x_limit; tick = x_tick; generations = x_generations; free = x_free; tables = x_tables; children = p.children; resources = x_resources })) (Ok p) (list_back u32_at count_text p.free h.free (codes "free"))
-    (after (list_of u32_at (codes "generations") (list_text count_text p.generations)) p.generations (λ x_generations. kinds_at (codes "kinds") (list_text kind_text p.schema) >>= λ x_kinds. limit_at (codes "limit") (count_text p.limit) >>= λ x_limit. rising_of resource_at name_follows (codes "resources") (list_text resource_text p.resources) >>= λ x_resources. rising_of (table_at x_kinds) table_follows (codes "tables") (list_text table_text p.tables) >>= λ x_tables. tick_at (codes "tick") (count_text p.tick) >>= λ x_tick. Ok (record { schema = x_kinds; limit = x_limit; tick = x_tick; generations = x_generations; free = p.free; tables = x_tables; children = p.children; resources = x_resources })) (Ok p) (list_back u32_at count_text p.generations h.generations (codes "generations"))
-    (after (kinds_at (codes "kinds") (list_text kind_text p.schema)) p.schema (λ x_kinds. limit_at (codes "limit") (count_text p.limit) >>= λ x_limit. rising_of resource_at name_follows (codes "resources") (list_text resource_text p.resources) >>= λ x_resources. rising_of (table_at x_kinds) table_follows (codes "tables") (list_text table_text p.tables) >>= λ x_tables. tick_at (codes "tick") (count_text p.tick) >>= λ x_tick. Ok (record { schema = x_kinds; limit = x_limit; tick = x_tick; generations = p.generations; free = p.free; tables = x_tables; children = p.children; resources = x_resources })) (Ok p) (kinds_back p.schema h.schema (codes "kinds"))
-    (after (limit_at (codes "limit") (count_text p.limit)) p.limit (λ x_limit. rising_of resource_at name_follows (codes "resources") (list_text resource_text p.resources) >>= λ x_resources. rising_of (table_at p.schema) table_follows (codes "tables") (list_text table_text p.tables) >>= λ x_tables. tick_at (codes "tick") (count_text p.tick) >>= λ x_tick. Ok (record { schema = p.schema; limit = x_limit; tick = x_tick; generations = p.generations; free = p.free; tables = x_tables; children = p.children; resources = x_resources })) (Ok p) (good (codes "limit") (nat_le 1 p.limit && nat_le p.limit most_slots) p.limit h.limit)
-    (after (rising_of resource_at name_follows (codes "resources") (list_text resource_text p.resources)) p.resources (λ x_resources. rising_of (table_at p.schema) table_follows (codes "tables") (list_text table_text p.tables) >>= λ x_tables. tick_at (codes "tick") (count_text p.tick) >>= λ x_tick. Ok (record { schema = p.schema; limit = p.limit; tick = x_tick; generations = p.generations; free = p.free; tables = x_tables; children = p.children; resources = x_resources })) (Ok p) (rising_back resource_at resource_text name_follows p.resources h.resources h.names (codes "resources"))
-    (after (rising_of (table_at p.schema) table_follows (codes "tables") (list_text table_text p.tables)) p.tables (λ x_tables. tick_at (codes "tick") (count_text p.tick) >>= λ x_tick. Ok (record { schema = p.schema; limit = p.limit; tick = x_tick; generations = p.generations; free = p.free; tables = x_tables; children = p.children; resources = p.resources })) (Ok p) (rising_back (table_at p.schema) table_text table_follows p.tables h.tables h.sets (codes "tables"))
-    (after (tick_at (codes "tick") (count_text p.tick)) p.tick (λ x_tick. Ok (record { schema = p.schema; limit = p.limit; tick = x_tick; generations = p.generations; free = p.free; tables = p.tables; children = p.children; resources = p.resources })) (Ok p) (refl)
+    after (rising_of children_at parent_follows (codes "children") (list_text children_text p.children)) p.children
+    (λ x_children. list_of u32_at (codes "free") (list_text count_text p.free)
+    >>= λ x_free. list_of u32_at (codes "generations") (list_text count_text p.generations)
+    >>= λ x_generations. kinds_at (codes "kinds") (list_text kind_text p.schema) >>= λ x_kinds. limit_at (codes "limit") (count_text p.limit)
+    >>= λ x_limit. rising_of resource_at name_follows (codes "resources") (list_text resource_text p.resources)
+    >>= λ x_resources. rising_of (table_at x_kinds) table_follows (codes "tables") (list_text table_text p.tables)
+    >>= λ x_tables. tick_at (codes "tick") (count_text p.tick)
+    >>= λ x_tick. Ok (record {
+      schema = x_kinds;
+      limit = x_limit;
+      tick = x_tick;
+      generations = x_generations;
+      free = x_free;
+      tables = x_tables;
+      children = x_children;
+      resources = x_resources;
+    })) (Ok p)
+    (rising_back children_at children_text parent_follows p.children h.children h.parents (codes "children"))
+    (after (list_of u32_at (codes "free") (list_text count_text p.free)) p.free
+    (λ x_free. list_of u32_at (codes "generations") (list_text count_text p.generations)
+    >>= λ x_generations. kinds_at (codes "kinds") (list_text kind_text p.schema) >>= λ x_kinds. limit_at (codes "limit") (count_text p.limit)
+    >>= λ x_limit. rising_of resource_at name_follows (codes "resources") (list_text resource_text p.resources)
+    >>= λ x_resources. rising_of (table_at x_kinds) table_follows (codes "tables") (list_text table_text p.tables)
+    >>= λ x_tables. tick_at (codes "tick") (count_text p.tick)
+    >>= λ x_tick. Ok (record {
+      schema = x_kinds;
+      limit = x_limit;
+      tick = x_tick;
+      generations = x_generations;
+      free = x_free;
+      tables = x_tables;
+      children = p.children;
+      resources = x_resources;
+    })) (Ok p) (list_back u32_at count_text p.free h.free (codes "free"))
+    (after (list_of u32_at (codes "generations") (list_text count_text p.generations)) p.generations
+    (λ x_generations. kinds_at (codes "kinds") (list_text kind_text p.schema) >>= λ x_kinds. limit_at (codes "limit") (count_text p.limit)
+    >>= λ x_limit. rising_of resource_at name_follows (codes "resources") (list_text resource_text p.resources)
+    >>= λ x_resources. rising_of (table_at x_kinds) table_follows (codes "tables") (list_text table_text p.tables)
+    >>= λ x_tables. tick_at (codes "tick") (count_text p.tick)
+    >>= λ x_tick. Ok (record {
+      schema = x_kinds;
+      limit = x_limit;
+      tick = x_tick;
+      generations = x_generations;
+      free = p.free;
+      tables = x_tables;
+      children = p.children;
+      resources = x_resources;
+    })) (Ok p) (list_back u32_at count_text p.generations h.generations (codes "generations"))
+    (after (kinds_at (codes "kinds") (list_text kind_text p.schema)) p.schema
+    (λ x_kinds. limit_at (codes "limit") (count_text p.limit)
+    >>= λ x_limit. rising_of resource_at name_follows (codes "resources") (list_text resource_text p.resources)
+    >>= λ x_resources. rising_of (table_at x_kinds) table_follows (codes "tables") (list_text table_text p.tables)
+    >>= λ x_tables. tick_at (codes "tick") (count_text p.tick)
+    >>= λ x_tick. Ok (record {
+      schema = x_kinds;
+      limit = x_limit;
+      tick = x_tick;
+      generations = p.generations;
+      free = p.free;
+      tables = x_tables;
+      children = p.children;
+      resources = x_resources;
+    })) (Ok p) (kinds_back p.schema h.schema (codes "kinds"))
+    (after (limit_at (codes "limit") (count_text p.limit)) p.limit
+    (λ x_limit. rising_of resource_at name_follows (codes "resources") (list_text resource_text p.resources)
+    >>= λ x_resources. rising_of (table_at p.schema) table_follows (codes "tables") (list_text table_text p.tables)
+    >>= λ x_tables. tick_at (codes "tick") (count_text p.tick)
+    >>= λ x_tick. Ok (record {
+      schema = p.schema;
+      limit = x_limit;
+      tick = x_tick;
+      generations = p.generations;
+      free = p.free;
+      tables = x_tables;
+      children = p.children;
+      resources = x_resources;
+    })) (Ok p)
+    (good (codes "limit") (nat_le 1 p.limit && nat_le p.limit most_slots) p.limit h.limit)
+    (after (rising_of resource_at name_follows (codes "resources") (list_text resource_text p.resources)) p.resources
+    (λ x_resources. rising_of (table_at p.schema) table_follows (codes "tables") (list_text table_text p.tables)
+    >>= λ x_tables. tick_at (codes "tick") (count_text p.tick)
+    >>= λ x_tick. Ok (record {
+      schema = p.schema;
+      limit = p.limit;
+      tick = x_tick;
+      generations = p.generations;
+      free = p.free;
+      tables = x_tables;
+      children = p.children;
+      resources = x_resources;
+    })) (Ok p)
+    (rising_back resource_at resource_text name_follows p.resources h.resources h.names (codes "resources"))
+    (after (rising_of (table_at p.schema) table_follows (codes "tables") (list_text table_text p.tables)) p.tables
+    (λ x_tables. tick_at (codes "tick") (count_text p.tick)
+    >>= λ x_tick. Ok (record {
+      schema = p.schema;
+      limit = p.limit;
+      tick = x_tick;
+      generations = p.generations;
+      free = p.free;
+      tables = x_tables;
+      children = p.children;
+      resources = p.resources;
+    })) (Ok p)
+    (rising_back (table_at p.schema) table_text table_follows p.tables h.tables h.sets (codes "tables"))
+    (after (tick_at (codes "tick") (count_text p.tick)) p.tick
+    (λ x_tick. Ok (record {
+      schema = p.schema;
+      limit = p.limit;
+      tick = x_tick;
+      generations = p.generations;
+      free = p.free;
+      tables = p.tables;
+      children = p.children;
+      resources = p.resources;
+    })) (Ok p) (refl)
     (refl))))))))

@@ -20,7 +20,8 @@ use Rattle.scene_file.specs.Walk.{added, set_of}
 
 -- ---- steps that were good
 
-pub ok_after : {A B : Type 0} (x : Result A FileFault) (next : A → Result B FileFault) (b : B) → (x >>= next) ≡ Ok b → (a : A) × (x ≡ Ok a) × (next a ≡ Ok b)
+pub ok_after : {A B : Type 0} (x : Result A FileFault) (next : A → Result B FileFault) (b : B) → (x >>= next) ≡ Ok b
+    → (a : A) × (x ≡ Ok a) × (next a ≡ Ok b)
 ok_after (Ok a) next b h = (a, refl, h)
 ok_after (Err f) next b h = absurd (cc h)
 
@@ -40,30 +41,36 @@ below_bound bound path d n h =
     let t : nat_lt n bound ≡ true = ap (λ m. nat_lt m bound) (sym g.1) ∙ g.0 in
     grind (arith, nat_tests)
 
-rising_rise : (bound : ℕ) (path : List ℕ) (i : ℕ) (before : Option ℕ) (ds : List Data) (ks : List ℕ) → rising_at (below bound) nat_lt path i before ds ≡ Ok ks → AreRising bound before ks
+rising_rise : (bound : ℕ) (path : List ℕ) (i : ℕ) (before : Option ℕ) (ds : List Data) (ks : List ℕ)
+    → rising_at (below bound) nat_lt path i before ds ≡ Ok ks → AreRising bound before ks
 rising_rise bound path i before [] ks h = subst (AreRising bound before) (ok_same [] ks (Ok []) refl h) tt
 rising_rise bound path i before (d ∷ ds) ks h =
     let p = ok_after (below bound (place_in path i) d)
-    (λ a. if_good (place_in path i) (may_follow nat_lt before a) a >>= λ b. rising_at (below bound) nat_lt path (i + 1) (Some b) ds >>= λ rest. Ok (b ∷ rest)) ks h in
-    let q = ok_after (if_good (place_in path i) (may_follow nat_lt before p.0) p.0) (λ b. rising_at (below bound) nat_lt path (i + 1) (Some b) ds >>= λ rest. Ok (b ∷ rest)) ks p.2 in
+    (λ a. if_good (place_in path i) (may_follow nat_lt before a) a >>= λ b. rising_at (below bound) nat_lt path (i + 1) (Some b) ds
+    >>= λ rest. Ok (b ∷ rest)) ks h in
+    let q = ok_after (if_good (place_in path i) (may_follow nat_lt before p.0) p.0)
+    (λ b. rising_at (below bound) nat_lt path (i + 1) (Some b) ds >>= λ rest. Ok (b ∷ rest)) ks p.2 in
     let g = good_was (place_in path i) (may_follow nat_lt before p.0) p.0 q.0 q.1 in
     let r = ok_after (rising_at (below bound) nat_lt path (i + 1) (Some q.0) ds) (λ rest. Ok (q.0 ∷ rest)) ks q.2 in
     let small : q.0 < bound = subst (λ (n : ℕ). n < bound) g.1 (below_bound bound (place_in path i) d p.0 p.1) in
     let above : may_follow nat_lt before q.0 ≡ true = ap (may_follow nat_lt before) (sym g.1) ∙ g.0 in
-    subst (AreRising bound before) (ok_same (q.0 ∷ r.0) ks (Ok (q.0 ∷ r.0)) refl r.2) (small, above, rising_rise bound path (i + 1) (Some q.0) ds r.0 r.1)
+    subst (AreRising bound before) (ok_same (q.0 ∷ r.0) ks (Ok (q.0 ∷ r.0)) refl r.2)
+    (small, above, rising_rise bound path (i + 1) (Some q.0) ds r.0 r.1)
 
 pub widened : (n m : ℕ) (before : Option ℕ) (ks : List ℕ) → n ≤ m → AreRising n before ks → AreRising m before ks
 widened n m before [] l h = tt
 widened n m before (k ∷ ks) l h = let s = h.0 in (omega (arith, s, l), h.1, widened n m (Some k) ks l h.2)
 
 -- the kinds that a table says
-pub kinds_in : (bound : ℕ) (path key : List ℕ) (ms : Members) (ks : List ℕ) → key_of (rising_of (below bound) nat_lt) path key ms ≡ Ok ks → AreRising bound None ks
+pub kinds_in : (bound : ℕ) (path key : List ℕ) (ms : Members) (ks : List ℕ) → key_of (rising_of (below bound) nat_lt) path key ms ≡ Ok ks
+    → AreRising bound None ks
 kinds_in bound path key ms ks h =
     let p = ok_after (field (under path key) (get_member key ms)) (λ d. rising_of (below bound) nat_lt (under path key) d) ks h in
     let q = ok_after (list_at (under path key) p.0) (λ ds. rising_at (below bound) nat_lt (under path key) 0 None ds) ks p.2 in
     rising_rise bound (under path key) 0 None q.0 ks q.2
 
-pub kinds_rise : (bound : ℕ) (path key : List ℕ) (ms : Members) (ks : List ℕ) → bound ≤ 64 → key_of (rising_of (below bound) nat_lt) path key ms ≡ Ok (each (λ k. k) ks) → AreRising 64 None ks
+pub kinds_rise : (bound : ℕ) (path key : List ℕ) (ms : Members) (ks : List ℕ) → bound ≤ 64
+    → key_of (rising_of (below bound) nat_lt) path key ms ≡ Ok (each (λ k. k) ks) → AreRising 64 None ks
 kinds_rise bound path key ms ks few h =
     widened bound 64 None ks few (subst (AreRising bound None) (map-id ks) (kinds_in bound path key ms (each (λ k. k) ks) h))
 
@@ -105,7 +112,8 @@ next_bit ks i d within h = omega (arith, set-below 64 ks h, sum_by_more_le (λ (
 refused : (path : List ℕ) (r : Refusal) (outcome : Result (ℕ × Kinds) Refusal) → outcome ≡ Err r → added path outcome ≡ Err (file.BadField path)
 refused path r outcome e = ap (added path) e
 
-pub kind_refused : (path : List ℕ) (r : Refusal) (f : FileFault) (outcome : Result (ℕ × Kinds) Refusal) → (r ≢ refusal_of NoMemory → outcome ≡ Err r) → Means f (file.BadField path)
+pub kind_refused : (path : List ℕ) (r : Refusal) (f : FileFault) (outcome : Result (ℕ × Kinds) Refusal) → (r ≢ refusal_of NoMemory → outcome ≡ Err r)
+    → Means f (file.BadField path)
     → (r ≡ refusal_of NoMemory → f ≡ file.NoMemory) → IsTextFault f (added path outcome)
 kind_refused path r file.NoMemory outcome h m n = tt
 kind_refused path r (file.BadWorld rule) outcome h m n = absurd (cc m)

@@ -20,7 +20,8 @@ use Rattle.scene_file.specs.Scene.{if_json, if_unbroken, loaded, world_in}
 pub json_read : (text : List ℕ) (d : Data) → IsUtf8 text → read text ≡ Some d → loaded text ≡ world_in d
 json_read text d u h = ap (λ b. if b then if_json (read text) else Err file.NotJson) (is_utf8-from_IsUtf8 text u) ∙ ap if_json h
 
-no_json_by : (text : List ℕ) (b : Bool) → is_utf8 text ≡ b → (IsUtf8 text → read text ≡ None) → (if b then if_json (read text) else Err file.NotJson) ≡ Err file.NotJson
+no_json_by : (text : List ℕ) (b : Bool) → is_utf8 text ≡ b → (IsUtf8 text → read text ≡ None)
+    → (if b then if_json (read text) else Err file.NotJson) ≡ Err file.NotJson
 no_json_by text true e h = ap if_json (h (IsUtf8-from_is_utf8 text e))
 no_json_by text false e h = refl
 
@@ -34,7 +35,8 @@ made_of (Some rule) p w h = absurd (cc h)
 pub world_made : (p : Parts) (w : World) → made p ≡ Ok w → if_unbroken (first_broken p) p ≡ Ok w
 world_made p w h = made_of (first_broken p) p w h
 
-broken_of : (o : Option ℕ) (p : Parts) (r : Refusal) (rule : ℕ) → unless_broken o (world_of p) ≡ Err r → r.fault ≡ fault.BadWorld rule → if_unbroken o p ≡ Err (file.BadWorld rule)
+broken_of : (o : Option ℕ) (p : Parts) (r : Refusal) (rule : ℕ) → unless_broken o (world_of p) ≡ Err r → r.fault ≡ fault.BadWorld rule
+    → if_unbroken o p ≡ Err (file.BadWorld rule)
 broken_of None p r rule h e = absurd (cc h)
 broken_of (Some other) p r rule h e =
     let same : refusal_of (fault.BadWorld other) ≡ r = cc h in
@@ -42,7 +44,8 @@ broken_of (Some other) p r rule h e =
     let n : other ≡ rule = cc k in
     ap (λ m. Err (file.BadWorld m)) n
 
-pub world_broken : (p : Parts) (r : Refusal) (rule : ℕ) → (r ≢ refusal_of fault.NoMemory → made p ≡ Err r) → r.fault ≡ fault.BadWorld rule → if_unbroken (first_broken p) p ≡ Err (file.BadWorld rule)
+pub world_broken : (p : Parts) (r : Refusal) (rule : ℕ) → (r ≢ refusal_of fault.NoMemory → made p ≡ Err r) → r.fault ≡ fault.BadWorld rule
+    → if_unbroken (first_broken p) p ≡ Err (file.BadWorld rule)
 world_broken p r rule h e =
     broken_of (first_broken p) p r rule
     (h (λ k. let b : fault.NoMemory ≡ fault.BadWorld rule = sym (ap (λ (x : Refusal). x.fault) k) ∙ e in absurd (cc b))) e
@@ -60,7 +63,8 @@ text_fault file.ReadFault x h = absurd h
 text_fault file.WriteFault x h = absurd h
 text_fault file.TooLong x h = absurd h
 
-pub no_stream : {A : Type 0} (f : FileFault) (x : Result A FileFault) → IsTextFault f x → (f ≢ file.ReadFault) × (f ≢ file.WriteFault) × (f ≢ file.TooLong)
+pub no_stream : {A : Type 0} (f : FileFault) (x : Result A FileFault) → IsTextFault f x → (f ≢ file.ReadFault) × (f ≢ file.WriteFault)
+    × (f ≢ file.TooLong)
 no_stream file.NoMemory x h = (λ e. absurd (cc e), λ e. absurd (cc e), λ e. absurd (cc e))
 no_stream (file.BadWorld rule) x h = (λ e. absurd (cc e), λ e. absurd (cc e), λ e. absurd (cc e))
 no_stream (file.BadRecord frame delta) x h = (λ e. absurd (cc e), λ e. absurd (cc e), λ e. absurd (cc e))

@@ -22,7 +22,8 @@ use Rattle.scene_file.proofs.ListsBack.{ReadsBack, after, each_back}
 pub entity_back : (e : Entity) → is_entity e ≡ true → ReadsBack entity_at entity_json e
 entity_back e h path =
     let k = and_is (nat_lt e.index 4294967296) (nat_lt e.generation 4294967296) h in
-    ap (field path) (entity_in-text (entity_text e.index e.generation) e.index e.generation (ltb-true e.index 4294967296 k.0) (ltb-true e.generation 4294967296 k.1) refl)
+    ap (field path) (entity_in-text (entity_text e.index e.generation) e.index e.generation (ltb-true e.index 4294967296 k.0)
+    (ltb-true e.generation 4294967296 k.1) refl)
 
 pub int_back : (n : ℤ) → is_i64 n ≡ true → ReadsBack int_at int_text n
 int_back (pos n) h path = ap (λ b. field path (cond b (Some (pos n)) None)) h
@@ -35,7 +36,8 @@ three_back : (parts : List ℤ) → are_three parts ≡ true → (path : List �
 three_back [] h path = absurd (let k : false ≡ true = h in cc)
 three_back (x ∷ []) h path = absurd (let k : false ≡ true = h in cc)
 three_back (x ∷ y ∷ []) h path = absurd (let k : false ≡ true = h in cc)
-three_back (x ∷ y ∷ z ∷ []) h path = each_back int_at int_text path 0 (x ∷ y ∷ z ∷ []) (ints_back (x ∷ y ∷ z ∷ []) (and_is (nat_eq 3 3) (list_all is_i64 (x ∷ y ∷ z ∷ [])) h).1)
+three_back (x ∷ y ∷ z ∷ []) h path = each_back int_at int_text path 0 (x ∷ y ∷ z ∷ [])
+    (ints_back (x ∷ y ∷ z ∷ []) (and_is (nat_eq 3 3) (list_all is_i64 (x ∷ y ∷ z ∷ [])) h).1)
 three_back (x ∷ y ∷ z ∷ w ∷ ws) h path =
     let k = and_is (nat_eq (length (x ∷ y ∷ z ∷ w ∷ ws)) 3) (list_all is_i64 (x ∷ y ∷ z ∷ w ∷ ws)) h in
     let e = eqb-true (length (x ∷ y ∷ z ∷ w ∷ ws)) 3 k.0 in absurd (omega (arith, e))
@@ -44,7 +46,8 @@ pub value_back : (v : Value) → is_in_range v ≡ true → ReadsBack (value_at 
 value_back value.Tag h path = refl
 value_back (value.Int n) h path = after (int_at path (int_text n)) n (λ m. Ok (value.Int m)) (Ok (value.Int n)) (int_back n h path) refl
 value_back (value.Vec3 parts) h path =
-    after (three_of path (elements (items_of (each int_text parts)))) parts (λ v. Ok (value.Vec3 v)) (Ok (value.Vec3 parts)) (three_back parts h path) refl
+    after (three_of path (elements (items_of (each int_text parts)))) parts (λ v. Ok (value.Vec3 v)) (Ok (value.Vec3 parts))
+    (three_back parts h path) refl
 value_back (value.Text bytes) h path = refl
 value_back (value.Link e) h path = after (entity_at path (entity_json e)) e (λ x. Ok (value.Link x)) (Ok (value.Link e)) (entity_back e h path) refl
 
@@ -55,10 +58,12 @@ shape_back shape.Vec3 path = refl
 shape_back shape.Text path = refl
 shape_back shape.Link path = refl
 
-cell_from_back : (c : Cell) → is_in_range c.value ≡ true → (path : List ℕ) (i : ℕ) → cell_from (shape_of_value c.value) path i (value_text c.value) (count_text c.added) (count_text c.changed) ≡ Ok c
+cell_from_back : (c : Cell) → is_in_range c.value ≡ true → (path : List ℕ) (i : ℕ)
+    → cell_from (shape_of_value c.value) path i (value_text c.value) (count_text c.added) (count_text c.changed) ≡ Ok c
 cell_from_back c h path i =
     after (value_at (shape_of_value c.value) (place_in path i) (value_text c.value)) c.value
-    (λ v. tick_at (place_in path (i + 1)) (count_text c.added) >>= λ added. tick_at (place_in path (i + 2)) (count_text c.changed) >>= λ changed. Ok (record { value = v; added = added; changed = changed }))
+    (λ v. tick_at (place_in path (i + 1)) (count_text c.added) >>= λ added. tick_at (place_in path (i + 2)) (count_text c.changed)
+    >>= λ changed. Ok (record { value = v; added = added; changed = changed }))
     (Ok c) (value_back c.value h (place_in path i)) refl
 
 pub cell_back : (c : Cell) → is_in_range c.value ≡ true → ReadsBack (cell_at (shape_of_value c.value)) cell_text c
@@ -67,4 +72,5 @@ cell_back c h path = cell_from_back c h path 0
 pub resource_cell_back : (c : Cell) → is_in_range c.value ≡ true → ReadsBack resource_cell_at resource_cell_text c
 resource_cell_back c h path =
     after (shape_at (place_in path 0) (shape_text (shape_of_value c.value))) (shape_of_value c.value)
-    (λ s. cell_from s path 1 (value_text c.value) (count_text c.added) (count_text c.changed)) (Ok c) (shape_back (shape_of_value c.value) (place_in path 0)) (cell_from_back c h path 1)
+    (λ s. cell_from s path 1 (value_text c.value) (count_text c.added) (count_text c.changed)) (Ok c)
+    (shape_back (shape_of_value c.value) (place_in path 0)) (cell_from_back c h path 1)

@@ -153,11 +153,14 @@ record IsCellOf (s : Shape) (v a c : Data) (cell : Cell) : Type 0 where
   changed : c ≡ count_text cell.changed
   shape : s ≡ shape_of_value cell.value
 
-cell_was : (s : Shape) (path : List ℕ) (i : ℕ) (v a c : Data) (cell : Cell) → IsRead v → IsRead a → IsRead c → cell_from s path i v a c ≡ Ok cell → IsCellOf s v a c cell
+cell_was : (s : Shape) (path : List ℕ) (i : ℕ) (v a c : Data) (cell : Cell) → IsRead v → IsRead a → IsRead c → cell_from s path i v a c ≡ Ok cell
+    → IsCellOf s v a c cell
 cell_was s path i v a c cell rv ra rc h =
     let p = ok_after (value_at s (place_in path i) v)
-    (λ value. tick_at (place_in path (i + 1)) a >>= λ added. tick_at (place_in path (i + 2)) c >>= λ changed. Ok (record { value = value; added = added; changed = changed })) cell h in
-    let q = ok_after (tick_at (place_in path (i + 1)) a) (λ added. tick_at (place_in path (i + 2)) c >>= λ changed. Ok (record { value = p.0; added = added; changed = changed })) cell p.2 in
+    (λ value. tick_at (place_in path (i + 1)) a >>= λ added. tick_at (place_in path (i + 2)) c
+    >>= λ changed. Ok (record { value = value; added = added; changed = changed })) cell h in
+    let q = ok_after (tick_at (place_in path (i + 1)) a) (λ added. tick_at (place_in path (i + 2)) c
+    >>= λ changed. Ok (record { value = p.0; added = added; changed = changed })) cell p.2 in
     let t = ok_after (tick_at (place_in path (i + 2)) c) (λ changed. Ok (record { value = p.0; added = q.0; changed = changed })) cell q.2 in
     let made : Cell = record { value = p.0; added = q.0; changed = t.0 } in
     let own = value_was s (place_in path i) v p.0 rv p.1 in
@@ -168,7 +171,8 @@ cell_was s path i v a c cell rv ra rc h =
       shape = own.shape;
     })
 
-cell_list : (s : Shape) (path : List ℕ) (ds : List Data) (cell : Cell) → AllByRecursion IsRead ds → cell_parts s path ds ≡ Ok cell → array_of ds ≡ cell_text cell
+cell_list : (s : Shape) (path : List ℕ) (ds : List Data) (cell : Cell) → AllByRecursion IsRead ds → cell_parts s path ds ≡ Ok cell
+    → array_of ds ≡ cell_text cell
 cell_list s path [] cell r h = absurd (let k : Err (BadField path) ≡ Ok cell = h in cc)
 cell_list s path (v ∷ []) cell r h = absurd (let k : Err (BadField path) ≡ Ok cell = h in cc)
 cell_list s path (v ∷ a ∷ []) cell r h = absurd (let k : Err (BadField path) ≡ Ok cell = h in cc)
@@ -183,7 +187,8 @@ cell_exact s path d cell r h =
     let w = list_was path d p.0 p.1 r in
     w.0 ∙ cell_list s path p.0 cell w.1 p.2
 
-resource_cell_list : (path : List ℕ) (ds : List Data) (cell : Cell) → AllByRecursion IsRead ds → resource_cell_parts path ds ≡ Ok cell → array_of ds ≡ resource_cell_text cell
+resource_cell_list : (path : List ℕ) (ds : List Data) (cell : Cell) → AllByRecursion IsRead ds → resource_cell_parts path ds ≡ Ok cell
+    → array_of ds ≡ resource_cell_text cell
 resource_cell_list path [] cell r h = absurd (let k : Err (BadField path) ≡ Ok cell = h in cc)
 resource_cell_list path (s ∷ []) cell r h = absurd (let k : Err (BadField path) ≡ Ok cell = h in cc)
 resource_cell_list path (s ∷ v ∷ []) cell r h = absurd (let k : Err (BadField path) ≡ Ok cell = h in cc)

@@ -26,7 +26,8 @@ after : {A B : Type 0} (e : FileFault) (x : Result A FileFault) (next : A → Re
 after e x next h = rw h refl
 
 -- a fault ends the walk
-pub fault_stays : {A B : Type 0} (e : FileFault) (x : Result A FileFault) (next : A → Result B FileFault) → IsTextFault e x → IsTextFault e (x >>= next)
+pub fault_stays : {A B : Type 0} (e : FileFault) (x : Result A FileFault) (next : A → Result B FileFault) → IsTextFault e x
+    → IsTextFault e (x >>= next)
 fault_stays file.NoMemory x next h = tt
 fault_stays (file.BadWorld rule) x next h = after _ x next h
 fault_stays (file.BadRecord frame delta) x next h = after _ x next h

@@ -14,6 +14,7 @@ scene_of free generations limit rows =
     ++ codes ",\"kinds\":[[\"A\",\"Int\"]],\"limit\":" ++ limit ++ codes ",\"resources\":[],\"scene\":1,\"tables\":[{\"kinds\":[0],\"rows\":"
     ++ rows ++ codes "}],\"tick\":1}"
 
+-- the generations of one index, which has come to its last
 abbrev pub old : List ℕ
 old = codes "[4294967295]"
 
@@ -21,15 +22,19 @@ old = codes "[4294967295]"
 abbrev pub row_of : (cells entity : List ℕ) → List ℕ
 row_of cells entity = codes "{\"cells\":" ++ cells ++ codes ",\"entity\":\"" ++ entity ++ codes "\"}"
 
+-- a row of the entity that such an index has last, with a number since tick 1
 abbrev pub last_row : List ℕ
 last_row = row_of (codes "[[5,1,1]]") (codes "0v4294967295")
 
+-- the small scene with these rows in its one table
 abbrev pub with_rows : List ℕ → List ℕ
 with_rows rows = scene_of (codes "[]") old (codes "2") rows
 
 -- the text of the small world, whole
 abbrev pub small_text : List ℕ
-small_text = codes "{\"children\":[],\"free\":[],\"generations\":[4294967295],\"kinds\":[[\"A\",\"Int\"]],\"limit\":2,\"resources\":[],\"scene\":1,\"tables\":[{\"kinds\":[0],\"rows\":[{\"cells\":[[5,1,1]],\"entity\":\"0v4294967295\"}]}],\"tick\":1}"
+small_text =
+    codes "{\"children\":[],\"free\":[],\"generations\":[4294967295],\"kinds\":[[\"A\",\"Int\"]],\"limit\":2,\"resources\":[],\"scene\":1,"
+    ++ codes "\"tables\":[{\"kinds\":[0],\"rows\":[{\"cells\":[[5,1,1]],\"entity\":\"0v4294967295\"}]}],\"tick\":1}"
 
 -- it is written, with a newline, and read again, also with white space and in another order of keys
 abbrev pub SmallIsSavedAndLoaded : Type 0
@@ -38,7 +43,8 @@ SmallIsSavedAndLoaded =
     × (with_rows (codes "[" ++ last_row ++ codes "]") ≡ small_text)
     × (loaded small_text ≡ Ok (world_of small))
     × (loaded (codes " \n" ++ small_text ++ codes "\r\n\t") ≡ Ok (world_of small))
-    × (loaded (codes "{\"tick\":0,\"scene\":1,\"tables\":[],\"resources\":[],\"limit\":2,\"kinds\":[],\"generations\":[],\"free\":[],\"children\":[]}")
+    × (loaded
+    (codes "{\"tick\":0,\"scene\":1,\"tables\":[],\"resources\":[],\"limit\":2,\"kinds\":[],\"generations\":[],\"free\":[],\"children\":[]}")
     ≡ Ok (world_of (record small { schema = []; tick = 0; generations = []; tables = [] })))
 
 -- bytes that are no JSON
@@ -81,8 +87,10 @@ RowFaults =
     × (loaded (with_rows (codes "[{\"entity\":\"0v1\"}]")) ≡ Err (BadField (codes "tables[0].rows[0].cells")))
     × (loaded (with_rows (codes "[" ++ row_of (codes "[]") (codes "0v1") ++ codes "]")) ≡ Err (BadField (codes "tables[0].rows[0].cells")))
     × (loaded (with_rows (codes "[" ++ row_of (codes "[[5,1]]") (codes "0v1") ++ codes "]")) ≡ Err (BadField (codes "tables[0].rows[0].cells[0]")))
-    × (loaded (with_rows (codes "[" ++ row_of (codes "[[true,1,1]]") (codes "0v1") ++ codes "]")) ≡ Err (BadField (codes "tables[0].rows[0].cells[0][0]")))
-    × (loaded (with_rows (codes "[" ++ row_of (codes "[[5,1,-1]]") (codes "0v1") ++ codes "]")) ≡ Err (BadField (codes "tables[0].rows[0].cells[0][2]")))
+    × (loaded (with_rows (codes "[" ++ row_of (codes "[[true,1,1]]") (codes "0v1") ++ codes "]"))
+    ≡ Err (BadField (codes "tables[0].rows[0].cells[0][0]")))
+    × (loaded (with_rows (codes "[" ++ row_of (codes "[[5,1,-1]]") (codes "0v1") ++ codes "]"))
+    ≡ Err (BadField (codes "tables[0].rows[0].cells[0][2]")))
     × (loaded (with_rows (codes "[" ++ row_of (codes "[[5,1,1]]") (codes "0v01") ++ codes "]")) ≡ Err (BadField (codes "tables[0].rows[0].entity")))
     × (loaded (with_rows (codes "[],\"\":0")) ≡ Err (UnknownKey (codes "tables[0].")))
 
@@ -105,6 +113,7 @@ scene_with children kinds resources tables =
     codes "{\"children\":" ++ children ++ codes ",\"free\":[],\"generations\":[],\"kinds\":" ++ kinds
     ++ codes ",\"limit\":2,\"resources\":" ++ resources ++ codes ",\"scene\":1,\"tables\":" ++ tables ++ codes ",\"tick\":1}"
 
+-- an empty list
 abbrev pub none : List ℕ
 none = codes "[]"
 
@@ -113,7 +122,8 @@ abbrev pub ChildrenFaults : Type 0
 ChildrenFaults =
     (loaded (scene_with (codes "[{\"list\":[\"0v1\",\"v\"],\"parent\":\"1v1\"}]") none none none) ≡ Err (BadField (codes "children[0].list[1]")))
     × (loaded (scene_with (codes "[{\"list\":[],\"parent\":0}]") none none none) ≡ Err (BadField (codes "children[0].parent")))
-    × (loaded (scene_with (codes "[{\"list\":[],\"parent\":\"0v1\"},{\"list\":[],\"parent\":\"0v2\"}]") none none none) ≡ Err (BadField (codes "children[1]")))
+    × (loaded (scene_with (codes "[{\"list\":[],\"parent\":\"0v1\"},{\"list\":[],\"parent\":\"0v2\"}]") none none none)
+    ≡ Err (BadField (codes "children[1]")))
     × (loaded (scene_with (codes "[{\"list\":[],\"parent\":\"0v1\"}]") none none none) ≡ Err (BadWorld 8))
 
 -- the kinds: their parts, a name that isn't good and one that is taken
@@ -128,9 +138,11 @@ KindFaults =
 abbrev pub ResourceFaults : Type 0
 ResourceFaults =
     (loaded (scene_with none none (codes "[{\"cell\":[\"Vec3\",[1,2],1,1],\"name\":\"9\"}]") none) ≡ Err (BadField (codes "resources[0].cell[1]")))
-    × (loaded (scene_with none none (codes "[{\"cell\":[\"Vec3\",[1,2,\"\"],1,1],\"name\":\"9\"}]") none) ≡ Err (BadField (codes "resources[0].cell[1][2]")))
+    × (loaded (scene_with none none (codes "[{\"cell\":[\"Vec3\",[1,2,\"\"],1,1],\"name\":\"9\"}]") none)
+    ≡ Err (BadField (codes "resources[0].cell[1][2]")))
     × (loaded (scene_with none none (codes "[{\"cell\":[\"Tag\",true,1,1],\"name\":\"9\"}]") none) ≡ Err (BadField (codes "resources[0].name")))
-    × (loaded (scene_with none none (codes "[{\"cell\":[\"Tag\",true,1,1],\"name\":\"n\"},{\"cell\":[\"Tag\",true,1,1],\"name\":\"n\"}]") none) ≡ Err (BadField (codes "resources[1]")))
+    × (loaded (scene_with none none (codes "[{\"cell\":[\"Tag\",true,1,1],\"name\":\"n\"},{\"cell\":[\"Tag\",true,1,1],\"name\":\"n\"}]") none)
+    ≡ Err (BadField (codes "resources[1]")))
     × (loaded (scene_with none none (codes "[{\"cell\":[\"Tag\",true,1,2],\"name\":\"n\"}]") none) ≡ Err (BadWorld 10))
 
 -- the tables: their kinds, which are there and rise, and their own order

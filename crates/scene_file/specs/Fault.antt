@@ -5,6 +5,7 @@ use Rattle.scene_streams.specs.declared.source.ReadError.TheVariants as read
 use Rattle.scene_file.specs.declared.fault.FileFault.{FileFault}
 use Rattle.scene_file.specs.declared.fault.FileFault.TheVariants as file
 
+-- the number of a fault, one for the whole product
 abbrev pub file_number : FileFault → ℕ
 file_number file.NoMemory = 20
 file_number (file.BadWorld rule) = 40
@@ -17,6 +18,7 @@ file_number file.ReadFault = 54
 file_number file.WriteFault = 55
 file_number file.TooLong = 56
 
+-- its name, which is that of the variant
 abbrev pub file_name : FileFault → List ℕ
 file_name file.NoMemory = codes "NoMemory"
 file_name (file.BadWorld rule) = codes "BadWorld"

@@ -10,5 +10,6 @@ path_step Path-F.Root = []
 path_step (Path-F.Key above key) = under above.now key.now
 path_step (Path-F.Item above i) = place_in above.now i
 
+-- the bytes of a whole path, from the top down
 abbrev pub path_bytes : Path → List ℕ
 path_bytes = fold-Path (List ℕ) path_step

@@ -15,10 +15,11 @@ use Rattle.scene_file.specs.Text.{items_of, list_text, count_text, kinds_of, kin
 abbrev pub rest_text : {A : Type 0} → Bool → (A → Data) → List A → List ℕ
 rest_text later text xs = items_text later (items_of (each text xs))
 
--- the kinds of a set, and those of them from a kind on that are still to come. These words stay folded: they compute long
+-- the kinds of a set. This word and the next stay folded, since they compute long
 unfoldable pub kinds_json : ℕ → Data
 kinds_json mask = list_text count_text (kinds_of mask)
 
+-- of the kinds of a set, those from a kind on, as the elements that are still to come
 unfoldable pub kinds_rest : Bool → ℕ → ℕ → List ℕ
 kinds_rest later mask kind = rest_text later count_text (filter (has_kind mask) (range_with_len kind (64 - kind)))
 
@@ -36,7 +37,7 @@ abbrev pub named_cells : NamedCells → List (List ℕ) → List (List ℕ × Ce
 named_cells r [] = []
 named_cells r (n ∷ ns) = named n (cell_of r n) ++ named_cells r ns
 
--- the members of a world up to its limit, and those from its resources on
+-- the members of a world up to its limit
 abbrev pub first_members : World → List ℕ
 first_members w =
     codes "{\"children\":" ++ (compact_text (list_text children_text (lists_of w.children))
@@ -45,6 +46,7 @@ first_members w =
     ++ (codes ",\"kinds\":" ++ (compact_text (list_text kind_text w.schema)
     ++ (codes ",\"limit\":" ++ decimal w.slots.limit))))))))
 
+-- the members of a world from its resources on, with the closing bracket
 abbrev pub last_members : World → List ℕ
 last_members w =
     codes ",\"resources\":" ++ (compact_text (list_text resource_text w.resources.entries)

@@ -15,11 +15,12 @@ abbrev pub ◌>>=◌ : {A B : Type 0} → Result A FileFault → (A → Result B
 
 -- ---- paths
 
--- the path of a key below a path, and of a place in a list
+-- the path of a key below a path
 abbrev pub under : List ℕ → List ℕ → List ℕ
 under [] key = key
 under (b ∷ bs) key = (b ∷ bs) ++ (codes "." ++ key)
 
+-- the path of a place in a list
 abbrev pub place_in : List ℕ → ℕ → List ℕ
 place_in path i = path ++ (codes "[" ++ (decimal i ++ codes "]"))
 
@@ -38,15 +39,18 @@ if_good path good a = if good then Ok a else Err (BadField path)
 abbrev pub below : ℕ → List ℕ → Data → Result ℕ FileFault
 below bound path d = field path (option_and_then as_u64 (as_number d)) >>= λ n. if_good path (nat_lt n bound) n
 
+-- the bytes of a string
 abbrev pub string_at : List ℕ → Data → Result (List ℕ) FileFault
 string_at path d = field path (as_str d)
 
 -- ---- lists
 
+-- the values in a list, first to last
 abbrev pub elements : Items → List Data
 elements no_items = []
 elements (item d ds) = d ∷ elements ds
 
+-- the values of a value that is a list
 abbrev pub list_at : List ℕ → Data → Result (List Data) FileFault
 list_at path d = field path (as_array d) >>= λ ds. Ok (elements ds)
 
@@ -55,6 +59,7 @@ abbrev pub each_at : {A : Type 0} → (List ℕ → Data → Result A FileFault)
 each_at read path i [] = Ok []
 each_at read path i (d ∷ ds) = read (place_in path i) d >>= λ a. each_at read path (i + 1) ds >>= λ rest. Ok (a ∷ rest)
 
+-- a list whose elements are all of one form
 abbrev pub list_of : {A : Type 0} → (List ℕ → Data → Result A FileFault) → List ℕ → Data → Result (List A) FileFault
 list_of read path d = list_at path d >>= λ ds. each_at read path 0 ds
 
@@ -64,12 +69,14 @@ may_follow follows None a = true
 may_follow follows (Some before) a = follows before a
 
 -- the same, each element following the one before; one that doesn't is a bad field, after its own parts
-abbrev pub rising_at : {A : Type 0} → (List ℕ → Data → Result A FileFault) → (A → A → Bool) → List ℕ → ℕ → Option A → List Data → Result (List A) FileFault
+abbrev pub rising_at : {A : Type 0}
+    → (List ℕ → Data → Result A FileFault) → (A → A → Bool) → List ℕ → ℕ → Option A → List Data → Result (List A) FileFault
 rising_at read follows path i before [] = Ok []
 rising_at read follows path i before (d ∷ ds) =
     read (place_in path i) d >>= λ a. if_good (place_in path i) (may_follow follows before a) a
     >>= λ b. rising_at read follows path (i + 1) (Some b) ds >>= λ rest. Ok (b ∷ rest)
 
+-- a list whose elements are all of one form, each following the one before
 abbrev pub rising_of : {A : Type 0} → (List ℕ → Data → Result A FileFault) → (A → A → Bool) → List ℕ → Data → Result (List A) FileFault
 rising_of read follows path d = list_at path d >>= λ ds. rising_at read follows path 0 None ds
 
@@ -80,6 +87,7 @@ abbrev pub unknown_in : List (List ℕ) → Members → Option (List ℕ)
 unknown_in known no_members = None
 unknown_in known (member key d ms) = if list_any (bytes_eq key) known then unknown_in known ms else Some key
 
+-- what comes next where there is no unknown key; else that key, with its path
 abbrev pub if_known : {A : Type 0} → List ℕ → Option (List ℕ) → A → Result A FileFault
 if_known path None a = Ok a
 if_known path (Some key) a = Err (UnknownKey (under path key))

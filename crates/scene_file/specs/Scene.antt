@@ -20,6 +20,7 @@ if_unbroken (Some rule) p = Err (BadWorld rule)
 abbrev pub world_in : Data → Result World FileFault
 world_in d = parts_in d >>= λ p. if_unbroken (first_broken p) p
 
+-- the world of bytes that were read as JSON, or that aren't JSON
 abbrev pub if_json : Option Data → Result World FileFault
 if_json None = Err NotJson
 if_json (Some d) = world_in d

@@ -18,10 +18,12 @@ use Rattle.scene_parts.specs.Parts.{Parts, parts_of}
 
 -- ---- lists and numbers
 
+-- values as the elements of a list
 abbrev pub items_of : List Data → Items
 items_of [] = no_items
 items_of (d ∷ ds) = item d (items_of ds)
 
+-- the list of these values
 abbrev pub array_of : List Data → Data
 array_of ds = array (items_of ds)
 
@@ -29,24 +31,30 @@ array_of ds = array (items_of ds)
 abbrev pub list_text : {A : Type 0} → (A → Data) → List A → Data
 list_text text xs = array_of (each text xs)
 
+-- keys with their values, as the members of an object
 abbrev pub members_of : List (List ℕ × Data) → Members
 members_of [] = no_members
 members_of (m ∷ ms) = member m.0 m.1 (members_of ms)
 
+-- the object of these keys and values
 abbrev pub object_of : List (List ℕ × Data) → Data
 object_of ms = object (members_of ms)
 
+-- a number without a sign, as a place or a tick is
 abbrev pub count_text : ℕ → Data
 count_text n = number (unsigned n)
 
+-- a whole number, which may be negative
 abbrev pub int_text : ℤ → Data
 int_text n = number (of_integer n)
 
 -- ---- the parts of a row
 
+-- an entity, as a string of its text
 abbrev pub entity_json : Entity → Data
 entity_json e = string (entity_text e.index e.generation)
 
+-- the value of a cell, by its shape
 abbrev pub value_text : Value → Data
 value_text value.Tag = boolean true
 value_text (value.Int n) = int_text n
@@ -54,6 +62,7 @@ value_text (value.Vec3 parts) = list_text int_text parts
 value_text (value.Text bytes) = string bytes
 value_text (value.Link e) = entity_json e
 
+-- a shape, as a string of its name
 abbrev pub shape_text : Shape → Data
 shape_text shape = string (shape_name shape)
 
@@ -65,6 +74,7 @@ cell_text c = array_of (value_text c.value ∷ count_text c.added ∷ count_text
 abbrev pub resource_cell_text : Cell → Data
 resource_cell_text c = array_of (shape_text (shape_of_value c.value) ∷ value_text c.value ∷ count_text c.added ∷ count_text c.changed ∷ [])
 
+-- a row: its cells by their kinds, and its entity
 abbrev pub row_text : Row → Data
 row_text r = object_of ((codes "cells", list_text (λ c. cell_text c.1) r.cells) ∷ (codes "entity", entity_json r.entity) ∷ [])
 
@@ -74,15 +84,19 @@ kinds_of mask = filter (has_kind mask) (range_with_len 0 64)
 
 -- ---- the elements of the lists of a world
 
+-- a kind: its name and its shape
 abbrev pub kind_text : List ℕ × Shape → Data
 kind_text kind = array_of (string kind.0 ∷ shape_text kind.1 ∷ [])
 
+-- a table: its kinds and its rows
 abbrev pub table_text : ℕ × List Row → Data
 table_text t = object_of ((codes "kinds", list_text count_text (kinds_of t.0)) ∷ (codes "rows", list_text row_text t.1) ∷ [])
 
+-- a parent with its list of children
 abbrev pub children_text : Entity × List Entity → Data
 children_text l = object_of ((codes "list", list_text entity_json l.1) ∷ (codes "parent", entity_json l.0) ∷ [])
 
+-- a resource: its cell and its name
 abbrev pub resource_text : List ℕ × Cell → Data
 resource_text r = object_of ((codes "cell", resource_cell_text r.1) ∷ (codes "name", string r.0) ∷ [])
 

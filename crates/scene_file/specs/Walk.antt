@@ -24,19 +24,23 @@ use Rattle.scene_file.specs.Reading.{◌>>=◌, field, if_good, below, string_at
 
 -- ---- numbers, entities and values
 
--- numbers of 32 bits, and ticks, of 64 bits
+-- a number of 32 bits without a sign
 abbrev pub u32_at : List ℕ → Data → Result ℕ FileFault
 u32_at path d = below (2 ^ 32) path d
 
+-- one of 64 bits without a sign, as a tick is
 abbrev pub tick_at : List ℕ → Data → Result ℕ FileFault
 tick_at path d = field path (option_and_then as_u64 (as_number d))
 
+-- one of 64 bits with a sign
 abbrev pub int_at : List ℕ → Data → Result ℤ FileFault
 int_at path d = field path (option_and_then as_i64 (as_number d))
 
+-- an entity, by its text
 abbrev pub entity_at : List ℕ → Data → Result Entity FileFault
 entity_at path d = field path (option_and_then entity_in (as_str d))
 
+-- a shape, by its name
 abbrev pub shape_at : List ℕ → Data → Result Shape FileFault
 shape_at path d = field path (option_and_then shape_named (as_str d))
 
@@ -61,6 +65,7 @@ cell_from shape path i v a c =
     value_at shape (place_in path i) v >>= λ value. tick_at (place_in path (i + 1)) a >>= λ added. tick_at (place_in path (i + 2)) c
     >>= λ changed. Ok (record { value = value; added = added; changed = changed })
 
+-- the three parts of a component
 abbrev pub cell_parts : Shape → List ℕ → List Data → Result Cell FileFault
 cell_parts shape path (v ∷ a ∷ c ∷ []) = cell_from shape path 0 v a c
 cell_parts shape path ds = Err (BadField path)
@@ -69,6 +74,7 @@ cell_parts shape path ds = Err (BadField path)
 abbrev pub cell_at : Shape → List ℕ → Data → Result Cell FileFault
 cell_at shape path d = list_at path d >>= cell_parts shape path
 
+-- the four parts of a resource's cell
 abbrev pub resource_cell_parts : List ℕ → List Data → Result Cell FileFault
 resource_cell_parts path (s ∷ v ∷ a ∷ c ∷ []) = shape_at (place_in path 0) s >>= λ shape. cell_from shape path 1 v a c
 resource_cell_parts path ds = Err (BadField path)
@@ -83,6 +89,7 @@ cells_from [] path i [] = Ok []
 cells_from (s ∷ ss) path i (d ∷ ds) = cell_at s (place_in path i) d >>= λ c. cells_from ss path (i + 1) ds >>= λ cs. Ok (c ∷ cs)
 cells_from ss path i ds = Err (BadField path)
 
+-- the list of the cells of a row, which is as long as its table has kinds
 abbrev pub cells_at : List Shape → List ℕ → Data → Result (List Cell) FileFault
 cells_at shapes path d = list_at path d >>= λ cells. if_good path (nat_eq (length cells) (length shapes)) cells >>= cells_from shapes path 0
 
@@ -98,12 +105,14 @@ abbrev pub added : List ℕ → Result (ℕ × Kinds) Refusal → Result Kinds F
 added path (Ok p) = Ok p.1
 added path (Err r) = Err (BadField path)
 
+-- the kinds of a list, from a place on, added to those before them
 abbrev pub kinds_from : List ℕ → ℕ → Kinds → List Data → Result Kinds FileFault
 kinds_from path i kinds [] = Ok kinds
 kinds_from path i kinds (d ∷ ds) =
     list_at (place_in path i) d >>= kind_parts (place_in path i) >>= λ kind. added (place_in path i) (with_kind kinds kind.0 kind.1)
     >>= λ more. kinds_from path (i + 1) more ds
 
+-- the list of the kinds
 abbrev pub kinds_at : List ℕ → Data → Result Kinds FileFault
 kinds_at path d = list_at path d >>= kinds_from path 0 []
 
@@ -113,6 +122,7 @@ children_at path d =
     object_at (codes "list" ∷ codes "parent" ∷ []) path d
     >>= λ ms. key_of (list_of entity_at) path (codes "list") ms >>= λ list. key_of entity_at path (codes "parent") ms >>= λ parent. Ok (parent, list)
 
+-- a good name
 abbrev pub name_at : List ℕ → Data → Result (List ℕ) FileFault
 name_at path d = string_at path d >>= λ name. if_good path (is_good_name name) name
 
@@ -146,6 +156,7 @@ table_at schema path d =
 
 -- ---- the whole
 
+-- the slot limit, from 1 to the most slots that there may be
 abbrev pub limit_at : List ℕ → Data → Result ℕ FileFault
 limit_at path d = tick_at path d >>= λ n. if_good path (nat_le 1 n && nat_le n most_slots) n
 
@@ -155,13 +166,15 @@ scene_keys =
     codes "children" ∷ codes "free" ∷ codes "generations" ∷ codes "kinds" ∷ codes "limit" ∷ codes "resources" ∷ codes "scene" ∷ codes "tables"
     ∷ codes "tick" ∷ []
 
--- parents rise by their indices, resources by their names, tables by their kind sets
+-- parents rise by their indices
 abbrev pub parent_follows : Entity × List Entity → Entity × List Entity → Bool
 parent_follows a b = nat_lt a.0.index b.0.index
 
+-- resources rise by the bytes of their names
 abbrev pub name_follows : List ℕ × Cell → List ℕ × Cell → Bool
 name_follows a b = is_lt (name_cmp a.0 b.0)
 
+-- tables rise by their kind sets, as numbers
 abbrev pub table_follows : ℕ × List Row → ℕ × List Row → Bool
 table_follows a b = nat_lt a.0 b.0
 

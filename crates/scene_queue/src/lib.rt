@@ -7,9 +7,6 @@
 //! them does is the fold of `specs/Queue.antt` in scene_world.
 #![tactic(auto)]
 
-mod apply;
-mod frame;
 mod queue;
 
-pub use frame::apply_all;
-pub use queue::{Queue, Returned};
+pub use queue::{Queue, Returned, apply_all};

@@ -9,7 +9,6 @@
 #![tactic(auto)]
 
 mod bad_line;
-mod cell_word;
 mod form;
 mod line;
 mod number;

@@ -1,18 +1,18 @@
-//! What a line of a script says, or why it is bad.
+//! What a line of a script says, with the values and cells that stand in it, or why it is bad.
 ghost use Rattle.std.specs.Prelude.{◌≡◌, IfOk, map};
+ghost use Rattle.scene_script.specs.Cells.{vec3_said, value_said, kind_said, lone_name, cell_said, shape_said, lone_shape, shaped_value_said};
 ghost use Rattle.scene_script.specs.Reading.{Reads, ended};
 ghost use Rattle.scene_script.specs.Forms.{runs_later};
 ghost use Rattle.scene_script.specs.Script.{line_in, line_of_words, unknown_word, named_line, line_of_form, kind_line, limit_said, slots_line, load_line, cells_said, spawn_line, insert_line, despawn_line, remove_line, parent_line, unparent_line, despawnall_line, despawnifalive_line, put_line, drop_line, get_line};
 
 use crate::bad_line::{BadLine, LineError, text_of};
-use crate::cell_word::{cell_word, kind_word, shape_word, shaped_value_word};
 use crate::form::Form;
-use crate::number::{bad_number, entity_word, read_count};
+use crate::number::{bad_number, entity_word, number_word, read_count};
 use crate::slot_limit::SlotLimit;
 use crate::target::target_word;
-use crate::word::{behind_first, words};
+use crate::word::{behind_first, cut, words};
 use scene_commands::{Command, Components};
-use scene_kinds::{Entity, Schema, Shape, Text};
+use scene_kinds::{Entity, ParseShapeError, Schema, Shape, Text, Value};
 use std::alloc::{AllocError, Global};
 
 /// The meaning of a line (docs/SCRIPTS.md, "Lines").
@@ -43,6 +43,106 @@ pub enum Line {
     Added,
     /// The scene text of the world.
     Dump,
+}
+
+/// Three whole numbers with commas between them.
+fn vec3(alloc: Global, text: &str) -> Result<[i64; 3], LineError>
+    ensures { Reads result (vec3_said text.now) }
+{
+    let Some((x, rest)) = cut(text, ',') else {
+        return Err(LineError::Bad(BadLine::NoVec3(text_of(alloc, text)?)));
+    };
+    let Some((y, z)) = cut(rest, ',') else {
+        return Err(LineError::Bad(BadLine::NoVec3(text_of(alloc, text)?)));
+    };
+    let x = number_word(alloc, x)?;
+    let y = number_word(alloc, y)?;
+    let z = number_word(alloc, z)?;
+    Ok([x, y, z])
+}
+
+/// The value of a shape that a text behind a name is (docs/SCRIPTS.md, "Words"): a whole number, three of them joined by
+/// commas, the text itself, also an empty one, or an entity text. A tag has no value.
+fn value(alloc: Global, name: &str, shape: Shape, text: &str) -> Result<Value, LineError>
+    ensures { Reads result (value_said name.now shape text.now) }
+{
+    match shape {
+        Shape::Tag => Err(LineError::Bad(BadLine::ValueOfTag(text_of(alloc, name)?))),
+        Shape::Int => Ok(Value::Int(number_word(alloc, text)?)),
+        Shape::Vec3 => Ok(Value::Vec3(vec3(alloc, text)?)),
+        Shape::Text => Ok(Value::Text(text_of(alloc, text)?)),
+        Shape::Link => Ok(Value::Link(entity_word(alloc, text)?)),
+    }
+}
+
+/// The kind of a name.
+fn kind_word(alloc: Global, schema: &Schema, name: &str) -> Result<u8, LineError>
+    ensures { Reads result (kind_said schema.now name.now) }
+{
+    match schema.number_of(name) {
+        Some(kind) => Ok(kind),
+        None => Err(LineError::Bad(BadLine::UnknownKind(text_of(alloc, name)?))),
+    }
+}
+
+/// A word that is the name of a tag.
+fn tag_word(alloc: Global, schema: &Schema, name: &str) -> Result<(u8, Value), LineError>
+    ensures { Reads result (lone_name schema.now name.now) }
+{
+    let kind = kind_word(alloc, schema, name)?;
+    if schema.fits(&Value::Tag, kind) {
+        Ok((kind, Value::Tag))
+    } else {
+        Err(LineError::Bad(BadLine::MissingValue(text_of(alloc, name)?)))
+    }
+}
+
+/// The kind and the value that a word names (docs/SCRIPTS.md, "Words"): `NAME` of a tag, else `NAME=VALUE`.
+fn cell_word(alloc: Global, schema: &Schema, word: &str) -> Result<(u8, Value), LineError>
+    ensures { Reads result (cell_said schema.now word.now) }
+{
+    let Some((name, text)) = cut(word, '=') else {
+        return tag_word(alloc, schema, word);
+    };
+    let kind = kind_word(alloc, schema, name)?;
+    let Some(shape) = schema.shape_of(kind) else {
+        return Err(LineError::Bad(BadLine::UnknownKind(text_of(alloc, name)?)));
+    };
+    Ok((kind, value(alloc, name, shape, text)?))
+}
+
+/// The shape of a name.
+fn shape_word(alloc: Global, name: &str) -> Result<Shape, LineError>
+    ensures { Reads result (shape_said name.now) }
+{
+    match name.parse() {
+        Ok(shape) => Ok(shape),
+        Err(ParseShapeError) => {
+            Err(LineError::Bad(BadLine::UnknownShape(text_of(alloc, name)?)))
+        }
+    }
+}
+
+/// The value of a shape that needs no text, which is `Tag` alone.
+fn lone_shape(alloc: Global, name: &str, shape: Shape) -> Result<Value, LineError>
+    ensures { Reads result (lone_shape name.now shape) }
+{
+    match shape {
+        Shape::Tag => Ok(Value::Tag),
+        _ => Err(LineError::Bad(BadLine::MissingValue(text_of(alloc, name)?))),
+    }
+}
+
+/// The value that a word names with its shape (docs/SCRIPTS.md, "Words"): `SHAPE` of a tag, else `SHAPE=VALUE`.
+fn shaped_value_word(alloc: Global, word: &str) -> Result<Value, LineError>
+    ensures { Reads result (shaped_value_said word.now) }
+{
+    let Some((name, text)) = cut(word, '=') else {
+        let shape = shape_word(alloc, word)?;
+        return lone_shape(alloc, word, shape);
+    };
+    let shape = shape_word(alloc, name)?;
+    value(alloc, name, shape, text)
 }
 
 /// A line that ends here says this.

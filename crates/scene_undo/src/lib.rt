@@ -7,7 +7,6 @@
 
 mod direction;
 mod editor;
-mod framed;
 mod made;
 mod parts;
 mod records;

@@ -17,7 +17,6 @@ mod despawn_recursive;
 mod from_parts;
 mod insert;
 mod put_resource;
-mod put_row;
 mod remove;
 mod remove_parent;
 mod remove_resource;

@@ -1,8 +1,9 @@
 //! Removing a resource.
 ghost use Rattle.std.specs.Prelude.{◌≡◌};
 ghost use Rattle.scene_kinds.specs.Answers.{Gives};
+ghost use Rattle.scene_resources.specs.Resources.{Forgets};
 ghost use Rattle.scene_model.specs.Commands.{remove_resource};
-ghost use Rattle.scene_world.specs.Room.{IsWider};
+ghost use Rattle.scene_world.specs.Room.{IsWider, stored_names, with_names};
 
 use crate::world::World;
 use scene_kinds::Refusal;
@@ -21,9 +22,13 @@ impl World {
         Ok(())
     }
 
-    /// Gives back the room of a resource's name where there is no resource of it any more. The world stays as it is.
+    /// Gives back the room of a resource's name where there is no resource of it any more: after it a resource of that name
+    /// takes memory again. The world, the room of every other name and all other room stay as they are. It takes no
+    /// memory.
     pub fn forget_resource(&mut self, name: &str)
-        ensures { self.new.world ≡ self.old.world }
+        ensures world { self.new.world ≡ self.old.world }
+        ensures names { Forgets (stored_names self.old) self.new.room.names name.now }
+        ensures rest { self.new.room ≡ with_names self.old.room self.new.room.names }
     {
         self.resources.forget(name);
     }

@@ -9,5 +9,6 @@ use Rattle.scene_file.proofs.object.first_unknown.Goals as goal
 pub returns : goal.returns
 returns c =
     unknown_found c.args.known.now c.find.result c.args.members.now.entries
-    (find_from_yields_List (λ (k : String Global). not (is_one_of c.args.known.now (string_bytes k))) _ _ c.find.result c.find.ensures.ran (YieldsList-from_rest (keys c.args.members.now) c.keys.ensures.rest)
+    (find_from_yields_List (λ (k : String Global). not (is_one_of c.args.known.now (string_bytes k))) _ _ c.find.result c.find.ensures.ran
+    (YieldsList-from_rest (keys c.args.members.now) c.keys.ensures.rest)
     (λ x b q k. search (rules, tests)))

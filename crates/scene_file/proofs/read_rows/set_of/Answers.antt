@@ -10,4 +10,10 @@ pub overflow_add-set : goal.overflow_add-set
 overflow_add-set c = omega (arith, next_bit c.args.kinds.now c.loop-kind.kind-index 0 c.loop-kind-test.true c.requires, c.loop-kind.invariant)
 
 pub loop-kind-preserved : goal.loop-kind-preserved
-loop-kind-preserved c = omega (arith, next_bit c.args.kinds.now c.loop-kind.kind-index 0 c.loop-kind-test.true c.requires, sum_by_more (λ (k : ℕ). 2 ^ k) c.args.kinds.now c.loop-kind.kind-index 0 c.loop-kind-test.true, c.loop-kind.invariant)
+loop-kind-preserved c = omega (
+  arith,
+  next_bit c.args.kinds.now c.loop-kind.kind-index 0 c.loop-kind-test.true c.requires,
+  sum_by_more
+      (λ (k : ℕ). 2 ^ k) c.args.kinds.now c.loop-kind.kind-index 0 c.loop-kind-test.true,
+  c.loop-kind.invariant,
+)

@@ -9,4 +9,5 @@ abbrev pub invariant-loop-place : goal.invariant-loop-place
 invariant-loop-place g l =
     AreRisen (g.F.Form.word l.form) (path_bytes l.path) g.F.Form.follows
     (rising_at (g.F.Form.word l.form) g.F.Form.follows (path_bytes l.path) 0 None (each view l.values))
-    (each g.F.Form.meant l.items.items) l.place (slice_get (each g.F.Form.meant l.items.items) (length l.items.items - 1)) (each view (drop l.place l.values))
+    (each g.F.Form.meant l.items.items) l.place (slice_get (each g.F.Form.meant l.items.items) (length l.items.items - 1))
+    (each view (drop l.place l.values))

@@ -1,0 +1,85 @@
+-- What `clap` makes of a command line that asks for help.
+use Rattle.std.proofs.Common.{◌≡◌, true, List, inl, inr, refl, sym, subst, codes, [], ◌∷◌}
+use Rattle.std.specs.Str.{bytes_eq}
+use Rattle.std.proofs.lemmas.Bool.{and_parts, false≢true, or_cases}
+use Rattle.std.proofs.lemmas.Slice.Eq.{bytes_eq-Decides}
+use Rattle.clap.specs.Words.{Kinds, Text, fault_of}
+use Rattle.clap.specs.declared.error.kind.ErrorKind.TheVariants.{DisplayHelp}
+use Rattle.clap.proofs.OnLiterals.{clap_on_literals}
+use Rattle.scene_command_line.specs.declared.asked.Asked.{Asked}
+use Rattle.scene_command_line.specs.Words.{Answers, AsksFor, IsHelp, command_in, scene_line}
+use Rattle.scene_command_line.specs.Plain.{asks_for_help, is_command, is_help_option}
+
+abbrev IsHelpLine : List Text → Type 0
+IsHelpLine words = fault_of scene_line words ≡ DisplayHelp ∷ []
+
+module _ (name : Text) where
+  long_alone : IsHelpLine (name ∷ codes "--help" ∷ [])
+  unfolding clap_on_literals
+  long_alone = refl
+
+  short_alone : IsHelpLine (name ∷ codes "-h" ∷ [])
+  unfolding clap_on_literals
+  short_alone = refl
+
+  long_of_run : IsHelpLine (name ∷ codes "run" ∷ codes "--help" ∷ [])
+  unfolding clap_on_literals
+  long_of_run = refl
+
+  long_of_check : IsHelpLine (name ∷ codes "check" ∷ codes "--help" ∷ [])
+  unfolding clap_on_literals
+  long_of_check = refl
+
+  long_of_print : IsHelpLine (name ∷ codes "print" ∷ codes "--help" ∷ [])
+  unfolding clap_on_literals
+  long_of_print = refl
+
+  short_of_run : IsHelpLine (name ∷ codes "run" ∷ codes "-h" ∷ [])
+  unfolding clap_on_literals
+  short_of_run = refl
+
+  short_of_check : IsHelpLine (name ∷ codes "check" ∷ codes "-h" ∷ [])
+  unfolding clap_on_literals
+  short_of_check = refl
+
+  short_of_print : IsHelpLine (name ∷ codes "print" ∷ codes "-h" ∷ [])
+  unfolding clap_on_literals
+  short_of_print = refl
+
+-- what holds of both options holds of each word that is one of them
+by_option : (P : Text → Type 0) (word : Text) → P (codes "--help") → P (codes "-h") → is_help_option word ≡ true → P word
+by_option P word long short one = elim (or_cases (bytes_eq word (codes "--help")) _ one) [
+  | inl same ↦ subst P (sym ((bytes_eq-Decides word _).0 same)) long
+  | inr same ↦ subst P (sym ((bytes_eq-Decides word _).0 same)) short
+]
+
+-- what holds of the three commands holds of each word that is one of them
+by_command : (P : Text → Type 0) (word : Text) → P (codes "run") → P (codes "check") → P (codes "print") → is_command word ≡ true → P word
+by_command P word run check print one = elim (or_cases (bytes_eq word (codes "run")) _ one) [
+  | inl same ↦ subst P (sym ((bytes_eq-Decides word _).0 same)) run
+  | inr other ↦ elim (or_cases (bytes_eq word (codes "check")) _ other) [
+    | inl same ↦ subst P (sym ((bytes_eq-Decides word _).0 same)) check
+    | inr same ↦ subst P (sym ((bytes_eq-Decides word _).0 same)) print
+  ]
+]
+
+help_line : (words : List Text) → asks_for_help words ≡ true → IsHelpLine words
+help_line [] asks = absurd (false≢true asks)
+help_line (name ∷ []) asks = absurd (false≢true asks)
+help_line (name ∷ word ∷ []) asks = by_option (λ w. IsHelpLine (name ∷ w ∷ [])) word (long_alone name) (short_alone name) asks
+help_line (name ∷ command ∷ word ∷ []) asks =
+    let parts = and_parts (is_command command) (is_help_option word) asks in
+    by_command (λ c. IsHelpLine (name ∷ c ∷ word ∷ [])) command
+    (by_option (λ w. IsHelpLine (name ∷ codes "run" ∷ w ∷ [])) word (long_of_run name) (short_of_run name) parts.1)
+    (by_option (λ w. IsHelpLine (name ∷ codes "check" ∷ w ∷ [])) word (long_of_check name) (short_of_check name) parts.1)
+    (by_option (λ w. IsHelpLine (name ∷ codes "print" ∷ w ∷ [])) word (long_of_print name) (short_of_print name) parts.1)
+    parts.0
+help_line (name ∷ command ∷ word ∷ next ∷ rest) asks = absurd (false≢true asks)
+
+helps : (kinds : Kinds) (command asked : Asked) → kinds ≡ DisplayHelp ∷ [] → Answers kinds command asked → IsHelp asked
+helps kinds command asked one answers =
+    elim (subst (λ (ks : Kinds). Answers ks command asked) one answers) [ inl help ↦ help | inr none ↦ absurd none ]
+
+-- a command line that asks for help is answered with help
+pub help_answer : (words : List Text) (asked : Asked) → asks_for_help words ≡ true → AsksFor asked words → IsHelp asked
+help_answer words asked asks answers = helps (fault_of scene_line words) (command_in words) asked (help_line words asks) answers

@@ -1,0 +1,56 @@
+use Rattle.std.proofs.Common.{◌≡◌, ◌∙◌, ap, refl, sym, subst, map, string_bytes, true, List, [], IfOk}
+use Rattle.std.proofs.lemmas.Result.{IfOk-weaker}
+use Rattle.clap.specs.Words.{App, HasKind, Kinds, Text, app_of, fault_of, is_simple, is_simple_and_free, kind_of, subcommand_of}
+use Rattle.clap.specs.declared.parser.matches.ArgMatches.TheViews.{out-ArgMatches}
+use Rattle.clap.proofs.OnLiterals.{clap_on_literals}
+use Rattle.scene_command_line.specs.declared.asked.Asked.TheVariants.{Bad}
+use Rattle.scene_command_line.specs.Words.{Answers, AsksFor, command_in, command_named, scene_line}
+use Rattle.scene_command_line.proofs.Answered.{asked_by_kind, named_by_rows}
+use Rattle.scene_command_line.proofs.HelpLaws.{help_answer}
+use Rattle.scene_command_line.proofs.PlainLaws.{plain_answer}
+use Rattle.std.specs.Option.{option_map_or}
+use Rattle.scene_command_line.proofs.reading.read_words.Goals as goal
+
+is_free : is_simple_and_free scene_line ≡ true
+unfolding clap_on_literals
+is_free = refl
+
+is_plain : is_simple scene_line ≡ true
+unfolding clap_on_literals
+is_plain = refl
+
+pub returns-in-Ok : goal.returns-in-Ok
+returns-in-Ok c =
+    let words : List Text = map string_bytes c.args.words.now in
+    let commands_are : app_of c.in_ok-commands.commands ≡ scene_line = c.in_ok-commands.ensures in
+    let none : fault_of scene_line words ≡ [] =
+    ap (λ (a : App). fault_of a words) (sym commands_are)
+    ∙ c.in-Ok.ensures.kinds (ap is_simple_and_free commands_are ∙ is_free) in
+    let met = (c.in-Ok.ensures.matches (ap is_simple commands_are ∙ is_plain)).1 in
+    let named : c.command_met.result ≡ command_in words =
+    c.command_met.ensures
+    ∙ (named_by_rows (out-ArgMatches c.in-Ok.matches).subcommand
+    ∙ ap (λ rows. option_map_or (λ row. command_named row.0) rows Bad)
+    (met ∙ ap (λ (a : App). subcommand_of a words) commands_are)) in
+    let asks : AsksFor c.command_met.result words =
+    subst (λ (kinds : Kinds). Answers kinds (command_in words) c.command_met.result) (sym none) named in
+    record {
+      asked = asks;
+      plain = λ plain. plain_answer words c.command_met.result plain asks;
+      help = λ help. help_answer words c.command_met.result help asks;
+    }
+
+pub returns-in-Err : goal.returns-in-Err
+returns-in-Err c =
+    let words : List Text = map string_bytes c.args.words.now in
+    let commands_are : app_of c.in_ok-commands.commands ≡ scene_line = c.in_ok-commands.ensures in
+    let one = subst (λ (a : App). HasKind (fault_of a words) c.in-Err.error) commands_are
+    (c.in-Err.ensures.kinds (ap is_simple_and_free commands_are ∙ is_free)) in
+    let asks : IfOk c.without_command.result (λ asked. AsksFor asked words) =
+    asked_by_kind (fault_of scene_line words) (kind_of c.in-Err.error) (command_in words) c.without_command.result
+    one c.without_command.ensures.asked c.without_command.ensures.memory in
+    record {
+      asked = asks;
+      plain = λ plain. IfOk-weaker c.without_command.result _ _ (λ asked. plain_answer words asked plain) asks;
+      help = λ help. IfOk-weaker c.without_command.result _ _ (λ asked. help_answer words asked help) asks;
+    }

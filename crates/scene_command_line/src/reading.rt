@@ -1,0 +1,74 @@
+//! The words of a command line, read by `clap`.
+ghost use Rattle.std.specs.Prelude.{◌≡◌, true, false, IfOk, IsErr, map, string_bytes};
+ghost use Rattle.std.specs.Option.{option_map_or};
+ghost use Rattle.clap.specs.Words.{app_of, kind_of, shape_of, subcommand_name_of};
+ghost use Rattle.clap.specs.declared.builder.command.Command.TheViews.{out-Command as fields_of};
+ghost use Rattle.clap.specs.Simple.{new_shape};
+ghost use Rattle.clap.specs.declared.error.kind.ErrorKind.TheVariants.{OutOfMemory};
+ghost use Rattle.scene_command_line.specs.Plain.{are_plain, asks_for_help, plainly_asked};
+ghost use Rattle.scene_command_line.specs.Words.{AnswersKind, AsksFor, IsHelp, command_named, scene_line};
+
+use crate::asked::{Asked, command_named};
+use crate::texts;
+use clap::error::ErrorKind;
+use clap::{ArgMatches, Command, Error};
+use std::alloc::{AllocError, Global};
+
+/// A command with its help texts, which takes no arguments.
+fn command<'a>(alloc: Global, name: &'a str, about: &'a str, more: &'a str) -> Command<'a>
+    ensures shape { shape_of result ≡ new_shape name.entry.now }
+    ensures local { (fields_of result).has_globals ≡ false }
+{
+    Command::new(alloc, name).about(about).after_help(more)
+}
+
+/// The commands of the program, as `clap` reads them.
+fn commands<'a>(alloc: Global) -> Result<Command<'a>, AllocError>
+    ensures { IfOk result (λ c. app_of c ≡ scene_line) }
+{
+    Command::new(alloc, "scene")
+        .about(texts::PROGRAM)
+        .after_help(texts::PROGRAM_MORE)
+        .subcommand_required(true)
+        .bin_name("scene")?
+        .subcommand(command(alloc, "run", texts::RUN, texts::RUN_MORE))?
+        .subcommand(command(alloc, "check", texts::CHECK, texts::CHECK_MORE))?
+        .subcommand(command(alloc, "print", texts::PRINT, texts::PRINT_MORE))
+}
+
+/// The command whose name stands among the words.
+fn command_met(matches: &ArgMatches<'_>) -> Asked
+    ensures { result ≡ option_map_or command_named (subcommand_name_of matches.now) Asked.Bad }
+{
+    match matches.subcommand_name() {
+        Some(name) => command_named(name),
+        None => Asked::Bad,
+    }
+}
+
+/// What the words ask for where `clap` finds no command in them.
+fn without_command(alloc: Global, error: &Error) -> Result<Asked, AllocError>
+    ensures asked { IfOk result (AnswersKind (kind_of error.now)) }
+    ensures memory { kind_of error.now ≡ OutOfMemory → IsErr result }
+{
+    match error.kind() {
+        ErrorKind::OutOfMemory => Err(AllocError),
+        ErrorKind::DisplayHelp => Ok(Asked::Help(error.to_string(alloc)?)),
+        _ => Ok(Asked::Bad),
+    }
+}
+
+/// What the words of a command line ask for, the program's own name first (docs/SCRIPTS.md, "Command line"). It is
+/// refused only for want of memory, and costs as much as the library takes to look through the words.
+pub fn read_words<'a>(alloc: Global, words: &'a [String]) -> Result<Asked, AllocError>
+    ensures asked { IfOk result (λ asked. AsksFor asked (map string_bytes words.now)) }
+    ensures plain { are_plain (map string_bytes words.now) ≡ true
+        → IfOk result (λ asked. asked ≡ plainly_asked (map string_bytes words.now)) }
+    ensures help { asks_for_help (map string_bytes words.now) ≡ true → IfOk result IsHelp }
+{
+    let commands = commands(alloc)?;
+    match commands.try_get_matches_from(words) {
+        Ok(matches) => Ok(command_met(&matches)),
+        Err(error) => without_command(alloc, &error),
+    }
+}

@@ -1,0 +1,41 @@
+//! What the help texts of the program and of its commands say beside the names.
+
+/// What the program is.
+pub(crate) const PROGRAM: &str =
+    "Plays scripts of commands on a world of entities, with undo, and looks at saved scenes";
+
+/// What all commands have in common.
+pub(crate) const PROGRAM_MORE: &str = "\
+Each command reads standard input to its end and prints on standard output.
+
+Exit status:
+  0  all went well
+  1  a line of a script was bad, or a scene text was refused
+  2  the command line is bad
+  3  a fault ended the program; standard error tells its number and name
+
+docs/SCRIPTS.md explains scripts, and docs/SCENE_FILES.md scene texts.";
+
+pub(crate) const RUN: &str = "Plays the script on standard input and prints what its lines answer";
+
+pub(crate) const RUN_MORE: &str = "\
+A script has one line for each step, as `kind A Int`, `spawn A=5`, `undo` or `show`. A bad line prints `bad line` and
+changes nothing; standard error tells where the first bad lines are and why, and the exit status is 1.
+
+docs/SCRIPTS.md explains the lines.";
+
+pub(crate) const CHECK: &str = "Says whether the scene text on standard input is good";
+
+pub(crate) const CHECK_MORE: &str = "\
+Prints `good TICK LIVE`, the tick and the number of live entities, or else the first fault as `fault NUMBER NAME ..`;
+the exit status is then 1.
+
+docs/SCENE_FILES.md explains scene texts and their faults.";
+
+pub(crate) const PRINT: &str = "Shows the world of the scene text on standard input";
+
+pub(crate) const PRINT_MORE: &str = "\
+Prints the lines that `show` prints in a script, or else the first fault as `fault NUMBER NAME ..`; the exit status is
+then 1.
+
+docs/SCENE_FILES.md explains scene texts and their faults, and docs/SCRIPTS.md the lines of `show`.";

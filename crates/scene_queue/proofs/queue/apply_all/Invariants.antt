@@ -1,0 +1,14 @@
+use Rattle.std.proofs.Common.{◌≡◌, take, Ok}
+use Rattle.scene_model.specs.Frame.{queues_from}
+use Rattle.scene_world.specs.Room.{IsWider}
+use Rattle.scene_world.specs.Stage.{act}
+use Rattle.scene_queue.specs.Frames.{frame_of}
+use Rattle.scene_queue.proofs.queue.apply_all.Given as goal
+
+-- the queues so far were applied, and spawned these entities
+abbrev pub invariant-loop-queue : goal.invariant-loop-queue
+invariant-loop-queue g l =
+    let s = g.S.Stage in
+    (l.at ≡ l.queue-index)
+    × ((queues_from (act s.note) 0 (frame_of (take l.queue-index l.queues)) (s.seen l.fn.stage) ≡ Ok (l.spawned.items, s.seen l.stage))
+    × ((s.opening l.stage ≡ s.opening l.fn.stage) × IsWider (s.room l.fn.stage) (s.room l.stage)))
