@@ -26,3 +26,4 @@ pub mod RisingMaps
 pub mod RowsExact
 pub mod SceneExact
 pub mod OnlyTexts
+pub mod GoodSteps

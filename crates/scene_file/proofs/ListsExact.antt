@@ -1,45 +1,26 @@
 -- What is read of lists and objects is just what stands there: the value is the text of what was read.
-use Rattle.std.proofs.Common.{◌≡◌, ℕ, ◌+◌, Bool, true, false, List, [], ◌∷◌, Option, Some, None, Result, Ok, Err, option_and_then, refl, ap, sym, subst, ◌∙◌, map as each}
+use Rattle.std.proofs.Common.{◌≡◌, ℕ, ◌+◌, Bool, true, List, [], ◌∷◌, Option, Some, None, Result, Ok, Err, refl, ap, sym, subst, ◌∙◌, map as each}
 use Rattle.std.specs.List.{AllByRecursion}
 use Rattle.serde_json.specs.Data.{Data, null, boolean, number, string, array, object, Items, no_items, item, Members}
-use Rattle.serde_json.specs.Find.{get_member, as_array}
+use Rattle.serde_json.specs.Find.{get_member}
 use Rattle.scene_file.specs.declared.fault.FileFault.{FileFault}
-use Rattle.scene_file.specs.declared.fault.FileFault.TheVariants.{BadField, UnknownKey}
+use Rattle.scene_file.specs.declared.fault.FileFault.TheVariants.{UnknownKey}
 use Rattle.scene_file.specs.Reading.{◌>>=◌, field, if_good, if_known, elements, list_at, each_at, list_of, may_follow, rising_at, rising_of, place_in, under, unknown_in, object_at, key_of}
-use Rattle.scene_file.specs.Text.{items_of, array_of, list_text, members_of, object_of}
+use Rattle.scene_file.specs.Text.{items_of, array_of, list_text, object_of}
 use Rattle.scene_file.proofs.ListsBack.{Follow}
-use Rattle.scene_file.proofs.ReadValues.{KeysRise, IsRead, AreRead, HasRead, elements_read, member_read}
+use Rattle.scene_file.proofs.ReadValues.{KeysRise, IsRead, HasRead, elements_read, member_read}
 use Rattle.scene_file.proofs.KnownMembers.{names, NamesRise, AreFound, members_are}
-use Rattle.scene_file.proofs.TableKinds.{ok_after, good_was}
+use Rattle.scene_file.proofs.GoodSteps.{ok_after, ok_is, no_field, good_was, field_was}
 
 -- what is read of a value tells the value: it is its text
 abbrev pub IsExact : {A : Type 0} → (List ℕ → Data → Result A FileFault) → (A → Data) → Type 0
 IsExact {A} reads text = (path : List ℕ) (d : Data) (a : A) → IsRead d → reads path d ≡ Ok a → d ≡ text a
-
--- ---- steps
-
-pub ok_is : {A : Type 0} (a b : A) → ◌≡◌ {A = Result A FileFault} (Ok a) (Ok b) → a ≡ b
-ok_is a b h = cc h
-
-pub some_is : {A : Type 0} (a b : A) → Some a ≡ Some b → a ≡ b
-some_is a b h = cc h
-
-pub field_was : {A : Type 0} (path : List ℕ) (o : Option A) (a : A) → field path o ≡ Ok a → o ≡ Some a
-field_was path None a h = absurd (let k : Err (BadField path) ≡ Ok a = h in cc)
-field_was path (Some b) a h = ap (λ x. Some x) (ok_is b a h)
-
-pub then_was : {A B : Type 0} (f : A → Option B) (o : Option A) (b : B) → option_and_then f o ≡ Some b → (a : A) × (o ≡ Some a) × (f a ≡ Some b)
-then_was f None b h = absurd (let k : None ≡ Some b = h in cc)
-then_was f (Some a) b h = (a, refl, h)
 
 -- ---- lists
 
 items_back : (ds : Items) → items_of (elements ds) ≡ ds
 items_back no_items = refl
 items_back (item d ds) = ap (item d) (items_back ds)
-
-pub no_field : {A P : Type 0} (path : List ℕ) (a : A) → ◌≡◌ {A = Result A FileFault} (Err (BadField path)) (Ok a) → P
-no_field path a h = absurd (cc h)
 
 -- a list is the array of its elements
 pub list_was : (path : List ℕ) (d : Data) (es : List Data) → list_at path d ≡ Ok es → IsRead d → (d ≡ array_of es) × AllByRecursion IsRead es

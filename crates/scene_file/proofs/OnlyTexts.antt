@@ -1,39 +1,29 @@
 -- Nothing but the texts of worlds is read.
-use Rattle.std.proofs.Common.{◌≡◌, ℕ, Bool, true, false, cond, List, [], ◌∷◌, Option, Some, None, Result, Ok, Err, refl, ap, sym, subst, ◌∙◌, nat_lt}
-use Rattle.std.specs.Ordering.{nat_cmp, is_lt, ordering_then}
-use Rattle.std.specs.declared.cmp.Ordering.{Ordering}
-use Rattle.std.specs.declared.cmp.Ordering.TheVariants.{Less, Equal, Greater}
+use Rattle.std.proofs.Common.{◌≡◌, ℕ, Bool, true, false, cond, T, List, Option, Some, None, Result, Ok, Err, refl, ap, sym, subst, ◌∙◌}
+use Rattle.std.specs.Ordering.{nat_cmp, ordering_then}
 use Rattle.std.specs.Cmp.{nat_cmp_total}
 use Rattle.std.specs.Str.{is_utf8}
 use Rattle.serde_json.specs.Data.{Data}
 use Rattle.serde_json.specs.Read.{read}
-use Rattle.scene_kinds.specs.declared.entity.Entity.{Entity}
 use Rattle.scene_kinds.specs.Entity.{entity_cmp, entity_cmp_total}
+use Rattle.scene_kinds.proofs.Choices.{less}
 use Rattle.scene_resources.specs.Resources.{name_cmp}
 use Rattle.scene_model.specs.World.{World}
-use Rattle.scene_parts.specs.Parts.{Parts, keys, lists_of, tables_of, forest_of, resources_of, parts_of, world_of}
+use Rattle.scene_parts.specs.Parts.{Parts, lists_of, tables_of, forest_of, resources_of, parts_of, world_of}
 use Rattle.scene_parts.specs.Rules.{first_broken}
 use Rattle.scene_parts.proofs.WorldRules.{parts_are}
 use Rattle.scene_file.specs.declared.fault.FileFault.{FileFault}
 use Rattle.scene_file.specs.declared.fault.FileFault.TheVariants.{NotJson, BadWorld}
-use Rattle.scene_file.specs.Reading.{◌>>=◌}
 use Rattle.scene_file.specs.Scene.{if_json, if_unbroken, loaded, world_in}
 use Rattle.scene_file.specs.Text.{parts_text, world_text}
 use Rattle.scene_file.specs.Walk.{parent_follows, name_follows, table_follows, parts_in}
-use Rattle.scene_file.proofs.Ascending.{Ascend}
-use Rattle.scene_file.proofs.ReadValues.{IsRead, value_read}
+use Rattle.scene_file.proofs.ReadValues.{value_read}
 use Rattle.scene_file.proofs.RisingMaps.{lists_kept, resources_kept, ascend_from}
-use Rattle.scene_file.proofs.ListsExact.{ok_is}
 use Rattle.scene_file.proofs.RowsExact.{lower_is}
 use Rattle.scene_file.proofs.SceneExact.{AreSaid, parts_said_by}
-use Rattle.scene_file.proofs.TableKinds.{ok_after}
+use Rattle.scene_file.proofs.GoodSteps.{ok_after, ok_is}
 
 -- ---- parts that were read are those of their world
-
-less_is : (o : Ordering) → is_lt o ≡ true → o ≡ Less
-less_is Less h = refl
-less_is Equal h = absurd (let k : false ≡ true = h in cc)
-less_is Greater h = absurd (let k : false ≡ true = h in cc)
 
 parts_kept : (d : Data) (p : Parts) → AreSaid d p → first_broken p ≡ None → parts_of (world_of p) ≡ p
 parts_kept d p said h =
@@ -46,7 +36,7 @@ parts_kept d p said h =
     (lower_is a.0.index b.0.index k)) p.children said.parents)
     own.children.some in
     let resources : (resources_of p.resources).entries ≡ p.resources =
-    resources_kept p.resources (ascend_from name_cmp name_follows (λ a b k. less_is (name_cmp a.0 b.0) k) p.resources said.names) in
+    resources_kept p.resources (ascend_from name_cmp name_follows (λ a b k. less (name_cmp a.0 b.0) (subst T (sym k) tt)) p.resources said.names) in
     λ i. record {
       schema = p.schema;
       limit = p.limit;

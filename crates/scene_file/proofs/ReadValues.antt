@@ -1,5 +1,5 @@
 -- What is known of each value that was read: the keys of its objects rise, and its negative numbers are below zero.
-use Rattle.std.proofs.Common.{◌≡◌, ℕ, zero, suc, ◌^◌, ℤ, pos, negsuc, Bool, true, false, cond, List, [], ◌∷◌, Option, Some, None, option_map, option_and_then, nat_lt, nat_le, refl, ap, sym, subst, ◌∙◌}
+use Rattle.std.proofs.Common.{◌≡◌, ℕ, zero, suc, ◌^◌, ℤ, pos, negsuc, Bool, true, false, cond, List, Option, Some, None, option_map, option_and_then, nat_lt, nat_le, refl, ap, subst, ◌∙◌}
 use Rattle.std.specs.Prelude.{IfSome, ◌&&◌, ◌==◌, drop, slice_index}
 use Rattle.std.specs.List.{AllByRecursion}
 use Rattle.std.specs.Ordering.{nat_cmp, match_ordering, ordering_reverse}

@@ -1,5 +1,5 @@
 -- Entries whose keys ascend are those of the map that is made of them.
-use Rattle.std.proofs.Common.{◌≡◌, ℕ, Bool, true, false, T, List, [], ◌∷◌, Option, Some, None, refl, ap, sym, subst, ◌∙◌}
+use Rattle.std.proofs.Common.{◌≡◌, ℕ, Bool, true, false, T, List, [], ◌∷◌, Some, None, refl, ap, sym, subst, ◌∙◌}
 use Rattle.std.specs.Prelude.{map as each}
 use Rattle.std.specs.List.{list_all}
 use Rattle.std.specs.declared.cmp.Ordering.{Ordering}

@@ -1,6 +1,6 @@
 -- What is read of rows, and of the kinds of their table, is just what stands there.
-use Rattle.std.proofs.Common.{◌≡◌, ℕ, zero, suc, ◌+◌, ◌<◌, ◌≤◌, Bool, true, cond, List, [], ◌∷◌, length, Option, Some, None, Ok, option_map, nat_eq, nat_lt, refl, ap, sym, subst, ◌∙◌, arith, codes}
-use Rattle.std.specs.Prelude.{map as each, slice_get, ◌==◌}
+use Rattle.std.proofs.Common.{◌≡◌, ℕ, zero, suc, ◌+◌, ◌<◌, ◌≤◌, true, cond, List, [], ◌∷◌, length, Option, Some, None, Ok, nat_eq, nat_lt, refl, ap, sym, subst, ◌∙◌, arith, codes}
+use Rattle.std.specs.Prelude.{map as each, ◌==◌}
 use Rattle.std.specs.List.{zip, cons_option, AllByRecursion}
 use Rattle.std.specs.Ordering.{nat_cmp}
 use Rattle.std.specs.declared.cmp.Ordering.TheVariants.{Less, Equal, Greater}
@@ -20,10 +20,11 @@ use Rattle.scene_file.specs.Walk.{entity_at, cell_at, cells_from, cells_at, row_
 use Rattle.scene_file.proofs.Ascending.{IsAbove, Ascend}
 use Rattle.scene_file.proofs.RisingMaps.{sorted_is}
 use Rattle.scene_file.proofs.ReadValues.{IsRead}
-use Rattle.scene_file.proofs.ListsExact.{IsExact, ok_is, no_field, list_was, list_exact, rising_key, key_was, key_exact, object_was, object_is}
+use Rattle.scene_file.proofs.ListsExact.{IsExact, list_was, list_exact, rising_key, key_was, key_exact, object_was, object_is}
 use Rattle.scene_file.proofs.ValuesExact.{below_exact, entity_exact, cell_exact}
 use Rattle.scene_file.proofs.RowsBack.{kinds_of_cells, set_of_cells}
-use Rattle.scene_file.proofs.TableKinds.{ok_after, good_was, kinds_in, widened}
+use Rattle.scene_file.proofs.GoodSteps.{ok_after, good_was, ok_is, no_field}
+use Rattle.scene_file.proofs.TableKinds.{kinds_in, widened}
 
 -- ---- cells
 

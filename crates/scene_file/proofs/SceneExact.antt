@@ -1,13 +1,12 @@
 -- What is read of the lists of a scene, and of the whole, is just what stands there.
-use Rattle.std.proofs.Common.{◌≡◌, ℕ, ◌+◌, ◌<◌, ◌≤◌, Bool, true, false, cond, not, List, [], ◌∷◌, ◌++◌, length, append_assoc, Option, Some, None, Result, Ok, Err, is_some, nat_eq, nat_lt, refl, ap, sym, subst, ◌∙◌, arith, codes}
+use Rattle.std.proofs.Common.{◌≡◌, ℕ, ◌+◌, ◌<◌, ◌≤◌, Bool, true, false, cond, not, List, [], ◌∷◌, ◌++◌, length, append_assoc, Some, None, Result, Ok, Err, is_some, nat_eq, nat_lt, refl, ap, sym, subst, ◌∙◌, arith, codes}
 use Rattle.std.specs.Prelude.{map as each, nat_le, ◌&&◌, if◌then◌else◌}
 use Rattle.std.specs.List.{AllByRecursion}
 use Rattle.std.proofs.lemmas.Bool.{ltb-true, eqb-true}
 use Rattle.std.proofs.lemmas.List.{append-nil, length-append}
+use Rattle.std.proofs.lemmas.Option.{same_Some}
 use Rattle.serde_json.specs.Data.{Data, string, Members}
 use Rattle.serde_json.specs.Find.{as_object, get_member}
-use Rattle.scene_kinds.specs.declared.entity.Entity.{Entity}
-use Rattle.scene_kinds.specs.declared.cell.Cell.{Cell}
 use Rattle.scene_kinds.specs.declared.fault.Fault.TheVariants.{BadName, KindTaken, KindsFull}
 use Rattle.scene_kinds.specs.declared.shape.Shape.{Shape}
 use Rattle.scene_kinds.specs.Answers.{refuse}
@@ -15,17 +14,17 @@ use Rattle.scene_kinds.specs.Schema.{Kinds, is_good_name, number_of, with_kind}
 use Rattle.scene_alloc.specs.Slots.{most_slots}
 use Rattle.scene_parts.specs.Parts.{Parts}
 use Rattle.scene_file.specs.declared.fault.FileFault.{FileFault}
-use Rattle.scene_file.specs.declared.fault.FileFault.TheVariants.{BadField, BadVersion}
+use Rattle.scene_file.specs.declared.fault.FileFault.TheVariants.{BadVersion}
 use Rattle.scene_file.specs.Reading.{◌>>=◌, field, if_good, string_at, list_at, list_of, rising_of, place_in, under, object_at, key_of}
 use Rattle.scene_file.specs.Text.{array_of, list_text, count_text, entity_json, kind_text, shape_text, children_text, resource_cell_text, resource_text, table_text, parts_text}
 use Rattle.scene_file.specs.Walk.{u32_at, tick_at, entity_at, shape_at, kind_parts, added, kinds_from, kinds_at, children_at, name_at, resource_at, resource_cell_at, table_at, limit_at, scene_keys, parent_follows, name_follows, table_follows, parts_of, version_of, parts_in}
 use Rattle.scene_file.proofs.ListsBack.{Follow}
-use Rattle.scene_file.proofs.ReadValues.{IsRead, HasRead}
-use Rattle.scene_file.proofs.ListsExact.{IsExact, IsObject, ok_is, some_is, no_field, field_was, list_was, list_exact, rising_key, key_was, key_exact, object_was, object_is}
+use Rattle.scene_file.proofs.ReadValues.{IsRead}
+use Rattle.scene_file.proofs.ListsExact.{IsExact, IsObject, list_was, list_exact, rising_key, key_was, key_exact, object_was, object_is}
 use Rattle.scene_file.proofs.ValuesExact.{below_exact, tick_exact, string_exact, entity_exact, shape_exact, resource_cell_exact}
 use Rattle.scene_file.proofs.RowsExact.{table_exact}
 use Rattle.scene_file.proofs.SceneSteps.{after_children, after_free, after_generations, after_schema, after_limit, after_resources, after_tables, after_tick}
-use Rattle.scene_file.proofs.TableKinds.{ok_after, good_was}
+use Rattle.scene_file.proofs.GoodSteps.{ok_after, good_was, ok_is, no_field, field_was}
 
 -- ---- kinds
 
@@ -153,7 +152,7 @@ version_found : (d : Data) (ms : Members) (n : ℕ) → IsObject scene_keys d ms
     → get_member (codes "scene") ms ≡ Some (count_text n)
 version_found d ms n w h =
     let v = ok_after (field [] (as_object d)) (key_of tick_at [] (codes "scene")) n h in
-    let same : v.0 ≡ ms = some_is v.0 ms (sym (field_was [] (as_object d) v.0 v.1) ∙ ap as_object w.whole) in
+    let same : v.0 ≡ ms = same_Some v.0 ms (sym (field_was [] (as_object d) v.0 v.1) ∙ ap as_object w.whole) in
     key_exact tick_at count_text tick_exact [] (codes "scene") ms n w.read
     (subst (λ (xs : Members). key_of tick_at [] (codes "scene") xs ≡ Ok n) same v.2)
 
@@ -166,8 +165,8 @@ parts_were d ms p w one h =
     let k3 = ok_after (key_of kinds_at [] (codes "kinds") ms) (after_schema ms k0.0 k1.0 k2.0) p k2.2 in
     let k4 = ok_after (key_of limit_at [] (codes "limit") ms) (after_limit ms k0.0 k1.0 k2.0 k3.0) p k3.2 in
     let k5 = ok_after (key_of (rising_of resource_at name_follows) [] (codes "resources") ms) (after_resources ms k0.0 k1.0 k2.0 k3.0 k4.0) p k4.2 in
-    let k6 = ok_after (key_of (rising_of (table_at k3.0) table_follows) [] (codes "tables") ms) (after_tables ms k0.0 k1.0 k2.0 k3.0 k4.0 k5.0) p
-    k5.2 in
+    let k6 = ok_after (key_of (rising_of (table_at k3.0) table_follows) [] (codes "tables") ms)
+    (after_tables ms k0.0 k1.0 k2.0 k3.0 k4.0 k5.0) p k5.2 in
     let k7 = ok_after (key_of tick_at [] (codes "tick") ms) (after_tick ms k0.0 k1.0 k2.0 k3.0 k4.0 k5.0 k6.0) p k6.2 in
     let made : Parts = record {
       schema = k3.0;
@@ -188,7 +187,8 @@ parts_were d ms p w one h =
     let text : d ≡ parts_text made =
     object_is ((codes "children", list_text children_text k0.0) ∷ (codes "free", list_text count_text k1.0)
     ∷ (codes "generations", list_text count_text k2.0) ∷ (codes "kinds", list_text kind_text k3.0) ∷ (codes "limit", count_text k4.0)
-    ∷ (codes "resources", list_text resource_text k5.0) ∷ (codes "scene", count_text 1) ∷ (codes "tables", list_text table_text k6.0) ∷ (codes "tick", count_text k7.0) ∷ []) d ms w
+    ∷ (codes "resources", list_text resource_text k5.0) ∷ (codes "scene", count_text 1)
+    ∷ (codes "tables", list_text table_text k6.0) ∷ (codes "tick", count_text k7.0) ∷ []) d ms w
     (tt, (refl, (refl, (refl, (refl, (refl, (refl, (refl, (refl, tt))))))))) (
       children.0,
       (

@@ -1,11 +1,11 @@
 -- What is read of numbers, values and cells is just what stands there.
-use Rattle.std.proofs.Common.{◌≡◌, ℕ, ◌+◌, ◌^◌, ℤ, pos, negsuc, Bool, true, false, cond, List, [], ◌∷◌, Option, Some, None, Result, Ok, Err, option_and_then, nat_lt, refl, ap, sym, subst, ◌∙◌, map as each}
+use Rattle.std.proofs.Common.{◌≡◌, ℕ, ◌+◌, ◌^◌, ℤ, pos, negsuc, Bool, true, false, cond, List, [], ◌∷◌, Option, Some, None, Ok, Err, option_and_then, nat_lt, refl, ap, subst, ◌∙◌, map as each}
 use Rattle.std.specs.List.{AllByRecursion}
 use Rattle.std.specs.Str.{bytes_eq}
 use Rattle.std.proofs.lemmas.Slice.Eq.{bytes_eq-Decides}
+use Rattle.std.proofs.lemmas.Option.{same_Some}
 use Rattle.serde_json.specs.Data.{Data, null, boolean, number, string, array, object, unsigned, negative, float}
-use Rattle.serde_json.specs.Find.{as_bool, as_number, as_i64, as_str, as_u64, of_integer}
-use Rattle.scene_kinds.specs.declared.entity.Entity.{Entity}
+use Rattle.serde_json.specs.Find.{as_bool, as_number, as_i64, as_str, as_u64}
 use Rattle.scene_kinds.specs.declared.cell.Cell.{Cell}
 use Rattle.scene_kinds.specs.declared.shape.Shape.{Shape}
 use Rattle.scene_kinds.specs.declared.shape.Shape.TheVariants as shape
@@ -14,14 +14,13 @@ use Rattle.scene_kinds.specs.declared.value.Value.TheVariants as value
 use Rattle.scene_kinds.specs.Shape.{shape_name, shape_named, shape_of_value}
 use Rattle.scene_script.specs.Numbers.{entity_in}
 use Rattle.scene_script.proofs.NumberLaws.{entity_in-was}
-use Rattle.scene_file.specs.declared.fault.FileFault.{FileFault}
 use Rattle.scene_file.specs.declared.fault.FileFault.TheVariants.{BadField}
 use Rattle.scene_file.specs.Reading.{◌>>=◌, field, if_good, below, string_at, list_at, place_in}
-use Rattle.scene_file.specs.Text.{array_of, list_text, count_text, int_text, entity_json, value_text, shape_text, cell_text, resource_cell_text}
+use Rattle.scene_file.specs.Text.{array_of, count_text, int_text, entity_json, value_text, shape_text, cell_text, resource_cell_text}
 use Rattle.scene_file.specs.Walk.{tick_at, int_at, entity_at, shape_at, three_of, value_at, cell_from, cell_parts, cell_at, resource_cell_parts, resource_cell_at}
-use Rattle.scene_file.proofs.ListsExact.{IsExact, ok_is, some_is, field_was, then_was, list_was, each_exact}
+use Rattle.scene_file.proofs.ListsExact.{IsExact, list_was, each_exact}
 use Rattle.scene_file.proofs.ReadValues.{IsRead}
-use Rattle.scene_file.proofs.TableKinds.{ok_after, good_was}
+use Rattle.scene_file.proofs.GoodSteps.{ok_after, good_was, ok_is, field_was, then_was}
 
 -- ---- what a value is, of which something is read
 
@@ -32,13 +31,13 @@ string_was : (d : Data) (s : List ℕ) → as_str d ≡ Some s → d ≡ string 
 string_was null s h = not_there s h
 string_was (boolean b) s h = not_there s h
 string_was (number n) s h = not_there s h
-string_was (string t) s h = ap string (some_is t s h)
+string_was (string t) s h = ap string (same_Some t s h)
 string_was (array ds) s h = not_there s h
 string_was (object ms) s h = not_there s h
 
 bool_was : (d : Data) (b : Bool) → as_bool d ≡ Some b → d ≡ boolean b
 bool_was null b h = not_there b h
-bool_was (boolean c) b h = ap boolean (some_is c b h)
+bool_was (boolean c) b h = ap boolean (same_Some c b h)
 bool_was (number n) b h = not_there b h
 bool_was (string t) b h = not_there b h
 bool_was (array ds) b h = not_there b h
@@ -47,7 +46,7 @@ bool_was (object ms) b h = not_there b h
 count_was : (d : Data) (n : ℕ) → option_and_then as_u64 (as_number d) ≡ Some n → d ≡ count_text n
 count_was null n h = not_there n h
 count_was (boolean b) n h = not_there n h
-count_was (number (unsigned m)) n h = ap count_text (some_is m n h)
+count_was (number (unsigned m)) n h = ap count_text (same_Some m n h)
 count_was (number (negative z)) n h = not_there n h
 count_was (number (float x)) n h = not_there n h
 count_was (string t) n h = not_there n h
@@ -55,7 +54,7 @@ count_was (array ds) n h = not_there n h
 count_was (object ms) n h = not_there n h
 
 small_was : (b : Bool) (m : ℕ) (z : ℤ) → cond b (Some (pos m)) None ≡ Some z → number (unsigned m) ≡ int_text z
-small_was true m z h = ap int_text (some_is (pos m) z h)
+small_was true m z h = ap int_text (same_Some (pos m) z h)
 small_was false m z h = not_there z h
 
 int_was : (d : Data) (z : ℤ) → IsRead d → option_and_then as_i64 (as_number d) ≡ Some z → d ≡ int_text z
@@ -63,7 +62,7 @@ int_was null z r h = not_there z h
 int_was (boolean b) z r h = not_there z h
 int_was (number (unsigned m)) z r h = small_was (nat_lt m (2 ^ 63)) m z h
 int_was (number (negative (pos m))) z r h = absurd r
-int_was (number (negative (negsuc m))) z r h = ap int_text (some_is (negsuc m) z h)
+int_was (number (negative (negsuc m))) z r h = ap int_text (same_Some (negsuc m) z h)
 int_was (number (float x)) z r h = not_there z h
 int_was (string t) z r h = not_there z h
 int_was (array ds) z r h = not_there z h
@@ -74,7 +73,7 @@ chosen : (name : List ℕ) (x y : Shape) (rest : Option Shape) → cond (bytes_e
     → (rest ≡ Some y → name ≡ shape_name y) → name ≡ shape_name y
 chosen name x y rest h later =
     elim (bytes_eq name (shape_name x)) as (λ b. bytes_eq name (shape_name x) ≡ b → cond b (Some x) rest ≡ Some y → name ≡ shape_name y) [
-      | true ↦ λ e k. (bytes_eq-Decides name (shape_name x)).0 e ∙ ap shape_name (some_is x y k)
+      | true ↦ λ e k. (bytes_eq-Decides name (shape_name x)).0 e ∙ ap shape_name (same_Some x y k)
       | false ↦ λ e k. later k
     ] refl h
 

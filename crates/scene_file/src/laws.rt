@@ -8,9 +8,8 @@ pub fn written_worlds_are_read_again()
     ensures apart { TextsTellWorldsApart }
 {}
 
-/// Law: nothing but the texts of worlds is read. Where bytes are read as a world, their JSON value is that world's own
-/// value, each key in its place and none besides; texts differ only in spaces, escapes, the order of keys and keys that
-/// stand twice (docs/SCENE_FILES.md).
+/// Law: nothing but the texts of worlds is read. Where bytes are read as a world, they are JSON, of which the value is
+/// that very world's own (docs/SCENE_FILES.md, "Reading").
 pub fn only_texts_of_worlds_are_read()
     ensures { OnlyTextsAreRead }
 {}
