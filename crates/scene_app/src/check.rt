@@ -30,9 +30,10 @@ fn write_good(alloc: Global, out: &mut String, world: &World) -> Result<(), Allo
 
 /// What `scene check` prints for a text, and whether it is a scene.
 #[tactic(auto, using(crate::proofs::FileFaultLaws::is_wanted))]
-fn checked(alloc: Global, text: &[u8]) -> Result<(String, bool), AllocError>
+fn checked(alloc: Global, text: &[u8]) -> Result<(String, bool), AppFault>
     ensures printed { IfOk result (λ p. string_bytes p.0 ≡ check_output text.now) }
     ensures accepted { IfOk result (λ p. p.1 ≡ is_scene text.now) }
+    ensures memory { IfErr result (λ f. f ≡ NoMemory) }
 {
     let mut out = String::new(alloc);
     match load_text(alloc, text) {
@@ -49,9 +50,10 @@ fn checked(alloc: Global, text: &[u8]) -> Result<(String, bool), AllocError>
 
 /// What `scene print` prints for a text, and whether it is a scene.
 #[tactic(auto, using(crate::proofs::FileFaultLaws::is_wanted))]
-fn printed(alloc: Global, text: &[u8]) -> Result<(String, bool), AllocError>
+fn printed(alloc: Global, text: &[u8]) -> Result<(String, bool), AppFault>
     ensures printed { IfOk result (λ p. string_bytes p.0 ≡ print_output text.now) }
     ensures accepted { IfOk result (λ p. p.1 ≡ is_scene text.now) }
+    ensures memory { IfErr result (λ f. f ≡ NoMemory) }
 {
     let mut out = String::new(alloc);
     match load_text(alloc, text) {

@@ -229,14 +229,21 @@ found_by_mask mask n (t ∷ ts) = ap (λ b. cond b (Some n) (position_from (nat_
       | false ↦ λ e. sym (ne_eqb b a (λ s. eqb-false a b e (sym s)))
     ] refl
 
--- so the search says where the table of a kind set stands, or that none has it
-pub search_says : (mask : ℕ) (masks : List ℕ) (ts : List TableState) (o : Option ℕ) → masks ≡ masks_in ts → o ≡ position (nat_eq mask) masks → IfSome o (StandsAt ts mask) × IfNone o (NoneHas mask ts)
-search_says mask masks ts o listed is =
-    let found : o ≡ position_from (λ (t : TableState). nat_eq t.mask mask) 0 ts = is ∙ position_from-zero (nat_eq mask) masks ∙ ap (position_from (nat_eq mask) 0) listed ∙ found_by_mask mask 0 ts in
+-- so a walk over the kind sets says where the table of one stands, or that none has it
+pub walk_says : (mask : ℕ) (masks : List ℕ) (ts : List TableState) (o : Option ℕ) → masks ≡ masks_in ts
+    → o ≡ position_from (nat_eq mask) 0 masks → IfSome o (StandsAt ts mask) × IfNone o (NoneHas mask ts)
+walk_says mask masks ts o listed is =
+    let found : o ≡ position_from (λ (t : TableState). nat_eq t.mask mask) 0 ts =
+    is ∙ ap (position_from (nat_eq mask) 0) listed ∙ found_by_mask mask 0 ts in
     elim o as (λ o. o ≡ position_from (λ (t : TableState). nat_eq t.mask mask) 0 ts → IfSome o (StandsAt ts mask) × IfNone o (NoneHas mask ts)) [
       | None ↦ λ e. (tt, none_found mask ts e)
       | Some i ↦ λ e. (found_table mask ts i e, tt)
     ] found
+
+-- and so does the search by hash
+pub search_says : (mask : ℕ) (masks : List ℕ) (ts : List TableState) (o : Option ℕ) → masks ≡ masks_in ts
+    → o ≡ position (nat_eq mask) masks → IfSome o (StandsAt ts mask) × IfNone o (NoneHas mask ts)
+search_says mask masks ts o listed is = walk_says mask masks ts o listed (is ∙ position_from-zero (nat_eq mask) masks)
 
 -- ---- a table that grew
 

@@ -1,5 +1,5 @@
 //! The tables of a world by kind set.
-ghost use Rattle.std.specs.Prelude.{◌≡◌, ◌<◌, ◌≤◌, ◌^◌, ◌++◌, ◌∷◌, [], ℕ, length, Some, OnOk, OnErr, IfOk, IfSome, IfNone, IsOk, IsSome, slice_get, true, false, vec_capacity, map as each};
+ghost use Rattle.std.specs.Prelude.{◌≡◌, ◌<◌, ◌≤◌, ◌^◌, ◌++◌, ◌∷◌, [], ℕ, length, Some, OnOk, OnErr, IfOk, IfSome, IfNone, IsOk, IsSome, slice_get, true, false, nat_eq, vec_capacity, map as each};
 ghost use Rattle.std.specs.List.{position_from};
 ghost use Rattle.std.specs.Option.{option_map};
 ghost use Rattle.scene_kinds.specs.Cells.{HasKinds, mask_of, shown};
@@ -48,14 +48,28 @@ impl Model for KindTables {
     ghost invariant = { λ t. AreSound t.kind_sets.keys t.tables.items };
 }
 
-/// The index of the table of a kind set.
+/// So many kind sets are walked sooner than one of them is hashed.
+const FEW: usize = 8;
+
+/// The place of a kind set in a list.
+fn place_in(kind_sets: &[KindSet], mask: KindSet) -> Option<usize>
+    ensures { result ≡ position_from (nat_eq mask) 0 kind_sets.now }
+{
+    kind_sets.iter().position(|known| mask == *known)
+}
+
+/// The index of the table of a kind set. Among few it costs a walk, among more a hash.
 fn find_table(kind_sets: &IndexSet<KindSet>, tables: &[Table], mask: KindSet) -> Option<usize>
     requires { AreListed kind_sets.now.keys tables.now }
     ensures some { IfSome result (StandsAt tables.now mask) }
     ensures none { IfNone result (NoneHas mask tables.now) }
 {
     prove!(tables.len() >= 0);
-    kind_sets.get_index_of(&mask)
+    if kind_sets.len() <= FEW {
+        place_in(kind_sets.as_slice(), mask)
+    } else {
+        kind_sets.get_index_of(&mask)
+    }
 }
 
 /// The index of the table of a kind set that has one.

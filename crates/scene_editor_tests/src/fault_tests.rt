@@ -1,22 +1,40 @@
 //! Records that don't fit, on a world of tick 1 with one entity, whose one Int is 5 since then.
-use crate::small::{editor_of, first, given, queue_of};
+use crate::small::{editor_of, first, given, queue_of, submit_one};
 use scene_commands::Command;
 use scene_journal::{Delta, FrameRecord};
 use scene_kinds::{Cell, Cells, Fault, Refusal, Shape, Value};
+use scene_queue::Queue;
 use scene_undo::Editor;
 use scene_world::World;
 use std::alloc::Global;
 use std::test::Fail;
 
-/// The world, after the undo and redo of its one frame.
-fn world(alloc: Global) -> Result<World, Refusal> {
-    let mut editor = editor_of(alloc, Shape::Int)?;
-    let spawn = Command::Spawn(given(alloc, Value::Int(5))?);
-    let queue = queue_of(alloc, spawn)?;
-    let _made = editor.submit(vec![in alloc; queue]?.as_slice())?;
+/// The queue of the one frame.
+fn one_spawn(alloc: Global) -> Result<Queue, Refusal> {
+    let components = given(alloc, Value::Int(5))?;
+    queue_of(alloc, Command::Spawn(components))
+}
+
+/// Undoes a frame and redoes it.
+fn goes_back_and_on(editor: &mut Editor) -> Result<(), Refusal> {
     editor.undo()?;
-    editor.redo()?;
-    Ok(editor.world().try_clone()?)
+    editor.redo()
+}
+
+/// An editor of the one frame, which was undone and redone.
+fn editor(alloc: Global) -> Result<Editor, Refusal> {
+    let queue = one_spawn(alloc)?;
+    let mut editor = editor_of(alloc, Shape::Int)?;
+    submit_one(alloc, &mut editor, queue)?;
+    goes_back_and_on(&mut editor)?;
+    Ok(editor)
+}
+
+/// The world after it.
+fn world(alloc: Global) -> Result<World, Refusal> {
+    let editor = editor(alloc)?;
+    let world = editor.world().try_clone()?;
+    Ok(world)
 }
 
 /// A record of the spawn, with this tick and this number; those of the frame are 0 and 5.

@@ -1,5 +1,5 @@
 //! A past that is kept outside, and taken up by another editor.
-use crate::small::{editor_of, first, given, queue_of};
+use crate::small::{editor_of, first, given, queue_of, submit_one};
 use scene_commands::{Command, Target};
 use scene_journal::FrameRecord;
 use scene_kinds::{Refusal, Shape, Value};
@@ -29,13 +29,23 @@ fn tree(alloc: Global) -> Result<Queue, Refusal> {
     Ok(queue)
 }
 
+/// Spawns the tree in one frame.
+fn grow(alloc: Global, editor: &mut Editor) -> Result<(), Refusal> {
+    let queue = tree(alloc)?;
+    submit_one(alloc, editor, queue)
+}
+
+/// Despawns the root with all below it.
+fn fell(alloc: Global, editor: &mut Editor) -> Result<(), Refusal> {
+    let queue = queue_of(alloc, Command::DespawnAll(Target::Id(first(0))))?;
+    submit_one(alloc, editor, queue)
+}
+
 /// An editor of two frames: the first spawns a tree, the second despawns all of it.
 fn grown_and_felled(alloc: Global) -> Result<Editor, Refusal> {
     let mut editor = editor_of(alloc, Shape::Tag)?;
-    let grow = vec![in alloc; tree(alloc)?]?;
-    let _grown = editor.submit(grow.as_slice())?;
-    let fell = queue_of(alloc, Command::DespawnAll(Target::Id(first(0))))?;
-    let _felled = editor.submit(vec![in alloc; fell]?.as_slice())?;
+    grow(alloc, &mut editor)?;
+    fell(alloc, &mut editor)?;
     Ok(editor)
 }
 
@@ -109,26 +119,38 @@ fn goes_on(editor: &mut Editor) -> bool {
         && is_felled(editor.world())
 }
 
-/// Takes all back.
-fn is_undone(editor: &mut Editor) -> bool {
-    editor.undo().is_ok() && editor.undo().is_ok() && editor.undo_len() == 0
+/// Whether a past that is taken up can be undone and redone, and how many rewinds that makes.
+fn past_taken_up(alloc: Global) -> Result<(bool, u64), Refusal> {
+    let before = grown_and_felled(alloc)?;
+    let mut editor = taken_up(alloc, &before)?;
+    let went = goes_back_and_on(&mut editor);
+    Ok((went, editor.rewinds()))
 }
 
 #[test]
 fn kept_past_is_undone_and_redone(rt: HostRuntime) -> Result<(), Fail> {
-    let before = grown_and_felled(rt.alloc())?;
-    let mut editor = taken_up(rt.alloc(), &before)?;
-    assert!(rt; goes_back_and_on(&mut editor));
-    assert_eq!(rt; editor.rewinds(), 2);
+    assert_eq!(rt; past_taken_up(rt.alloc()), Ok((true, 2)));
     Ok(())
+}
+
+/// An editor whose two frames were undone.
+fn undone(alloc: Global) -> Result<Editor, Refusal> {
+    let mut editor = grown_and_felled(alloc)?;
+    editor.undo()?;
+    editor.undo()?;
+    Ok(editor)
+}
+
+/// Whether a future that is taken up can be redone, and how many rewinds that makes.
+fn future_taken_up(alloc: Global) -> Result<(bool, u64), Refusal> {
+    let before = undone(alloc)?;
+    let mut editor = taken_up(alloc, &before)?;
+    let went = goes_on(&mut editor);
+    Ok((went, editor.rewinds()))
 }
 
 #[test]
 fn kept_future_is_redone(rt: HostRuntime) -> Result<(), Fail> {
-    let mut before = grown_and_felled(rt.alloc())?;
-    assert!(rt; is_undone(&mut before));
-    let mut editor = taken_up(rt.alloc(), &before)?;
-    assert!(rt; goes_on(&mut editor));
-    assert_eq!(rt; editor.rewinds(), 0);
+    assert_eq!(rt; future_taken_up(rt.alloc()), Ok((true, 0)));
     Ok(())
 }

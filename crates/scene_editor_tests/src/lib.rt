@@ -8,4 +8,4 @@ mod fault_tests;
 mod kept_tests;
 mod small;
 
-pub use small::{editor_of, first, given, queue_of};
+pub use small::{editor_of, first, given, queue_of, submit_one};

@@ -32,3 +32,10 @@ pub fn editor_of(alloc: Global, shape: Shape) -> Result<Editor, Refusal> {
     let _kind = schema.add(String::from_str(alloc, "A")?, shape)?;
     Ok(Editor::new(alloc, World::new(alloc, schema, 8)))
 }
+
+/// Submits a frame of one queue.
+pub fn submit_one(alloc: Global, editor: &mut Editor, queue: Queue) -> Result<(), Refusal> {
+    let queues = vec![in alloc; queue]?;
+    let _made = editor.submit(queues.as_slice())?;
+    Ok(())
+}

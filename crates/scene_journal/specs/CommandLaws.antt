@@ -18,7 +18,8 @@ pub record LeadTo (ds : List Delta) (w v : World) : Type 0 where
 
 -- an accepted command is the deltas that it notes
 abbrev pub CommandsAreDeltas : Type 0
-CommandsAreDeltas = (w v : World) (c : Command) (a : Option Entity) → IsValid w → are_in_range c ≡ true → perform w c ≡ Ok (a, v) → LeadTo (deltas_of w c) w v
+CommandsAreDeltas = (w v : World) (c : Command) (a : Option Entity) → IsValid w → are_in_range c ≡ true → perform w c ≡ Ok (a, v)
+    → LeadTo (deltas_of w c) w v
 
 -- those below an entity
 abbrev pub descendants : Forest → Entity → List Entity

@@ -48,10 +48,11 @@ abbrev pub despawned_each : List Entity → World → List Delta
 despawned_each [] w = []
 despawned_each (e ∷ es) w = despawned w e ++ despawned_each es (cut_row w e)
 
--- rows that are cut one after another: the world after them, and that each may be cut at its turn
+-- the world after these rows are cut, one after another
 abbrev pub cut_each : List Entity → World → World
 cut_each es w = after_all (λ e u. cut_row u e) es w
 
+-- each of these rows may be cut at its turn, and is noted as it stands then
 abbrev pub CanCutEach : List Entity → World → Type 0
 CanCutEach es w = MayAll (λ e u. (n : CutNote) × ((n.entity ≡ e) × CanCutNoted n u)) (λ e u. cut_row u e) es w
 

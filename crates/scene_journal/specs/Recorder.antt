@@ -11,6 +11,7 @@ pub record Recording : Type 0 where
   pub frame : Record
   pub room : Room
 
+-- a housed world with the record of its frame so far
 abbrev pub recording : Housed → Record → Recording
 recording h frame = record { world = h.world; frame = frame; room = h.room }
 

@@ -7,9 +7,11 @@ use Rattle.scene_kinds.specs.Map as map
 use Rattle.scene_resources.specs.Resources.{NamedCells}
 use Rattle.scene_model.specs.Valid.{is_timely}
 
+-- each cell of a row was added no later than it was changed, and changed no later than the tick
 abbrev pub row_is_timely : ℕ → Row → Bool
 row_is_timely tick row = list_all (λ c. is_timely tick c.1) row.cells
 
+-- each row is so
 abbrev pub rows_are_timely : ℕ → List Row → Bool
 rows_are_timely tick rows = list_all (row_is_timely tick) rows
 

@@ -3,6 +3,7 @@
 //!
 //! They stand in one crate, so that none of these is proved a second time for its tests. `Firsts` are links among the first
 //! entities of their indices, so that a test may link any two. `many` has what tests do to many children, one after another.
+//! `Pieces` and `Taker` are a reader and a writer that fail at one call, for the tests of other crates too.
 #![tactic(auto)]
 
 mod firsts;
@@ -14,9 +15,11 @@ mod many;
 mod resources_tests;
 #[cfg(test)]
 mod slots_tests;
+mod streams;
 #[cfg(test)]
 mod streams_tests;
 #[cfg(test)]
 mod table_tests;
 
 pub use firsts::{Firsts, first};
+pub use streams::{Pieces, Taker};

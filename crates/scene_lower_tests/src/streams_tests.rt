@@ -1,8 +1,9 @@
 //! Readers and writers that fail, at the limits and at each call in turn.
+use crate::streams::Taker;
 use scene_streams::{MOST_BYTES, MOST_TURNS, ReadError, Sink, Source};
 use std::alloc::Global;
 use std::io;
-use std::io::{ErrorKind, Read, Write};
+use std::io::{ErrorKind, Read};
 use std::test::Fail;
 
 /// Gives so many spaces, `step` a call, and fails at one call.
@@ -136,53 +137,20 @@ fn a_source_gives_the_bytes_of_its_reader(rt: HostRuntime) -> Result<(), Fail> {
     Ok(())
 }
 
-/// Takes two bytes a call, and at one call fails or takes none.
-#[derive(Drop)]
-struct Slow {
-    taken: Vec<u8>,
-    calls: u32,
-    stops_at: u32,
-    fails: bool,
-}
-
-impl Write for Slow {
-    fn write(&mut self, buf: &[u8]) -> io::Result<usize> {
-        self.calls = self.calls.saturating_add(1);
-        if self.calls == self.stops_at {
-            if self.fails {
-                return Err(io::Error::from(ErrorKind::Other));
-            }
-            return Ok(0);
-        }
-        let n = buf.len().min(2);
-        self.taken.extend_from_slice(&buf[..n])?;
-        Ok(n)
-    }
-
-    fn flush(&mut self) -> io::Result<()> {
-        Ok(())
-    }
-}
-
 /// A sink whose writer stops at one call, from 1, or at none for 0.
-fn slow_sink(alloc: Global, stops_at: u32, fails: bool) -> Sink<Slow> {
-    Sink::new(Slow {
-        taken: Vec::new(alloc),
-        calls: 0,
-        stops_at,
-        fails,
-    })
+fn slow_sink(alloc: Global, stops_at: u32, fails: bool) -> Sink<Taker> {
+    Sink::new(Taker::new(alloc, stops_at, fails))
 }
 
 /// Whether a sink whose writer stops at one call, from 1, takes just what came before it, fails, and calls the writer no
 /// more.
-fn stops_for_good(sink: Sink<Slow>, text: &[u8], stops_at: u32) -> bool {
+fn stops_for_good(sink: Sink<Taker>, text: &[u8], stops_at: u32) -> bool {
     let mut sink = sink;
     let failed = sink.write_all(text).is_err() && sink.has_failed();
     let again = sink.write_all(text).is_err() && sink.write_all(b"").is_err() && sink.has_failed();
     let writer = sink.into_inner();
     let length = text.len().min(2 * (stops_at as usize).saturating_sub(1));
-    failed && again && writer.calls == stops_at && writer.taken.as_slice() == &text[..length]
+    failed && again && writer.calls() == stops_at && writer.taken() == &text[..length]
 }
 
 #[test]
@@ -196,7 +164,7 @@ fn writes_a_prefix_where_a_write_stops_and_then_nothing(rt: HostRuntime) -> Resu
     }
     let mut sink = slow_sink(rt.alloc(), 6, true);
     assert!(rt; sink.write_all(text).is_ok() && !sink.has_failed());
-    assert!(rt; sink.get_ref().taken.as_slice() == &text[..]);
+    assert!(rt; sink.get_ref().taken() == &text[..]);
     Ok(())
 }
 
@@ -207,7 +175,7 @@ fn a_sink_takes_one_text_after_another(rt: HostRuntime) -> Result<(), Fail> {
         assert!(rt; sink.write_all(text.as_bytes()).is_ok(), "{text}");
     }
     assert!(rt; !sink.has_failed());
-    assert_eq!(rt; sink.get_ref().taken.as_slice(), &b"spawn A=1\n"[..]);
+    assert_eq!(rt; sink.get_ref().taken(), &b"spawn A=1\n"[..]);
     Ok(())
 }
 
@@ -216,6 +184,6 @@ fn nothing_to_write_calls_no_writer(rt: HostRuntime) -> Result<(), Fail> {
     let mut sink = slow_sink(rt.alloc(), 1, true);
     assert!(rt; sink.write_all(b"").is_ok());
     assert!(rt; !sink.has_failed());
-    assert_eq!(rt; sink.get_ref().calls, 0);
+    assert_eq!(rt; sink.get_ref().calls(), 0);
     Ok(())
 }

@@ -27,7 +27,8 @@ module _ (P : Type 0) (known : ∥ P ∥₁) where
     each_redo room rs (redone r w) (λ p. (get p).1),
   )
 
-pub found : (room : Room) (past future : List Record) (w : World) → ∥ CanUndoAll room past w × CanRedoAll room future w ∥₁ → CanUndoAll room past w × CanRedoAll room future w
+pub found : (room : Room) (past future : List Record) (w : World) → ∥ CanUndoAll room past w × CanRedoAll room future w ∥₁
+    → CanUndoAll room past w × CanRedoAll room future w
 found room past future w known =
     let all : Type 0 = CanUndoAll room past w × CanRedoAll room future w in
     (each_undo all known room past w (λ p. p.0), each_redo all known room future w (λ p. p.1))

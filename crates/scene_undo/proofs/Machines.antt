@@ -47,7 +47,8 @@ module _ (room : Room) (r : Record) (w : World) (rest others : List Record) (rew
   undone_once ws = record { past = worlds_along undone rest (undone r w); now = undone r w; future = ws; rewinds = rewinds + 1 }
 
   pub machine_undone : CanUndo room r w → nat_eq rewinds 18446744073709551615 ≡ false
-      → undo (machine_of (record { world = w; past = r ∷ rest; future = others; rewinds = rewinds })) ≡ Ok (tt, machine_of (record { world = undone r w; past = rest; future = r ∷ others; rewinds = rewinds + 1 }))
+      → undo (machine_of (record { world = w; past = r ∷ rest; future = others; rewinds = rewinds }))
+      ≡ Ok (tt, machine_of (record { world = undone r w; past = rest; future = r ∷ others; rewinds = rewinds + 1 }))
   machine_undone can few =
       ap (λ b. if b then refuse TickFull else Ok (tt, undone_once (w ∷ worlds_along redone others w))) few
       ∙ ap (λ ws. Ok (tt, undone_once ws)) (sym (undone_worlds room r w valid held others can))
@@ -56,7 +57,8 @@ module _ (room : Room) (r : Record) (w : World) (rest others : List Record) (rew
   redone_once ws = record { past = ws; now = redone r w; future = worlds_along redone rest (redone r w); rewinds = rewinds }
 
   pub machine_redone : CanRedo room r w
-      → redo (machine_of (record { world = w; past = others; future = r ∷ rest; rewinds = rewinds })) ≡ Ok (tt, machine_of (record { world = redone r w; past = r ∷ others; future = rest; rewinds = rewinds }))
+      → redo (machine_of (record { world = w; past = others; future = r ∷ rest; rewinds = rewinds }))
+      ≡ Ok (tt, machine_of (record { world = redone r w; past = r ∷ others; future = rest; rewinds = rewinds }))
   machine_redone can = ap (λ ws. Ok (tt, redone_once ws)) (sym (redone_worlds room r w valid held others can))
 
 -- numbers that aren't equal are told apart
@@ -70,10 +72,13 @@ told_apart m n differ = elim (nat_eq m n) as (λ b. nat_eq m n ≡ b → b ≡ f
 
 module _ (w v : World) (past future : List Record) (rewinds : ℕ) (queues : List (List Request)) where
   pub machine_submitted : (r : Record) (es : List Entity) → undone r v ≡ w → frame queues w ≡ Ok (es, v)
-      → call (machine_of (record { world = w; past = past; future = future; rewinds = rewinds })) (Submit queues) ≡ Ok (es, machine_of (record { world = v; past = r ∷ past; future = []; rewinds = rewinds }))
+      → call (machine_of (record { world = w; past = past; future = future; rewinds = rewinds })) (Submit queues)
+      ≡ Ok (es, machine_of (record { world = v; past = r ∷ past; future = []; rewinds = rewinds }))
   machine_submitted r es back is =
       let m = machine_of (record { world = w; past = past; future = future; rewinds = rewinds }) in
-      ap (submitted m) is ∙ (λ i. Ok (es, record { past = sym back i ∷ worlds_along undone past (sym back i); now = v; future = []; rewinds = rewinds }))
+      ap (submitted m) is ∙ (λ i. Ok
+      (es, record { past = sym back i ∷ worlds_along undone past (sym back i); now = v; future = []; rewinds = rewinds }))
 
-  pub machine_refused : (r : Refusal) → frame queues w ≡ Err r → call (machine_of (record { world = w; past = past; future = future; rewinds = rewinds })) (Submit queues) ≡ Err r
+  pub machine_refused : (r : Refusal) → frame queues w ≡ Err r
+      → call (machine_of (record { world = w; past = past; future = future; rewinds = rewinds })) (Submit queues) ≡ Err r
   machine_refused r is = ap (submitted (machine_of (record { world = w; past = past; future = future; rewinds = rewinds }))) is

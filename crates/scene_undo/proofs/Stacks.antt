@@ -64,7 +64,8 @@ turns Redo room r w valid held can = record {
 pub all_fit : (way : Direction) (room : Room) (rs : List Record) (w : World) → CanAll way room rs w → AllFit way rs w
 all_fit way room = undo_more (Can way room) (step way) (Fits way) (can_fits way room)
 
-pub all_wider : (way : Direction) (room wider : Room) → IsWider room wider → (rs : List Record) (w : World) → CanAll way room rs w → CanAll way wider rs w
+pub all_wider : (way : Direction) (room wider : Room) → IsWider room wider → (rs : List Record) (w : World) → CanAll way room rs w
+    → CanAll way wider rs w
 all_wider way room wider wide = undo_more (Can way room) (step way) (Can way wider) (can_wider way room wider wide)
 
 pub record IsHome (way : Direction) (room : Room) (rs : List Record) (w : World) : Type 0 where
@@ -92,7 +93,8 @@ no_fault way rs w n k f all =
     fault_unfits way f.unfit (after_stack way f.behind w) k f.fault
     (undo_parts (Fits way) (step way) f.before (f.unfit ∷ f.behind) w (subst (λ xs. AllFit way xs w) f.cut all)).0.1
 
-module _ (way : Direction) (room : Room) (rs : List Record) (w v : World) (left before taken : List Record) (r : Record) (cut : left ≡ before ++ r ∷ [])
+module _ (way : Direction) (room : Room) (rs : List Record) (w v : World) (left before taken : List Record) (r : Record)
+    (cut : left ≡ before ++ r ∷ [])
     (now : IsTakenTo (step way) rs w left v taken) (can : CanAll way room taken w) where
   pub counted : (n : ℕ) → n ≡ length rs - length left → n ≡ length taken
   counted n is =
@@ -100,7 +102,8 @@ module _ (way : Direction) (room : Room) (rs : List Record) (w v : World) (left 
       omega (arith, both, is)
 
   pub fault_here : (refusal other : Refusal) (n : ℕ) → n ≡ length rs - length left → Names (IsFault way r v) refusal
-      → ((k : ℕ) → refusal ≡ refusal_of (BadRecord 0 k) → other ≡ refusal_of (BadRecord n k)) → (refusal ≡ refusal_of NoMemory → other ≡ refusal_of NoMemory)
+      → ((k : ℕ) → refusal ≡ refusal_of (BadRecord 0 k) → other ≡ refusal_of (BadRecord n k))
+      → (refusal ≡ refusal_of NoMemory → other ≡ refusal_of NoMemory)
       → NamesFrame (IsFirstFault way rs w) other
   fault_here refusal other n is named same memory differs =
       let found = named (λ none. differs (memory none)) in (

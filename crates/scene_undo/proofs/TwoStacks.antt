@@ -36,7 +36,8 @@ in_range way rs w r named frame delta is =
     ap length found.2.1.cut ∙ length-append found.2.1.before (found.2.1.unfit ∷ found.2.1.behind) in
     omega (arith, number, behind, all)
 
-pub past_fault : (past future : List Record) (w : World) (r : Refusal) → NamesFrame (IsFirstFault Undo past w) r → NamesFrame (IsFaultOf past future w) r
+pub past_fault : (past future : List Record) (w : World) (r : Refusal) → NamesFrame (IsFirstFault Undo past w) r
+    → NamesFrame (IsFaultOf past future w) r
 past_fault past future w r named other =
     let found = named other in (
       found.0,

@@ -33,11 +33,13 @@ rest_of : {S : Type 0} (q : ℕ) (s t : S) (es fs : List Entity) (r : Option (�
 rest_of q s t es fs None rest h = h
 rest_of q s t es fs (Some x) rest h = absurd (not_ok (fs, t) _ h)
 
-others_of : {S : Type 0} (t : S) (es fs : List Entity) (o : Outcome (List Entity) S) → and_then o (λ gs u. Ok (es ++ gs, u)) ≡ Ok (fs, t) → (gs : List Entity) × (o ≡ Ok (gs, t))
+others_of : {S : Type 0} (t : S) (es fs : List Entity) (o : Outcome (List Entity) S) → and_then o (λ gs u. Ok (es ++ gs, u)) ≡ Ok (fs, t)
+    → (gs : List Entity) × (o ≡ Ok (gs, t))
 others_of t es fs (Ok p) h = (p.0, λ i. Ok (p.0, (same_world (es ++ p.0) fs p.1 t h).1 i))
 others_of t es fs (Err r) h = absurd (not_ok (fs, t) r h)
 
-pub after_whole : {N : Type 0} (note : Note N) (q : ℕ) (rss : List (List Request)) (s t : Staged N) (es : List Entity) → queues_from (act note) q rss s ≡ Ok (es, t) → after_queues note rss s ≡ t
+pub after_whole : {N : Type 0} (note : Note N) (q : ℕ) (rss : List (List Request)) (s t : Staged N) (es : List Entity)
+    → queues_from (act note) q rss s ≡ Ok (es, t) → after_queues note rss s ≡ t
 after_whole note q [] s t es h = (same_world [] es s t h).1
 after_whole note q (rs ∷ rss) s t es h =
     let e = play (act note) rs s in
@@ -69,11 +71,13 @@ module _ (w u : World) (valid : IsValid w) (raises : raise_tick w ≡ Ok (tt, u)
   lowered = ap (λ x. set_tick x w.tick) is_raised ∙ (ticks_come_back w.tick (w.tick + 1)).comes_back w valid can
 
   -- the record that was noted on the way is that of the frame
-  pub record_is : (queues : List (List Request)) (es : List Entity) (v : World) (ds : List Delta) → queues_from (act deltas_of) 0 queues (record { world = u; notes = [] }) ≡ Ok (es, record { world = v; notes = ds })
+  pub record_is : (queues : List (List Request)) (es : List Entity) (v : World) (ds : List Delta)
+      → queues_from (act deltas_of) 0 queues (record { world = u; notes = [] }) ≡ Ok (es, record { world = v; notes = ds })
       → record_of w.tick ds ≡ frame_record queues w
   record_is queues es v ds whole =
       ap (record_of w.tick) (sym (ap (λ (s : Staged Delta). s.notes)
-      (ap (λ x. after_queues deltas_of queues (record { world = x; notes = [] })) (sym is_raised) ∙ after_whole deltas_of 0 queues (record { world = u; notes = [] }) (record { world = v; notes = ds }) es whole)))
+      (ap (λ x. after_queues deltas_of queues (record { world = x; notes = [] })) (sym is_raised)
+      ∙ after_whole deltas_of 0 queues (record { world = u; notes = [] }) (record { world = v; notes = ds }) es whole)))
 
   -- and it can be undone, which gives the world from before
   module _ (room : Room) (v : World) (ds : List Delta) (ready : AreReady room ds v) (back : back_all ds v ≡ u) where

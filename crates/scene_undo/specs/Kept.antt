@@ -16,9 +16,10 @@ pub record CanRedo (room : Room) (r : Record) (w : World) : Type 0 where
   pub fits : RecordFitsOn r w
   pub ready : AreReadyOn room r.deltas (raised w)
 
--- all records of a past, the newest first, and all of a future, the next one first
+-- all records of a past can be undone, the newest first
 abbrev pub CanUndoAll : Room → List Record → World → Type 0
 CanUndoAll room rs w = MayAll (CanUndo room) undone rs w
 
+-- all records of a future can be redone, the next one first
 abbrev pub CanRedoAll : Room → List Record → World → Type 0
 CanRedoAll room rs w = MayAll (CanRedo room) redone rs w

@@ -19,7 +19,8 @@ set_tick-requires c =
     let u = c.raise_tick.new.self.world in
     let v = c.recorded-after.result.0.world in
     let back : v ≡ u = subst (λ r. OnErr r (v ≡ u)) c.in-Err-outcome.is c.recorded-after.ensures.same in
-    subst (λ x. CanSetTick x c.tick-tick.result) (sym back) (subst (CanSetTick u) (sym c.tick-tick.ensures.tick) (lowers w u c.tick-tick.ensures.valid c.in_default.ensures.answer))
+    subst (λ x. CanSetTick x c.tick-tick.result) (sym back)
+    (subst (CanSetTick u) (sym c.tick-tick.ensures.tick) (lowers w u c.tick-tick.ensures.valid c.in_default.ensures.answer))
 
 pub returns-in-Ok-clause-noted : goal.returns-in-Ok-clause-noted
 returns-in-Ok-clause-noted c =
@@ -27,7 +28,9 @@ returns-in-Ok-clause-noted c =
     let u = c.raise_tick.new.self.world in
     let v = c.recorded-after.result.0.world in
     let queues = frame_of c.args.queues.now in
-    let whole = subst (λ r. IfOk r (λ p. queues_from (act deltas_of) 0 queues (record { world = u; notes = [] }) ≡ Ok (p.0.entities.items, record { world = v; notes = p.1.items }))) c.in-Ok.is c.recorded-after.ensures.noted in
+    let whole = subst (λ r. IfOk r
+    (λ p. queues_from (act deltas_of) 0 queues (record { world = u; notes = [] })
+    ≡ Ok (p.0.entities.items, record { world = v; notes = p.1.items }))) c.in-Ok.is c.recorded-after.ensures.noted in
     c.new-kept.ensures ∙ ap (λ n. record_of n c.in-Ok.done.1.items) c.tick-tick.ensures.tick
     ∙ record_is w u c.tick-tick.ensures.valid c.in_default.ensures.answer queues c.in-Ok.done.0.entities.items v c.in-Ok.done.1.items whole
 

@@ -19,7 +19,8 @@ loop-frame-preserved c =
       (
         r ∷ now.0,
         (
-          taken_next (step way) c.args.frames.now w v.world c.loop-frame.left.now c.in-Some.before.now now.0 r c.in-Some.ensures.cases.0 now.1.0 next.world done,
+          taken_next (step way) c.args.frames.now w v.world c.loop-frame.left.now c.in-Some.before.now now.0 r c.in-Some.ensures.cases.0 now.1.0
+              next.world done,
           (all_wider way v.room next.room c.check.ensures.wide now.0 w now.1.1, subst (Can way next.room r) now.1.0.1 can),
         ),
       ),

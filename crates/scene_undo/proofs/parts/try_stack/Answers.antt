@@ -23,4 +23,5 @@ returns-clause-same c =
     let rs = c.args.frames.now in
     let held = holds_wider c.args.draft.now.room v.room w c.go_through.ensures.wide c.room_holds.ensures in
     let there = home way v.room rs w c.tick-tick.ensures.valid held c.in_ok-go_through.ensures.can in
-    c.in_ok-go_home.ensures.done ∙ ap (λ o. after_list o rs v.world) c.opposite.ensures ∙ ap (after_list (opposite way) rs) c.in_ok-go_through.ensures.done ∙ there.back
+    c.in_ok-go_home.ensures.done ∙ ap (λ o. after_list o rs v.world) c.opposite.ensures
+    ∙ ap (after_list (opposite way) rs) c.in_ok-go_through.ensures.done ∙ there.back

@@ -5,4 +5,5 @@ use Rattle.scene_undo.proofs.records.redo_record.Goals as goal
 
 pub set_tick-requires : goal.set_tick-requires
 set_tick-requires c =
-    subst (CanSetTick c.args.world.now.world) (sym (ap (λ n. n + 1) c.tick-tick.ensures.tick)) (can_raise c.args.world.now.world c.tick-tick.ensures.valid c.requires.fits.low)
+    subst (CanSetTick c.args.world.now.world) (sym (ap (λ n. n + 1) c.tick-tick.ensures.tick))
+    (can_raise c.args.world.now.world c.tick-tick.ensures.valid c.requires.fits.low)

@@ -11,7 +11,8 @@ returns-in-Undo-clause-can c =
 
 pub returns-in-Undo-clause-refused : goal.returns-in-Undo-clause-refused
 returns-in-Undo-clause-refused c =
-    subst (λ way. IfErr c.undo_checked.result (Names (IsFault way c.args.frame.now c.args.draft.now.world))) (sym c.in-Undo.is) c.undo_checked.ensures.refused
+    subst (λ way. IfErr c.undo_checked.result (Names (IsFault way c.args.frame.now c.args.draft.now.world))) (sym c.in-Undo.is)
+    c.undo_checked.ensures.refused
 
 pub returns-in-Redo-clause-can : goal.returns-in-Redo-clause-can
 returns-in-Redo-clause-can c =
@@ -20,4 +21,5 @@ returns-in-Redo-clause-can c =
 
 pub returns-in-Redo-clause-refused : goal.returns-in-Redo-clause-refused
 returns-in-Redo-clause-refused c =
-    subst (λ way. IfErr c.redo_checked.result (Names (IsFault way c.args.frame.now c.args.draft.now.world))) (sym c.in-Redo.is) c.redo_checked.ensures.refused
+    subst (λ way. IfErr c.redo_checked.result (Names (IsFault way c.args.frame.now c.args.draft.now.world))) (sym c.in-Redo.is)
+    c.redo_checked.ensures.refused

@@ -25,7 +25,8 @@ invariant_of-result c =
     let same = c.in_ok-try_stack.ensures.same in
     let undoes = subst (λ rs. CanAll Undo first.room rs w) c.as_slice.ensures.value c.in_ok-try_stack.ensures.can in
     let redoes =
-    subst (λ u. CanAll Redo last.room c.args.future.items u) same (subst (λ rs. CanAll Redo last.room rs first.world) c.as_slice-2.ensures.value c.in-Ok.ensures.can) in
+    subst (λ u. CanAll Redo last.room c.args.future.items u) same
+    (subst (λ rs. CanAll Redo last.room rs first.world) c.as_slice-2.ensures.value c.in-Ok.ensures.can) in
     let both = kept first.room last.room c.args.past.items c.args.future.items w c.try_stack-2.ensures.wide undoes redoes in
     let here : last.world ≡ w = c.in-Ok.ensures.same ∙ same in
     let at = subst (λ u. CanUndoAll last.room (reverse c.args.past.items) u × CanRedoAll last.room (reverse c.args.future.items) u) (sym here) both in
@@ -65,8 +66,10 @@ pub returns-in-Err-clause-refused : goal.returns-in-Err-clause-refused
 returns-in-Err-clause-refused c =
     let w = c.args.world.world in
     let first = c.try_stack.new.draft in
-    let fits = all_fit Undo first.room c.args.past.items w (subst (λ rs. CanAll Undo first.room rs w) c.as_slice.ensures.value c.in_ok-try_stack.ensures.can) in
+    let fits = all_fit Undo first.room c.args.past.items w
+    (subst (λ rs. CanAll Undo first.room rs w) c.as_slice.ensures.value c.in_ok-try_stack.ensures.can) in
     let here = subst (λ u. NamesFrame (IsFirstFault Redo c.args.future.items u) c.in-Err.refusal) c.in_ok-try_stack.ensures.same
     (subst (λ rs. NamesFrame (IsFirstFault Redo rs first.world) c.in-Err.refusal) c.as_slice-2.ensures.value c.in-Err.ensures.refused) in
     future_fault c.args.past.items c.args.future.items w c.in-Err.refusal c.after_frames.result fits here
-    (λ frame delta is. c.after_frames.ensures.named frame delta is ∙ ap (λ n. refusal_of (BadRecord (n + frame) delta)) (c.len.ensures ∙ c.args.past.ok.0)) c.after_frames.ensures.memory
+    (λ frame delta is. c.after_frames.ensures.named frame delta is
+    ∙ ap (λ n. refusal_of (BadRecord (n + frame) delta)) (c.len.ensures ∙ c.args.past.ok.0)) c.after_frames.ensures.memory

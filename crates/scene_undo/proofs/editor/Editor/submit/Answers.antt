@@ -23,13 +23,18 @@ invariant_of-self-in-Ok c =
     let wide = subst (λ (h : Housed). IsWider h.room v.room) c.replace-world.ensures.value c.frame-world.ensures.wide in
     let can = subst (λ r. IfOk r (λ f. CanUndo v.room f.kept v.world)) c.in-Ok.is c.frame-world.ensures.can in
     let back : undone kept v.world ≡ w.world =
-    subst (λ r. IfOk r (λ f. undone f.kept v.world ≡ c.replace-world.result.world)) c.in-Ok.is c.frame-world.ensures.back ∙ ap (λ (h : Housed). h.world) c.replace-world.ensures.value in
+    subst (λ r. IfOk r (λ f. undone f.kept v.world ≡ c.replace-world.result.world)) c.in-Ok.is c.frame-world.ensures.back
+    ∙ ap (λ (h : Housed). h.world) c.replace-world.ensures.value in
     let onto : reverse c.push_reserved.new.self.items ≡ kept ∷ reverse c.self.inside.past.items =
     ap reverse c.push_reserved.ensures.items
     ∙ reverse_push c.reserve.new.self.items kept
     ∙ ap (λ rs. kept ∷ reverse rs) c.reserve.ensures.items in
     ∣ (
-      subst (λ rs. CanUndoAll v.room rs v.world) (sym onto) (can, subst (CanUndoAll v.room (reverse c.self.inside.past.items)) (sym back) (undo_wider w.room v.room (reverse c.self.inside.past.items) w.world wide both.0)),
+      subst (λ rs. CanUndoAll v.room rs v.world) (sym onto) (
+        can,
+        subst (CanUndoAll v.room (reverse c.self.inside.past.items)) (sym back)
+            (undo_wider w.room v.room (reverse c.self.inside.past.items) w.world wide both.0),
+      ),
       subst (λ rs. CanRedoAll v.room (reverse rs) v.world) (sym c.new-in-Ok.ensures.items) tt,
     ) ∣₁
 
@@ -38,10 +43,13 @@ invariant_of-self-in-Err c =
     let w = c.self.inside.world in
     let v = c.frame-world.result.0 in
     let both = found w.room (reverse c.self.inside.past.items) (reverse c.self.inside.future.items) w.world c.self.invariant in
-    let same : v.world ≡ w.world = subst (λ r. OnErr r (v.world ≡ c.replace-world.result.world)) c.in-Err.is c.frame-world.ensures.same ∙ ap (λ (h : Housed). h.world) c.replace-world.ensures.value in
+    let same : v.world ≡ w.world = subst (λ r. OnErr r (v.world ≡ c.replace-world.result.world)) c.in-Err.is c.frame-world.ensures.same
+    ∙ ap (λ (h : Housed). h.world) c.replace-world.ensures.value in
     let wide = subst (λ (h : Housed). IsWider h.room v.room) c.replace-world.ensures.value c.frame-world.ensures.wide in
     ∣ (
       subst (λ rs. CanUndoAll v.room (reverse rs) v.world) (sym c.reserve.ensures.items)
-          (subst (CanUndoAll v.room (reverse c.self.inside.past.items)) (sym same) (undo_wider w.room v.room (reverse c.self.inside.past.items) w.world wide both.0)),
-      subst (CanRedoAll v.room (reverse c.self.inside.future.items)) (sym same) (redo_wider w.room v.room (reverse c.self.inside.future.items) w.world wide both.1),
+          (subst (CanUndoAll v.room (reverse c.self.inside.past.items)) (sym same)
+          (undo_wider w.room v.room (reverse c.self.inside.past.items) w.world wide both.0)),
+      subst (CanRedoAll v.room (reverse c.self.inside.future.items)) (sym same)
+          (redo_wider w.room v.room (reverse c.self.inside.future.items) w.world wide both.1),
     ) ∣₁

@@ -1,0 +1,15 @@
+//! Tests of scene files: that memory is found for what is good, that streams fail at each call, the limits of a text, and
+//! texts that were worked out by hand. Which fault comes, and what is written, say clauses, which are proved.
+//!
+//! They stand here, above scene_file, so that it isn't proved a second time for its tests.
+#![tactic(auto)]
+
+#[cfg(test)]
+mod stream_tests;
+#[cfg(test)]
+mod text_tests;
+mod texts;
+#[cfg(test)]
+mod world_tests;
+
+pub use texts::{MOVED, SMALL, fault_name, load_name, load_text_name};
