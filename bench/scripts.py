@@ -1,6 +1,6 @@
 #!/usr/bin/env python3
 """Writes scripts, the same ones each time:  scripts.py FOLDER SIZE..  makes FOLDER/WORK.SIZE.txt of some SIZE lines each."""
-import pathlib, random, sys
+import json, pathlib, random, sys
 
 KINDS = ["kind Health Int", "kind Position Vec3", "kind Fixed Tag", "kind Name Text"]
 
@@ -73,9 +73,29 @@ def trees(size, chance):
         yield f"parent {at}v1 {chance.randrange(max(0, at - 20), at)}v1"
     yield from ["despawnall 0v1", "undo", "redo", "undo"]
 
+def row(at, *cells):
+    """A row of an entity whose cells are all of tick 1."""
+    return {"cells": [[cell, 1, 1] for cell in cells], "entity": f"{at}v1"}
+
+def loads(size, chance):
+    """A scene of as many entities, in two tables and with children below some, is loaded and dumped."""
+    tables = [
+        {"kinds": [0], "rows": [row(at, at) for at in range(0, size, 2)]},
+        {"kinds": [0, 1], "rows": [row(at, at, [at, 0, -at]) for at in range(1, size, 2)]},
+    ]
+    children = [
+        {"list": [f"{child}v1" for child in range(at + 1, min(at + 10, size))], "parent": f"{at}v1"}
+        for at in range(0, size - 1, 10)
+    ]
+    scene = {
+        "children": children, "free": [], "generations": [1] * size, "kinds": [["Health", "Int"], ["Position", "Vec3"]],
+        "limit": 1048576, "resources": [], "scene": 1, "tables": tables, "tick": 1,
+    }
+    yield from ["load " + json.dumps(scene, separators=(",", ":")), "dump"]
+
 folder = pathlib.Path(sys.argv[1])
 folder.mkdir(parents=True, exist_ok=True)
 for size in map(int, sys.argv[2:]):
-    for work in (spawns, bigframe, refused, undoredo, moves, churn, trees):
+    for work in (spawns, bigframe, refused, undoredo, moves, churn, trees, loads):
         lines = [*KINDS, *work(size, random.Random(size)), "mark"]
         (folder / f"{work.__name__}.{size}.txt").write_text("\n".join(lines) + "\n")

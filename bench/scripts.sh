@@ -1,6 +1,6 @@
 #!/usr/bin/env bash
 # What scripts cost: frames of one command and of very many, refused ones, undo and redo of everything, moves between tables,
-# indices that are taken again, and trees.
+# indices that are taken again, trees, and scene texts that are loaded and dumped.
 #
 #   bench/scripts.sh [MOST [PROGRAM]]     at the top of the repository; scripts of 10,000 lines and more, up to MOST, 100000 if
 #                                         none is given; by ./scene's program if none is given

@@ -63,6 +63,8 @@ fn world_in(alloc: Global, text: &[u8]) -> Result<World, FileFault>
 {
     let value = value_of(alloc, text)?;
     let parts = parts_in(alloc, &value)?;
+    // the value takes far more memory than the world
+    drop(value);
     world_of(alloc, parts)
 }
 
