@@ -34,14 +34,14 @@ none_last w e cells v none is =
 front_longer : {X : Type 0} (xs : List X) (x : X) → last xs ≡ Some x → length (front xs) + 1 ≡ length xs
 front_longer xs x is = sym (length-append (front xs) (x ∷ [])) ∙ ap length (push-last xs x is)
 
-module _ (w : World) (e : Entity) (t : TableState) (place : ℕ) (v : IsValid w) (s : Stands w e t place) (cells : List (ℕ × Cell)) where
+module _ (w : World) (e : Entity) (t : TableState) (place : ℕ) (v : IsValid w) (s : Stands w e t place) (whole : t.rows ≡ rows_at w.tables t.mask) (cells : List (ℕ × Cell)) where
   abbrev here : Option (Home × Row) → Home × Row
   here None = (record { mask = t.mask; place = place }, s.row)
   here (Some p) = p
 
   -- its table has the rows of its kind set
   rows_here : (other : ℕ) → HasRow w e other cells → t.rows ≡ rows_at w.tables (mask_of cells)
-  rows_here other has = s.rows ∙ ap (λ o. rows_at w.tables (here o).0.mask) (sym s.found ∙ has)
+  rows_here other has = whole ∙ ap (λ o. rows_at w.tables (here o).0.mask) (sym s.found ∙ has)
 
   pub is_last : place + 1 ≡ length t.rows → s.row.cells ≡ cells → HasLastRow w e cells
   is_last end same =

@@ -9,6 +9,7 @@ pub mod Ends
 pub mod FewChildren
 pub mod Folds
 pub mod FrameLaws
+pub mod Inserts
 pub mod LastRow
 pub mod Lists
 pub mod NextEntity

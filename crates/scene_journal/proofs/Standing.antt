@@ -1,5 +1,5 @@
 -- Where the row of an entity stands, from what the readers of a world say.
-use Rattle.std.proofs.Common.{◌≡◌, ℕ, List, refl, ap, subst, sym, ◌∙◌, Option, Some, None}
+use Rattle.std.proofs.Common.{◌≡◌, ◌<◌, ℕ, List, refl, ap, subst, sym, ◌∙◌, Option, Some, None}
 use Rattle.std.specs.Prelude.{option_map, slice_get}
 use Rattle.std.proofs.lemmas.Option.{same_Some}
 use Rattle.scene_kinds.specs.declared.entity.Entity.{Entity}
@@ -11,10 +11,11 @@ use Rattle.scene_table.specs.declared.home.Home.{Home}
 use Rattle.scene_table.specs.Table.{TableState}
 use Rattle.scene_table.specs.Tables.{rows_at, row_at}
 use Rattle.scene_table.proofs.Homes.{home_found}
-use Rattle.scene_model.specs.World.{World, home_of, mask_at, place_at, rows_of}
+use Rattle.scene_model.specs.World.{World, home_of, mask_at, place_at, row_of, rows_of}
 use Rattle.scene_model.specs.Can.{HasRow}
 use Rattle.scene_model.specs.Raw.{listed_cells, cells_of}
 use Rattle.scene_model.specs.Valid.{IsValid}
+use Rattle.scene_model.proofs.Bounds.{place_low}
 use Rattle.scene_model.proofs.RowOf.{homed, row_there}
 use Rattle.scene_journal.specs.Standing.{Stands}
 
@@ -23,8 +24,38 @@ listed_rows : (o : Option (Row × List Row)) (rows : List Row) → option_map wh
 listed_rows None rows h = absurd (let k : None ≡ Some rows = h in cc)
 listed_rows (Some p) rows h = same_Some (whole p) rows h
 
-pub stands : (w : World) (e : Entity) (t : TableState) (place : ℕ) → mask_at w e ≡ Some t.mask → place_at w e ≡ Some place → rows_of w t.mask ≡ Some t.rows → Stands w e t place
-stands w e t place mask_is place_is rows_are =
+-- the table of a kind set that has rows has all of them
+pub rows_whole : (w : World) (t : TableState) → rows_of w t.mask ≡ Some t.rows → t.rows ≡ rows_at w.tables t.mask
+rows_whole w t are = sym (listed_rows (map.get w.tables t.mask) t.rows are)
+
+-- an entity's row stands where it was found
+pub stands : (w : World) (e : Entity) (t : TableState) (place : ℕ) → Some (slice_get t.rows place) ≡ option_map (λ (found : Home × Row). Some found.1) (row_of w e)
+    → Some (record { mask = t.mask; place = place }) ≡ home_of w e → Stands w e t place
+stands w e t place row home =
+    let here : Home = record { mask = t.mask; place = place } in
+    let found = home_found w.tables e here (sym home) in
+    let is : row_of w e ≡ Some (here, found.row) = ap (homed w.tables) (sym home) ∙ ap (λ o. option_map (λ (r : Row). (here, r)) o) found.there in
+    record {
+      row = found.row;
+      found = is;
+      there = same_Some (slice_get t.rows place) (Some found.row) (row ∙ ap (λ o. option_map (λ (found : Home × Row). Some found.1) o) is);
+    }
+
+-- its place is low
+pub place_here : (w : World) (e : Entity) (mask place : ℕ) → IsValid w → Some (record { mask = mask; place = place }) ≡ home_of w e → place < 1048576
+place_here w e mask place v home =
+    let here : Home = record { mask = mask; place = place } in
+    let found = home_found w.tables e here (sym home) in
+    place_low w v here found.row found.there
+
+-- an entity without a row is not found
+pub none_found : (o : Option (Home × Row)) → None ≡ option_map (λ (found : Home × Row). Some found.1) o → o ≡ None
+none_found None h = refl
+none_found (Some p) h = absurd (let no : None ≡ Some (Some p.1) = h in cc)
+
+-- the same by the readers of its kind set and its place
+pub stands_in_whole : (w : World) (e : Entity) (t : TableState) (place : ℕ) → mask_at w e ≡ Some t.mask → place_at w e ≡ Some place → rows_of w t.mask ≡ Some t.rows → Stands w e t place
+stands_in_whole w e t place mask_is place_is rows_are =
     elim (home_of w e) as (λ o. home_of w e ≡ o → option_map (λ (h : Home). h.mask) o ≡ Some t.mask → option_map (λ (h : Home). h.place) o ≡ Some place → Stands w e t place) [
       | None ↦ λ q m p. absurd (let k : None ≡ Some place = p in cc)
       | Some h ↦ λ q m p.
@@ -34,7 +65,6 @@ stands w e t place mask_is place_is rows_are =
           record {
             row = found.row;
             found = ap (homed w.tables) q ∙ ap (λ o. option_map (λ (r : Row). (h, r)) o) found.there ∙ ap (λ g. Some (g, found.row)) home;
-            rows = sym rows;
             there = ap (λ rs. slice_get rs place) (sym rows) ∙ ap (row_at w.tables) (sym home) ∙ found.there;
           }
     ] refl mask_is place_is

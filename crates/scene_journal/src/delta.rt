@@ -2,6 +2,7 @@
 ghost use Rattle.std.specs.Prelude.{◌≡◌, ◌↔◌, IfOk, IsTrue};
 ghost use Rattle.scene_journal.specs.Deltas.{FitsOn, FitsBack};
 
+use crate::resource_cell::ResourceCell;
 use crate::{fits, fits_back};
 use scene_kinds::{Cell, Cells, Entity, Text};
 use scene_world::World;
@@ -53,8 +54,8 @@ pub enum Delta {
     /// A resource got another cell, or none.
     ResourceSet {
         name: Text,
-        before: Option<Cell>,
-        after: Option<Cell>,
+        before: ResourceCell,
+        after: ResourceCell,
     },
 }
 

@@ -15,6 +15,7 @@ ghost use Rattle.scene_model.specs.Valid.{is_timely};
 ghost use Rattle.scene_journal.specs.Ascending.{kinds_ascend};
 ghost use Rattle.scene_journal.specs.Standing.{Stands};
 
+use crate::resource_cell::ResourceCell;
 use crate::same::{same_cell, same_cells};
 use scene_alloc::Slots;
 use scene_kinds::{Cell, CellRef, Cells, Entity, Schema, Text, good_name};
@@ -96,10 +97,10 @@ pub(crate) fn standing(world: &World, entity: Entity) -> Option<(&Table, u32)>
     ensures none { IfNone result (row_of world.now.world entity ≡ None) }
     ensures some { IfSome result (λ s. Stands world.now.world entity s.0.now s.1) }
 {
-    let mask = world.mask_of(entity)?;
-    let place = world.place_of(entity)?;
-    let table = world.rows_of(mask)?;
-    Some((table, place))
+    // This tells the prover that the world is valid.
+    let _tick = world.tick();
+    let (table, place) = world.row_of(entity)?;
+    Some((table, place as u32))
 }
 
 /// Whether an entry has this kind and this cell.
@@ -246,10 +247,10 @@ pub(crate) fn can_set_cell(
 }
 
 /// Whether a resource has this cell, or none.
-fn has_resource(world: &World, name: &str, cell: &Option<Cell>) -> bool
+fn has_resource(world: &World, name: &str, cell: &ResourceCell) -> bool
     ensures { IsTrue result ↔ (resource_of world.now.world.resources name.now ≡ cell.now) }
 {
-    match (world.resources().get(name), cell) {
+    match (world.resources().get(name), cell.get()) {
         (Some(there), Some(cell)) => same_cells(there, cell),
         (None, None) => true,
         _ => false,
@@ -257,10 +258,10 @@ fn has_resource(world: &World, name: &str, cell: &Option<Cell>) -> bool
 }
 
 /// Whether a resource may have this cell, or none.
-fn may_have_resource(world: &World, cell: &Option<Cell>) -> bool
+fn may_have_resource(world: &World, cell: &ResourceCell) -> bool
     ensures { IsTrue result ↔ IfSome cell.now (IsGoodResource world.now.world) }
 {
-    match cell {
+    match cell.get() {
         Some(cell) => is_good_resource(world, cell),
         None => true,
     }
@@ -270,8 +271,8 @@ fn may_have_resource(world: &World, cell: &Option<Cell>) -> bool
 pub(crate) fn can_set_resource(
     world: &World,
     name: &Text,
-    before: &Option<Cell>,
-    after: &Option<Cell>,
+    before: &ResourceCell,
+    after: &ResourceCell,
 ) -> bool
     ensures { IsTrue result ↔ CanSetResource world.now.world name.now before.now after.now }
 {

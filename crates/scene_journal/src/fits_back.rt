@@ -1,15 +1,31 @@
 //! What the tests of deltas ask of a world on which they are taken back.
-ghost use Rattle.std.specs.Prelude.{◌≡◌, ◌↔◌, IsTrue, IfSome, length, false};
+ghost use Rattle.std.specs.Prelude.{◌≡◌, ◌↔◌, IsTrue, IfNone, IfSome, None, length, false};
 ghost use Rattle.scene_kinds.specs.Cells.{mask_of};
 ghost use Rattle.scene_alloc.specs.Slots.{IsFresh, CanRelease, CanUnrelease, IsRaised, is_free, retires};
 ghost use Rattle.scene_table.specs.Tables.{rows_at};
+ghost use Rattle.scene_model.specs.World.{row_of};
 ghost use Rattle.scene_model.specs.Raw.{cells_of, shifted};
 ghost use Rattle.scene_model.specs.Can.{AreGoodCells, HasLastRow, IsPlaceIn, CanMove, CanDrop, CanUncut, CanUnshift};
+ghost use Rattle.scene_journal.specs.Standing.{Stands};
 
-use crate::fits::{are_good_cells, can_move, has_cells, last_of, standing};
+use crate::fits::{are_good_cells, can_move, has_cells, last_of};
 use scene_alloc::Slots;
 use scene_kinds::{Cell, Cells, Entity, KindSet, set_with, set_without};
+use scene_table::Table;
 use scene_world::World;
+
+/// The table in which the row of an entity stands, with all rows of its kind set, and the row's place there; `None`
+/// where it has none.
+fn standing_in_whole(world: &World, entity: Entity) -> Option<(&Table, u32)>
+    ensures none { IfNone result (row_of world.now.world entity ≡ None) }
+    ensures some { IfSome result (λ s. Stands world.now.world entity s.0.now s.1) }
+    ensures rows { IfSome result (λ s. s.0.now.rows ≡ rows_at world.now.world.tables s.0.now.mask) }
+{
+    let mask = world.mask_of(entity)?;
+    let place = world.place_of(entity)?;
+    let table = world.rows_of(mask)?;
+    Some((table, place))
+}
 
 /// Whether the row of an entity is the last of its table, with just these cells.
 fn has_last_row(world: &World, entity: Entity, cells: &Cells) -> bool
@@ -17,7 +33,7 @@ fn has_last_row(world: &World, entity: Entity, cells: &Cells) -> bool
 {
     // This tells the prover that the world is valid.
     let _tick = world.tick();
-    match standing(world, entity) {
+    match standing_in_whole(world, entity) {
         Some((table, at)) => at as usize + 1 == table.len() && has_cells(table, at, cells),
         None => false,
     }
@@ -29,7 +45,7 @@ fn is_last(world: &World, entity: Entity) -> bool
 {
     // This tells the prover that the world is valid.
     let _tick = world.tick();
-    match standing(world, entity) {
+    match standing_in_whole(world, entity) {
         Some((table, at)) => at as usize + 1 == table.len(),
         None => false,
     }

@@ -12,6 +12,7 @@ ghost use Rattle.scene_journal.specs.Notes.{deltas_of, listed_delta};
 
 use crate::delta::Delta;
 use crate::fits::{count_without, standing};
+use crate::resource_cell::ResourceCell;
 use scene_kinds::{Cell, CellRef, Cells, Entity, Text, Value};
 use scene_table::Table;
 use scene_world::World;
@@ -211,8 +212,8 @@ pub(crate) fn put(
     let there = resource(world, name);
     Ok(Delta::ResourceSet {
         name: text_of(alloc, name)?,
-        before: copy_of(there)?,
-        after: Some(put_over(there, value, world.tick())?),
+        before: ResourceCell::new(alloc, copy_of(there)?)?,
+        after: ResourceCell::new(alloc, Some(put_over(there, value, world.tick())?))?,
     })
 }
 
@@ -222,8 +223,8 @@ pub(crate) fn taken(alloc: Global, world: &World, name: &str) -> Result<Delta, A
 {
     Ok(Delta::ResourceSet {
         name: text_of(alloc, name)?,
-        before: copy_of(resource(world, name))?,
-        after: None,
+        before: ResourceCell::new(alloc, copy_of(resource(world, name))?)?,
+        after: ResourceCell::new(alloc, None)?,
     })
 }
 

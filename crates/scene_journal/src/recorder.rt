@@ -6,6 +6,7 @@ ghost use Rattle.scene_journal.specs.Recorder.{opening_of, recording, staged_of}
 
 use crate::cuts::cut_each;
 use crate::delta::Delta;
+use crate::inserted::insert;
 use crate::notes::{self, keep};
 use crate::record::FrameRecord;
 use crate::sound::is_sound;
@@ -111,9 +112,8 @@ impl Stage for Recorder {
 
     fn insert(&mut self, entity: Entity, kind: u8, value: Value) -> Result<(), Refusal> {
         is_sound(&self.world);
-        let delta = notes::inserted(&self.world, entity, kind, &value)?;
         self.deltas.reserve(1)?;
-        self.world.insert(entity, kind, value)?;
+        let delta = insert(&mut self.world, entity, kind, value)?;
         keep(&mut self.deltas, delta);
         Ok(())
     }

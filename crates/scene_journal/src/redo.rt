@@ -4,16 +4,17 @@ ghost use Rattle.scene_journal.specs.Deltas.{back, fwd, FitsBack, FitsOn};
 ghost use Rattle.scene_world.specs.Room.{IsWider};
 
 use crate::delta::Delta;
+use crate::resource_cell::ResourceCell;
 use crate::steps::wide;
 use scene_kinds::Cell;
 use scene_world::World;
 use std::alloc::AllocError;
 
-/// A copy of a cell that may be there.
-fn copied(cell: &Option<Cell>) -> Result<Option<Cell>, AllocError>
+/// A copy of the cell of a resource, where there is one.
+fn copied(cell: &ResourceCell) -> Result<Option<Cell>, AllocError>
     ensures { IfOk result (λ copy. copy ≡ cell.now) }
 {
-    match cell {
+    match cell.get() {
         Some(cell) => Ok(Some(cell.try_clone()?)),
         None => Ok(None),
     }

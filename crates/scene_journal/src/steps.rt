@@ -52,7 +52,7 @@ pub fn take_back(world: &mut World, delta: Delta)
         }
         Delta::Linked { entity, before, .. } => world.set_link_reserved(entity, wide(before)),
         Delta::ResourceSet { name, before, .. } => {
-            let _after = world.set_resource_reserved(name.as_str(), before);
+            let _after = world.set_resource_reserved(name.as_str(), before.into_cell());
         }
     }
 }
@@ -90,7 +90,7 @@ pub fn make_again(world: &mut World, delta: Delta)
         }
         Delta::Linked { entity, after, .. } => world.set_link_reserved(entity, wide(after)),
         Delta::ResourceSet { name, after, .. } => {
-            let _before = world.set_resource_reserved(name.as_str(), after);
+            let _before = world.set_resource_reserved(name.as_str(), after.into_cell());
         }
     }
 }

@@ -1,7 +1,7 @@
 //! Worlds that were worked out by hand, made and taken back delta by delta: which rows stand where, and which slots there are.
 use crate::scenes::{A, T, cell, empty_world, first, number, one_number};
 use crate::steps::{goes, returns};
-use scene_journal::Delta;
+use scene_journal::{Delta, ResourceCell};
 use scene_kinds::{Entity, Text, Value};
 use scene_table::Home;
 use scene_world::World;
@@ -73,8 +73,8 @@ fn put(alloc: Global, before: Option<u64>, after: Option<u64>) -> Result<Delta, 
     let name = String::from_str(alloc, "n")?;
     Ok(Delta::ResourceSet {
         name: Text::from(name),
-        before: before.map(|tick| number(1, 1, tick)),
-        after: after.map(|tick| number(1, 1, tick)),
+        before: ResourceCell::new(alloc, before.map(|tick| number(1, 1, tick)))?,
+        after: ResourceCell::new(alloc, after.map(|tick| number(1, 1, tick)))?,
     })
 }
 

@@ -9,8 +9,8 @@ returns-in-Some c =
     let w = c.args.world.now.world in
     let e = c.args.entity in
     let s = c.in-Some.ensures.some in (
-      λ h. is_last w e c.in-Some.table.now c.in-Some.at c.tick-tick.ensures.valid s (cells_of w e) (eqb-true _ _ h ∙ c.len.ensures.count) (cells_here w e c.in-Some.table.now c.in-Some.at s),
-      λ last. eq-eqb _ _ ((was_last w e c.in-Some.table.now c.in-Some.at c.tick-tick.ensures.valid s (cells_of w e) last).0 ∙ sym c.len.ensures.count),
+      λ h. is_last w e c.in-Some.table.now c.in-Some.at c.tick-tick.ensures.valid s c.in-Some.ensures.rows (cells_of w e) (eqb-true _ _ h ∙ c.len.ensures.count) (cells_here w e c.in-Some.table.now c.in-Some.at s),
+      λ last. eq-eqb _ _ ((was_last w e c.in-Some.table.now c.in-Some.at c.tick-tick.ensures.valid s c.in-Some.ensures.rows (cells_of w e) last).0 ∙ sym c.len.ensures.count),
     )
 
 pub returns-in-None : goal.returns-in-None

@@ -6,24 +6,24 @@ use Rattle.scene_journal.proofs.Commands.{insert_leads}
 use Rattle.scene_journal.proofs.Recorded.{stays_ready, goes_ready, goes_back}
 use Rattle.scene_journal.proofs.recorder.RecorderStage.insert.Goals as goal
 
-pub invariant_of-self-in_err-insert : goal.invariant_of-self-in_err-insert
-invariant_of-self-in_err-insert c =
-    stays_ready c.self.inside.world.room c.insert.new.self.room c.self.inside.deltas.items c.reserve.new.self.items c.self.inside.world.world c.insert.new.self.world
-    c.self.invariant c.insert.ensures.wide c.in_err-insert.ensures.answer.0 c.reserve.ensures.items
+pub invariant_of-self-in_err-delta : goal.invariant_of-self-in_err-delta
+invariant_of-self-in_err-delta c =
+    stays_ready c.self.inside.world.room c.insert.new.world.room c.self.inside.deltas.items c.reserve.new.self.items c.self.inside.world.world c.insert.new.world.world
+    c.self.invariant c.insert.ensures.wide c.in_err-delta.ensures.back c.reserve.ensures.items
 
 pub invariant_of-self-2 : goal.invariant_of-self-2
 invariant_of-self-2 c =
     let w = c.self.inside.world in
-    let v = c.insert.new.self in
+    let v = c.insert.new.world in
     goes_ready w.room v.room c.self.inside.deltas.items c.keep.new.deltas.items w.world v.world (Insert c.args.entity c.args.kind c.args.value) c.in_ok-delta.delta
-    c.is_sound.ensures.valid c.in_ok-delta.ensures (insert_leads w.world v.world c.args.entity c.args.kind c.args.value c.is_sound.ensures.valid c.in_ok-insert.ensures.answer)
+    c.is_sound.ensures.valid c.in_ok-delta.ensures.noted (insert_leads w.world v.world c.args.entity c.args.kind c.args.value c.is_sound.ensures.valid c.in_ok-delta.ensures.made)
     (c.keep.ensures ∙ ap (λ xs. xs ++ listed_delta c.in_ok-delta.delta) c.reserve.ensures.items) c.is_sound.ensures.held c.insert.ensures.wide c.self.invariant
 
 pub returns-clause-opening : goal.returns-clause-opening
 returns-clause-opening c =
     let w = c.self.inside.world in
-    let v = c.insert.new.self in
+    let v = c.insert.new.world in
     ap (λ u. Some u) (goes_back w.room v.room c.self.inside.deltas.items c.keep.new.deltas.items w.world v.world (Insert c.args.entity c.args.kind c.args.value) c.in_ok-delta.delta
-    c.is_sound.ensures.valid c.in_ok-delta.ensures (insert_leads w.world v.world c.args.entity c.args.kind c.args.value c.is_sound.ensures.valid c.in_ok-insert.ensures.answer)
+    c.is_sound.ensures.valid c.in_ok-delta.ensures.noted (insert_leads w.world v.world c.args.entity c.args.kind c.args.value c.is_sound.ensures.valid c.in_ok-delta.ensures.made)
     (c.keep.ensures ∙ ap (λ xs. xs ++ listed_delta c.in_ok-delta.delta) c.reserve.ensures.items))
     ∙ ap (λ (r : Recording). Some (opening_of r)) c.self.view_is
