@@ -17,3 +17,13 @@ pub mod Objects
 pub mod Found
 pub mod KindLists
 pub mod PathSteps
+pub mod ReadValues
+pub mod KnownMembers
+pub mod ListsExact
+pub mod ValuesExact
+pub mod Ascending
+pub mod RisingMaps
+pub mod RowsExact
+pub mod SceneExact
+pub mod OnlyTexts
+pub mod GoodSteps

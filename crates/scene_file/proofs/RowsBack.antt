@@ -192,19 +192,28 @@ low_cells schema (c ∷ cs) h few =
     let p = and_is (fits_kind schema c.1.value c.0) (list_all (λ c. fits_kind schema c.1.value c.0) cs) h in
     let l = (fits_is schema c.1.value c.0 p.0).low in ((omega arith, omega (arith, l, few)), low_cells schema cs p.1 few)
 
+-- the kinds of the set of cells whose kinds ascend, all below the 64th, are those of the cells
+pub kinds_of_cells : (cells : Cells) → IsAscending cells → AllByRecursion (λ c. (0 ≤ c.0) × (c.0 < 0 + 64)) cells
+    → kinds_of (mask_of cells) ≡ keys cells
+kinds_of_cells cells s low =
+    filter_same (has_kind (mask_of cells)) (λ k. is_some (find nat_cmp k cells)) 64 0 (λ k l. has_kind-mask_of cells k s)
+    ∙ found_kinds 64 0 cells s low
+
 -- the kinds of a table's set are those of each of its rows
 pub kinds_of_row : (schema : Kinds) (mask : ℕ) (r : Row) → IsRowOf schema mask r → length schema ≤ 64 → kinds_of mask ≡ keys r.cells
 kinds_of_row schema mask r h few =
-    ap kinds_of (sym h.kinds.kinds)
-    ∙ filter_same (has_kind (mask_of r.cells)) (λ k. is_some (find nat_cmp k r.cells)) 64 0 (λ k l. has_kind-mask_of r.cells k h.kinds.ascending)
-    ∙ found_kinds 64 0 r.cells h.kinds.ascending (low_cells schema r.cells h.shapes few)
+    ap kinds_of (sym h.kinds.kinds) ∙ kinds_of_cells r.cells h.kinds.ascending (low_cells schema r.cells h.shapes few)
 
 set_keys : (n : ℕ) (cells : Cells) → fold (λ a k. a + 2 ^ k) n (keys cells) ≡ fold (λ a (c : ℕ × Cell). a + 2 ^ c.0) n cells
 set_keys n [] = refl
 set_keys n (c ∷ cs) = set_keys (n + 2 ^ c.0) cs
 
+-- the set of the kinds of cells
+pub set_of_cells : (cells : Cells) → set_of (keys cells) ≡ mask_of cells
+set_of_cells cells = set_keys 0 cells
+
 pub set_of_row : (schema : Kinds) (mask : ℕ) (r : Row) → IsRowOf schema mask r → set_of (keys r.cells) ≡ mask
-set_of_row schema mask r h = set_keys 0 r.cells ∙ h.kinds.kinds
+set_of_row schema mask r h = set_of_cells r.cells ∙ h.kinds.kinds
 
 -- they rise
 rise_after : (kind : ℕ) (cells : Cells) → IsAscending cells → AllByRecursion (λ c. kind < c.0) cells → Follow nat_lt (Some kind) (keys cells)

@@ -39,7 +39,7 @@ fault_at_rows e schema path d ms kinds shapes h0 h1 s k =
     (subst (λ (ss : List Shape). IsTextFault e (key_of (list_of (row_at kinds ss)) path (codes "rows") ms)) s k)))
 
 module _ (ms : Members) where
-  abbrev after_tick : List (Entity × List Entity) → List ℕ → List ℕ → Kinds → ℕ → List (List ℕ × Cell) → List (ℕ × List Row) → ℕ
+  abbrev pub after_tick : List (Entity × List Entity) → List ℕ → List ℕ → Kinds → ℕ → List (List ℕ × Cell) → List (ℕ × List Row) → ℕ
       → Result Parts FileFault
   after_tick children free generations schema limit resources tables tick = Ok
       (record {
@@ -53,30 +53,30 @@ module _ (ms : Members) where
         resources = resources;
       })
 
-  abbrev after_tables : List (Entity × List Entity) → List ℕ → List ℕ → Kinds → ℕ → List (List ℕ × Cell) → List (ℕ × List Row)
+  abbrev pub after_tables : List (Entity × List Entity) → List ℕ → List ℕ → Kinds → ℕ → List (List ℕ × Cell) → List (ℕ × List Row)
       → Result Parts FileFault
   after_tables children free generations schema limit resources tables = key_of tick_at [] (codes "tick") ms
       >>= λ tick. after_tick children free generations schema limit resources tables tick
 
-  abbrev after_resources : List (Entity × List Entity) → List ℕ → List ℕ → Kinds → ℕ → List (List ℕ × Cell) → Result Parts FileFault
+  abbrev pub after_resources : List (Entity × List Entity) → List ℕ → List ℕ → Kinds → ℕ → List (List ℕ × Cell) → Result Parts FileFault
   after_resources children free generations schema limit resources = key_of (rising_of (table_at schema) table_follows) [] (codes "tables") ms
       >>= λ tables. after_tables children free generations schema limit resources tables
 
-  abbrev after_limit : List (Entity × List Entity) → List ℕ → List ℕ → Kinds → ℕ → Result Parts FileFault
+  abbrev pub after_limit : List (Entity × List Entity) → List ℕ → List ℕ → Kinds → ℕ → Result Parts FileFault
   after_limit children free generations schema limit = key_of (rising_of resource_at name_follows) [] (codes "resources") ms
       >>= λ resources. after_resources children free generations schema limit resources
 
-  abbrev after_schema : List (Entity × List Entity) → List ℕ → List ℕ → Kinds → Result Parts FileFault
+  abbrev pub after_schema : List (Entity × List Entity) → List ℕ → List ℕ → Kinds → Result Parts FileFault
   after_schema children free generations schema = key_of limit_at [] (codes "limit") ms
       >>= λ limit. after_limit children free generations schema limit
 
-  abbrev after_generations : List (Entity × List Entity) → List ℕ → List ℕ → Result Parts FileFault
+  abbrev pub after_generations : List (Entity × List Entity) → List ℕ → List ℕ → Result Parts FileFault
   after_generations children free generations = key_of kinds_at [] (codes "kinds") ms >>= λ schema. after_schema children free generations schema
 
-  abbrev after_free : List (Entity × List Entity) → List ℕ → Result Parts FileFault
+  abbrev pub after_free : List (Entity × List Entity) → List ℕ → Result Parts FileFault
   after_free children free = key_of (list_of u32_at) [] (codes "generations") ms >>= λ generations. after_generations children free generations
 
-  abbrev after_children : List (Entity × List Entity) → Result Parts FileFault
+  abbrev pub after_children : List (Entity × List Entity) → Result Parts FileFault
   after_children children = key_of (list_of u32_at) [] (codes "free") ms >>= λ free. after_free children free
 
   pub fault_at_free : (e : FileFault) (children : List (Entity × List Entity))

@@ -1,9 +1,15 @@
 //! Laws of scene texts.
-ghost use Rattle.scene_file.specs.Laws.{WorldsAreReadAgain, TextsTellWorldsApart};
+ghost use Rattle.scene_file.specs.Laws.{OnlyTextsAreRead, TextsTellWorldsApart, WorldsAreReadAgain};
 
 /// Laws: the JSON value of a valid world is read as that very world, with no fault; so equal values come from equal
 /// worlds (docs/SCENE_FILES.md).
 pub fn written_worlds_are_read_again()
     ensures again { WorldsAreReadAgain }
     ensures apart { TextsTellWorldsApart }
+{}
+
+/// Law: nothing but the texts of worlds is read. Where bytes are read as a world, they are JSON, of which the value is
+/// that very world's own (docs/SCENE_FILES.md, "Reading").
+pub fn only_texts_of_worlds_are_read()
+    ensures { OnlyTextsAreRead }
 {}

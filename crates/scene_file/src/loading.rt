@@ -1,6 +1,7 @@
 //! Loading a world from a scene text.
-ghost use Rattle.std.specs.Prelude.{◌≡◌, ◌≢◌, ◌<◌, ◌≤◌, ◌⊎◌, ◌↔◌, true, false, length, Ok, Err, IfOk, IfErr, IfSome, OnOk};
+ghost use Rattle.std.specs.Prelude.{◌≡◌, ◌≢◌, ◌<◌, ◌≤◌, ◌⊎◌, ◌↔◌, true, false, length, Some, Ok, Err, IfOk, IfErr, IfSome, OnOk};
 ghost use Rattle.std.specs.Io.KnownBytes.{IsAtEnd};
+ghost use Rattle.serde_json.specs.Read.{read};
 ghost use Rattle.serde_json.specs.View.{view};
 ghost use Rattle.scene_streams.specs.Source.{reader_of, turns_left, read_failed};
 ghost use Rattle.scene_streams.specs.Limits.{most_bytes};
@@ -8,6 +9,7 @@ ghost use Rattle.scene_parts.specs.Rules.{first_broken};
 ghost use Rattle.scene_parts.specs.Seen.{seen};
 ghost use Rattle.scene_file.specs.Outcome.{IsFault, IsTextFault};
 ghost use Rattle.scene_file.specs.Scene.{if_unbroken, loaded, world_in as world_said};
+ghost use Rattle.scene_file.specs.Text.{world_text};
 ghost use Rattle.scene_file.specs.declared.fault.FileFault.TheVariants.{ReadFault, TooLong, WriteFault};
 
 use crate::fault::FileFault;
@@ -66,15 +68,17 @@ fn world_in(alloc: Global, text: &[u8]) -> Result<World, FileFault>
     world_of(alloc, parts)
 }
 
-/// The world that a scene text of version 1 says (docs/SCENE_FILES.md, "Reading").
+/// The world that a scene text of version 1 says (docs/SCENE_FILES.md, "Reading"). Where there is one, the text is its
+/// text: the text's JSON value is the world's own.
 ///
 /// Refused, in this order: `NotJson`; `BadField` and `BadVersion` of the head; `UnknownKey` and `BadField`, the first that
 /// the walk through the text meets, with its path; `BadWorld` with the first rule that is broken. `NoMemory` may stand in
 /// place of any answer. It costs the text's length, and for the keys of objects, the kind sets of tables and the names of
 /// resources their number times its logarithm.
-#[tactic(auto, using(crate::proofs::TextFaults::loading))]
+#[tactic(auto, using(crate::proofs::TextFaults::loading, crate::proofs::OnlyTexts::texts))]
 pub fn load_text(alloc: Global, text: &[u8]) -> Result<World, FileFault>
     ensures world { IfOk result (λ world. loaded text.now ≡ Ok world.world) }
+    ensures value { IfOk result (λ world. read text.now ≡ Some (world_text world.world)) }
     ensures fault { IfErr result (λ e. IsFault e (loaded text.now)) }
     ensures stream { IfErr result (λ e. (e ≢ ReadFault) × (e ≢ WriteFault) × (e ≢ TooLong)) }
 {
@@ -86,9 +90,10 @@ pub fn load_text(alloc: Global, text: &[u8]) -> Result<World, FileFault>
 /// Refused: `ReadFault` exactly where the source has failed, now or before, and where it hadn't then in a call of its
 /// reader; `TooLong` where there are more than 67,108,864 bytes, or the end doesn't come in the turns of the source; and
 /// then as `load_text` refuses.
-#[tactic(auto, using(crate::proofs::TextFaults::loading))]
+#[tactic(auto, using(crate::proofs::TextFaults::loading, crate::proofs::OnlyTexts::texts))]
 pub fn load<R: Read>(alloc: Global, source: &mut Source<R>) -> Result<World, FileFault>
     ensures world { IfOk result (λ world. IfSome (R.remaining (reader_of source.old)) (λ text. loaded text ≡ Ok world.world)) }
+    ensures value { IfOk result (λ world. IfSome (R.remaining (reader_of source.old)) (λ text. read text ≡ Some (world_text world.world))) }
     ensures within { OnOk result (IfSome (R.remaining (reader_of source.old)) (λ text. length text ≤ most_bytes)) }
     ensures end { OnOk result (IsAtEnd (R.remaining (reader_of source.new))) }
     ensures fault { IfErr result (λ e. e ≢ ReadFault → e ≢ TooLong → IfSome (R.remaining (reader_of source.old)) (λ text. IsFault e (loaded text))) }
