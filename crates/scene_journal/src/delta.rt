@@ -194,6 +194,7 @@ fn copy_of_resource(
 }
 
 /// An equal delta, or an error where no memory was found.
+// By hand, since a derived copy has all its ways out in one function, which is dear to prove.
 impl Clone for Delta {
     ghost is_clone = { λ a b. b ≡ a };
 
