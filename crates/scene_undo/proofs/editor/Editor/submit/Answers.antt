@@ -1,7 +1,14 @@
-use Rattle.std.proofs.Common.{◌≡◌, ◌∷◌, reverse, ap, subst, sym, ◌∙◌}
-use Rattle.std.specs.Prelude.{IfOk, OnErr}
+use Rattle.std.proofs.Common.{◌≡◌, ◌≢◌, [], ◌∷◌, reverse, ap, subst, sym, ◌∙◌, Ok, Err}
+use Rattle.std.specs.Prelude.{IfOk, IfErr, OnErr}
+use Rattle.scene_kinds.specs.declared.fault.Fault.TheVariants.{NoMemory}
+use Rattle.scene_kinds.specs.Answers.{refusal_of}
+use Rattle.scene_model.specs.Frame.{frame}
+use Rattle.scene_model.specs.Machine.{submitted}
 use Rattle.scene_world.specs.Room.{Housed, IsWider}
+use Rattle.scene_queue.specs.Frames.{frame_of}
+use Rattle.scene_journal.specs.Frames.{frame_record}
 use Rattle.scene_journal.specs.Records.{undone}
+use Rattle.scene_undo.specs.Editor.{EditorState, machine_of, worlds_along}
 use Rattle.scene_undo.specs.Kept.{CanUndo, CanUndoAll, CanRedoAll}
 use Rattle.scene_undo.proofs.EditorLaws.{found}
 use Rattle.scene_undo.proofs.Kept.{undo_wider, redo_wider}
@@ -53,3 +60,75 @@ invariant_of-self-in-Err c =
       subst (CanRedoAll v.room (reverse c.self.inside.future.items)) (sym same)
           (redo_wider w.room v.room (reverse c.self.inside.future.items) w.world wide both.1),
     ) ∣₁
+
+pub returns-in-Ok-clause-machine : goal.returns-in-Ok-clause-machine
+returns-in-Ok-clause-machine c =
+    let w = c.self.inside.world in
+    let v = c.frame-world.result.0 in
+    let kept = c.in-Ok.done.kept in
+    let es = c.in-Ok.done.made.entities.items in
+    let queues = frame_of c.args.queues.now in
+    let past = reverse c.self.inside.past.items in
+    let start : EditorState = record { world = w.world; past = past; future = reverse c.self.inside.future.items; rewinds = c.self.inside.rewinds } in
+    let done : frame queues w.world ≡ Ok (es, v.world) =
+    ap (λ (h : Housed). frame queues h.world) (sym c.replace-world.ensures.value)
+    ∙ subst (λ r. IfOk r (λ f. frame queues c.replace-world.result.world ≡ Ok (f.made.entities.items, v.world))) c.in-Ok.is c.frame-world.ensures.done in
+    let back : undone kept v.world ≡ w.world =
+    subst (λ r. IfOk r (λ f. undone f.kept v.world ≡ c.replace-world.result.world)) c.in-Ok.is c.frame-world.ensures.back
+    ∙ ap (λ (h : Housed). h.world) c.replace-world.ensures.value in
+    let onto : reverse c.push_reserved.new.self.items ≡ kept ∷ past =
+    ap reverse c.push_reserved.ensures.items
+    ∙ reverse_push c.reserve.new.self.items kept
+    ∙ ap (λ rs. kept ∷ reverse rs) c.reserve.ensures.items in
+    ap (λ (s : EditorState). submitted (machine_of s) (frame queues s.world)) (sym c.self.view_is)
+    ∙ ap (submitted (machine_of start)) done
+    ∙ (λ i. Ok (
+      es,
+      record { past = sym back i ∷ worlds_along undone past (sym back i); now = v.world; future = []; rewinds = c.self.inside.rewinds },
+    ))
+    ∙ (λ i. Ok (
+      es,
+      machine_of (record { world = v.world; past = sym onto i; future = reverse (sym c.new-in-Ok.ensures.items i); rewinds = c.self.inside.rewinds }),
+    ))
+
+pub returns-in-Ok-clause-records : goal.returns-in-Ok-clause-records
+returns-in-Ok-clause-records c =
+    let v = c.frame-world.result.0 in
+    let kept = c.in-Ok.done.kept in
+    let queues = frame_of c.args.queues.now in
+    let noted : kept ≡ frame_record queues c.self.inside.world.world =
+    subst (λ r. IfOk r (λ f. f.kept ≡ frame_record queues c.replace-world.result.world)) c.in-Ok.is c.frame-world.ensures.noted
+    ∙ ap (λ (h : Housed). frame_record queues h.world) c.replace-world.ensures.value in (
+      ap reverse c.push_reserved.ensures.items
+          ∙ reverse_push c.reserve.new.self.items kept
+          ∙ (λ i. noted i ∷ reverse (c.reserve.ensures.items i))
+          ∙ ap (λ (s : EditorState). frame_record queues s.world ∷ s.past) c.self.view_is,
+      ap reverse c.new-in-Ok.ensures.items,
+    )
+
+pub returns-in-Err-clause-machine : goal.returns-in-Err-clause-machine
+returns-in-Err-clause-machine c =
+    let w = c.self.inside.world in
+    let v = c.frame-world.result.0 in
+    let queues = frame_of c.args.queues.now in
+    let start : EditorState =
+    record { world = w.world; past = reverse c.self.inside.past.items; future = reverse c.self.inside.future.items; rewinds = c.self.inside.rewinds } in
+    let same : v.world ≡ w.world = subst (λ r. OnErr r (v.world ≡ c.replace-world.result.world)) c.in-Err.is c.frame-world.ensures.same
+    ∙ ap (λ (h : Housed). h.world) c.replace-world.ensures.value in
+    let refused = subst (λ r. IfErr r (λ e. e ≢ refusal_of NoMemory → frame queues c.replace-world.result.world ≡ Err e)) c.in-Err.is c.frame-world.ensures.refused in (
+      (λ i. machine_of (record
+          { world = same i; past = reverse (c.reserve.ensures.items i); future = reverse c.self.inside.future.items; rewinds = c.self.inside.rewinds }))
+          ∙ ap machine_of c.self.view_is,
+      λ other.
+          ap (λ (s : EditorState). submitted (machine_of s) (frame queues s.world)) (sym c.self.view_is)
+          ∙ ap (submitted (machine_of start)) (ap (λ (h : Housed). frame queues h.world) (sym c.replace-world.ensures.value) ∙ refused other),
+    )
+
+pub returns-in-Err-clause-same : goal.returns-in-Err-clause-same
+returns-in-Err-clause-same c =
+    let same : c.frame-world.result.0.world ≡ c.self.inside.world.world =
+    subst (λ r. OnErr r (c.frame-world.result.0.world ≡ c.replace-world.result.world)) c.in-Err.is c.frame-world.ensures.same
+    ∙ ap (λ (h : Housed). h.world) c.replace-world.ensures.value in
+    (λ i. record
+    { world = same i; past = reverse (c.reserve.ensures.items i); future = reverse c.self.inside.future.items; rewinds = c.self.inside.rewinds })
+    ∙ c.self.view_is
