@@ -78,11 +78,21 @@ fn back_and_again(rt: &impl Print, level: &mut Level) -> Result<()> {
     show(rt, level, "lamp")
 }
 
+/// Drags things, and shows what is refused and what can be taken back.
+fn work_with(rt: &impl Print, level: &mut Level, things: &[Entity]) -> Result<()> {
+    println!(rt; "placed {} things in one frame", things.len())?;
+    drag(rt, level, things)?;
+    refusals(rt, level, things)?;
+    back_and_again(rt, level)
+}
+
+/// Places things, and works with them.
+fn use_level(rt: &impl Print, level: &mut Level) -> Result<()> {
+    let things = level.place("house", &["door", "lamp"])?;
+    work_with(rt, level, things.as_slice())
+}
+
 fn main(rt: HostRuntime) -> Result<()> {
     let mut level = Level::open(rt.alloc())?;
-    let things = level.place("house", &["door", "lamp"])?;
-    println!(rt; "placed {} things in one frame", things.len())?;
-    drag(&rt, &mut level, things.as_slice())?;
-    refusals(&rt, &mut level, things.as_slice())?;
-    back_and_again(&rt, &mut level)
+    use_level(&rt, &mut level)
 }

@@ -1,5 +1,5 @@
 -- A line that is played, and then the others.
-use Rattle.std.proofs.Common.{◌≡◌, ℕ, ◌+◌, ◌≤◌, List, [], ◌∷◌, ◌++◌, Option, Some, None, Result, Ok, Err, refl, sym, ap, ◌∙◌, arith}
+use Rattle.std.proofs.Common.{◌≡◌, ℕ, ◌+◌, ◌≤◌, List, [], ◌∷◌, ◌++◌, Option, Some, None, Result, Ok, Err, OnOk, refl, sym, ap, ◌∙◌, arith}
 use Rattle.std.proofs.lemmas.List.{append_assoc, length-append}
 use Rattle.scene_app.specs.declared.play_state.PlayState.{PlayState}
 use Rattle.scene_script.specs.declared.script_line.Line.{Line}
@@ -14,6 +14,11 @@ use Rattle.scene_app.specs.Reports.{Tally}
 use Rattle.scene_app.specs.Steps.{LinePlayed, Prints, noted}
 use Rattle.scene_app.proofs.ReportLaws.{noted-append}
 use Rattle.scene_script.specs.Script.{line_in}
+
+-- what follows from what holds of a success
+pub mapped : {A E P Q : Type 0} (r : Result A E) → (P → Q) → OnOk r P → OnOk r Q
+mapped (Ok a) f h = f h
+mapped (Err e) f h = h
 
 -- a line that is played, and then the rest from its state
 pub printed_more : (a b c : List ℕ) (r s t : Tally) (number : ℕ) (reply : Reply) (rest : PlayState → Printed) (after : PlayState)

@@ -1,12 +1,14 @@
 -- What the bodies below a setup have done when they end. Nothing that a run promises is said with these words.
-use Rattle.std.specs.Prelude.{◌≡◌, ℕ, List, ◌++◌, Option, Some, None, Result, Ok}
+use Rattle.std.specs.Prelude.{◌≡◌, ℕ, ◌+◌, List, ◌∷◌, ◌++◌, Option, Some, None, Result, Ok}
 use Rattle.scene_script.specs.declared.script_line.Line.{Line}
 use Rattle.scene_script.specs.declared.bad_line.BadLine.{BadLine}
 use Rattle.scene_app.specs.declared.setup.Setup.{Setup}
 use Rattle.scene_app.specs.declared.setup.Setup.TheVariants as code
 use Rattle.scene_app.specs.declared.setup_answer.SetupAnswer.{SetupAnswer}
 use Rattle.scene_app.specs.declared.setup_answer.SetupAnswer.TheVariants.{Given, Ends}
-use Rattle.scene_app.specs.Play.{SetupState, Declared, Loaded, SetupReply}
+use Rattle.scene_app.specs.Play.{SetupState, Declared, Loaded, SetupReply, first_world, setup_from, opening_state, said_reply, then_rest, run_from}
+use Rattle.scene_app.specs.Reports.{Tally}
+use Rattle.scene_app.specs.Steps.{noted}
 
 -- what a setup in the code has come to; of a loaded world the room doesn't matter
 abbrev pub setup_of : Setup → SetupState
@@ -22,3 +24,13 @@ abbrev pub AnswersSetup : (old new : List ℕ) → (before after : SetupState) �
 AnswersSetup old new before after said (Some r) (Given bad) = SetupReplies old new after bad r
 AnswersSetup old new before after said None (Ends line) = (said ≡ Ok line) × (new ≡ old) × (after ≡ before)
 AnswersSetup old new before after said reply answer = ⊥
+
+-- a body that plays a line of the setup added what the line adds before the lines after it, whatever those are; or it handed the
+-- line back, with which the run begins, and nothing was added
+abbrev pub PlaysSetup : (old new : List ℕ) → (before after : Tally) → (s t : SetupState) → ℕ → List ℕ → Option Line → Type 0
+PlaysSetup old new before after s t number bytes None = (others : List (List ℕ))
+    → (new ++ (setup_from (number + 1) t others).text ≡ old ++ (setup_from number s (bytes ∷ others)).text)
+    × (noted after (setup_from (number + 1) t others).bad ≡ noted before (setup_from number s (bytes ∷ others)).bad)
+PlaysSetup old new before after s t number bytes (Some line) = (new ≡ old) × (after ≡ before)
+    × ((others : List (List ℕ)) → setup_from number s (bytes ∷ others)
+    ≡ then_rest number (said_reply (opening_state (first_world t)) (Ok line)) (λ z. run_from (number + 1) z others))

@@ -28,44 +28,50 @@ fn write_good(alloc: Global, out: &mut String, world: &World) -> Result<(), Allo
     Ok(())
 }
 
-/// What `scene check` prints for a text, and whether it is a scene.
+/// Adds what `scene check` prints for a text, and gives whether it is a scene.
 #[tactic(auto, using(crate::proofs::FileFaultLaws::is_wanted))]
+fn write_checked(alloc: Global, out: &mut String, text: &[u8]) -> Result<bool, AllocError>
+    ensures text { OnOk result (string_bytes out.new ≡ string_bytes out.old ++ check_output text.now) }
+    ensures accepted { IfOk result (λ good. good ≡ is_scene text.now) }
+{
+    match load_text(alloc, text) {
+        Ok(world) => write_good(alloc, out, &world).and(Ok(true)),
+        Err(fault) => answer_file_fault(alloc, out, fault).and(Ok(false)),
+    }
+}
+
+/// What `scene check` prints for a text, and whether it is a scene.
 fn checked(alloc: Global, text: &[u8]) -> Result<(String, bool), AppFault>
     ensures printed { IfOk result (λ p. string_bytes p.0 ≡ check_output text.now) }
     ensures accepted { IfOk result (λ p. p.1 ≡ is_scene text.now) }
     ensures memory { IfErr result (λ f. f ≡ NoMemory) }
 {
     let mut out = String::new(alloc);
+    let accepted = write_checked(alloc, &mut out, text)?;
+    Ok((out, accepted))
+}
+
+/// Adds what `scene print` prints for a text, and gives whether it is a scene.
+#[tactic(auto, using(crate::proofs::FileFaultLaws::is_wanted))]
+fn write_printed(alloc: Global, out: &mut String, text: &[u8]) -> Result<bool, AllocError>
+    ensures text { OnOk result (string_bytes out.new ≡ string_bytes out.old ++ print_output text.now) }
+    ensures accepted { IfOk result (λ good. good ≡ is_scene text.now) }
+{
     match load_text(alloc, text) {
-        Ok(world) => {
-            write_good(alloc, &mut out, &world)?;
-            Ok((out, true))
-        }
-        Err(fault) => {
-            answer_file_fault(alloc, &mut out, fault)?;
-            Ok((out, false))
-        }
+        Ok(world) => write_show(alloc, out, &world).and(Ok(true)),
+        Err(fault) => answer_file_fault(alloc, out, fault).and(Ok(false)),
     }
 }
 
 /// What `scene print` prints for a text, and whether it is a scene.
-#[tactic(auto, using(crate::proofs::FileFaultLaws::is_wanted))]
 fn printed(alloc: Global, text: &[u8]) -> Result<(String, bool), AppFault>
     ensures printed { IfOk result (λ p. string_bytes p.0 ≡ print_output text.now) }
     ensures accepted { IfOk result (λ p. p.1 ≡ is_scene text.now) }
     ensures memory { IfErr result (λ f. f ≡ NoMemory) }
 {
     let mut out = String::new(alloc);
-    match load_text(alloc, text) {
-        Ok(world) => {
-            write_show(alloc, &mut out, &world)?;
-            Ok((out, true))
-        }
-        Err(fault) => {
-            answer_file_fault(alloc, &mut out, fault)?;
-            Ok((out, false))
-        }
-    }
+    let accepted = write_printed(alloc, &mut out, text)?;
+    Ok((out, accepted))
 }
 
 /// Reads a scene text to its end, and writes `good TICK LIVE`, LIVE being the number of live entities, where it is a

@@ -2,11 +2,12 @@
 ghost use Rattle.std.specs.Prelude.{◌≡◌, ◌++◌, ◌+◌, ◌<◌, ◌≤◌, ◌^◌, OnOk, IfOk, length, string_bytes, Ok};
 ghost use Rattle.std.specs.Str.Lines.{lines};
 ghost use Rattle.scene_script.specs.Script.{line_in};
-ghost use Rattle.scene_app.specs.Play.{said_reply, opening_state, then_rest, run_from, printed};
+ghost use Rattle.scene_app.specs.Play.{said_reply, opening_state, then_rest, run_from, setup_from, printed};
 ghost use Rattle.scene_app.specs.OpenFrame.{queue_count};
 ghost use Rattle.scene_streams.specs.Limits.{most_bytes};
 ghost use Rattle.scene_app.specs.Steps.{Prints, LinePlayed};
 ghost use Rattle.scene_app.specs.Reports.{no_bad_lines};
+ghost use Rattle.scene_app.specs.SetupSteps.{setup_of, PlaysSetup};
 
 use crate::answer::answer;
 use crate::play_state::PlayState;
@@ -81,6 +82,27 @@ fn play_lines(
     Ok(())
 }
 
+/// Plays a line after the setup, and the lines after it.
+fn play_from(
+    alloc: Global,
+    state: &mut PlayState,
+    number: usize,
+    line: Line,
+    after: &[u8],
+    out: &mut String,
+    reports: &mut Reports,
+) -> Result<(), AllocError>
+    requires few { reports.old.count < number }
+    requires opened { queue_count state.old.frame < number }
+    requires room { number + 1 + length after.now < 2 ^ 32 }
+    ensures printed { OnOk result (Prints (string_bytes out.old) (string_bytes out.new) reports.old reports.new
+        (then_rest number (said_reply state.old (Ok line)) (λ s. run_from (number + 1) s (lines after.now)))) }
+    ensures few { OnOk result (reports.new.count < number + 1 + length after.now) }
+{
+    play_line(alloc, state, number, Ok(line), out, reports)?;
+    play_lines(alloc, state, number + 1, after, out, reports)
+}
+
 /// Plays the line that ends the setup, and the lines after it.
 fn play_run(
     alloc: Global,
@@ -98,8 +120,73 @@ fn play_run(
     ensures few { OnOk result (reports.new.count < number + 1 + length after.now) }
 {
     let mut state = PlayState::new(alloc, world);
-    play_line(alloc, &mut state, number, Ok(line), out, reports)?;
-    play_lines(alloc, &mut state, number + 1, after, out, reports)
+    play_from(alloc, &mut state, number, line, after, out, reports)
+}
+
+/// Plays a line of the setup, and notes it where it is bad. A line that ends the setup is handed back, and isn't played.
+fn play_setup_line(
+    alloc: Global,
+    setup: &mut Setup,
+    number: usize,
+    bytes: &[u8],
+    out: &mut String,
+    reports: &mut Reports,
+) -> Result<Option<Line>, AllocError>
+    requires { reports.old.count + 1 < 2 ^ 64 }
+    ensures played { IfOk result (PlaysSetup (string_bytes out.old) (string_bytes out.new) reports.old reports.new
+        (setup_of setup.old) (setup_of setup.new) number bytes.now) }
+    ensures few { OnOk result (reports.new.count ≤ reports.old.count + 1) }
+{
+    let said = said_in(alloc, setup.schema(), bytes)?;
+    match answer_setup(alloc, out, setup, said)? {
+        SetupAnswer::Given(bad) => reports.note(number, bad)?,
+        SetupAnswer::Ends(line) => return Ok(Some(line)),
+    }
+    Ok(None)
+}
+
+/// Plays the setup, line by line, and then the run that the line behind it begins.
+fn play_setup(
+    alloc: Global,
+    setup: &mut Setup,
+    script: &[u8],
+    out: &mut String,
+    reports: &mut Reports,
+) -> Result<(), AllocError>
+    requires none { reports.old ≡ no_bad_lines }
+    requires room { length script.now ≤ most_bytes }
+    ensures printed { OnOk result (Prints (string_bytes out.old) (string_bytes out.new) no_bad_lines reports.new
+        (setup_from 1 (setup_of setup.old) (lines script.now))) }
+    ensures few { OnOk result (reports.new.count ≤ length script.now) }
+{
+    let mut rest = script;
+    let mut number = 1usize;
+    'lines: while !rest.is_empty() {
+        let (bytes, after) = first_line(rest);
+        if let Some(line) = play_setup_line(alloc, setup, number, bytes, out, reports)? {
+            let world = setup.take_world(alloc);
+            return play_run(alloc, world, number, line, after, out, reports);
+        }
+        rest = after;
+        number += 1;
+    }
+    Ok(())
+}
+
+/// Plays a script from the setup that has nothing yet.
+fn play_all(
+    alloc: Global,
+    script: &[u8],
+    out: &mut String,
+    reports: &mut Reports,
+) -> Result<(), AllocError>
+    requires none { reports.old ≡ no_bad_lines }
+    requires room { length script.now ≤ most_bytes }
+    ensures printed { OnOk result (Prints (string_bytes out.old) (string_bytes out.new) no_bad_lines reports.new (printed script.now)) }
+    ensures few { OnOk result (reports.new.count ≤ length script.now) }
+{
+    let mut setup = Setup::new(alloc);
+    play_setup(alloc, &mut setup, script, out, reports)
 }
 
 /// Plays a script from its first line, adds what it prints, and notes its bad lines (docs/SCRIPTS.md, "Lines").
@@ -116,23 +203,7 @@ pub(crate) fn play_script(
     ensures printed { IfOk result (λ reports. Prints (string_bytes out.old) (string_bytes out.new) no_bad_lines reports (printed script.now)) }
     ensures few { IfOk result (λ reports. reports.count ≤ length script.now) }
 {
-    let mut setup = Setup::new(alloc);
     let mut reports = Reports::new(alloc);
-    let mut rest = script;
-    let mut number = 1usize;
-    'lines: while !rest.is_empty() {
-        let (bytes, after) = first_line(rest);
-        let said = said_in(alloc, setup.schema(), bytes)?;
-        match answer_setup(alloc, out, &mut setup, said)? {
-            SetupAnswer::Given(bad) => reports.note(number, bad)?,
-            SetupAnswer::Ends(line) => {
-                let world = setup.into_world(alloc);
-                play_run(alloc, world, number, line, after, out, &mut reports)?;
-                return Ok(reports);
-            }
-        }
-        rest = after;
-        number += 1;
-    }
+    play_all(alloc, script, out, &mut reports)?;
     Ok(reports)
 }

@@ -36,12 +36,20 @@ impl Setup {
     }
 
     /// The world in which the run begins: without entities, or the loaded one. It takes no memory.
-    pub(crate) fn into_world(self, alloc: Global) -> World
+    fn into_world(self, alloc: Global) -> World
         ensures { result.world ≡ first_world (setup_of self) }
     {
         match self {
             Setup::Declared(schema, limit) => World::new(alloc, schema, limit.get()),
             Setup::Loaded(world) => world,
         }
+    }
+
+    /// `into_world` of a setup that is lent. It leaves the setup before the first line.
+    pub(crate) fn take_world(&mut self, alloc: Global) -> World
+        ensures { result.world ≡ first_world (setup_of self.old) }
+    {
+        let setup = std::mem::replace(self, Setup::new(alloc));
+        setup.into_world(alloc)
     }
 }

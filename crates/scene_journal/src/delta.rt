@@ -1,6 +1,7 @@
 //! One change of a world.
 ghost use Rattle.std.specs.Prelude.{◌≡◌, ◌↔◌, IfOk, IsTrue};
 ghost use Rattle.scene_journal.specs.Deltas.{FitsOn, FitsBack};
+ghost use Rattle.scene_journal.specs.declared.delta.Delta.TheVariants.{CellSet, ResourceSet};
 
 use crate::resource_cell::ResourceCell;
 use crate::{fits, fits_back};
@@ -13,7 +14,7 @@ use std::alloc::AllocError;
 ///
 /// A place is that of a row in its table, or of a child in its parent's list without the child, from 0. A link is a
 /// parent with such a place.
-#[derive(Drop, Clone, Debug)]
+#[derive(Drop, Debug)]
 pub enum Delta {
     /// A row was put last in its table, with these cells; `fresh` where its entity got a new slot.
     Spawned {
@@ -156,6 +157,104 @@ impl Delta {
                 before,
                 after,
             } => fits::can_set_resource(world, name, after, before),
+        }
+    }
+}
+
+/// A copy of the delta of a cell.
+fn copy_of_cell(entity: Entity, kind: u8, before: &Cell, after: &Cell) -> Result<Delta, AllocError>
+    ensures { IfOk result (λ copy. copy ≡ CellSet entity kind before.now after.now) }
+{
+    let before = before.try_clone()?;
+    let after = after.try_clone()?;
+    Ok(Delta::CellSet {
+        entity,
+        kind,
+        before,
+        after,
+    })
+}
+
+/// A copy of the delta of a resource.
+fn copy_of_resource(
+    name: &Text,
+    before: &ResourceCell,
+    after: &ResourceCell,
+) -> Result<Delta, AllocError>
+    ensures { IfOk result (λ copy. copy ≡ ResourceSet name.now before.now after.now) }
+{
+    let name = name.try_clone()?;
+    let before = before.clone()?;
+    let after = after.clone()?;
+    Ok(Delta::ResourceSet {
+        name,
+        before,
+        after,
+    })
+}
+
+/// An equal delta, or an error where no memory was found.
+// By hand, since a derived copy has all its ways out in one function, which is dear to prove.
+impl Clone for Delta {
+    ghost is_clone = { λ a b. b ≡ a };
+
+    fn clone(&self) -> Result<Delta, AllocError> {
+        match self {
+            Delta::Spawned {
+                entity,
+                cells,
+                fresh,
+            } => Ok(Delta::Spawned {
+                entity: *entity,
+                cells: cells.try_clone()?,
+                fresh: *fresh,
+            }),
+            Delta::Despawned {
+                entity,
+                place,
+                cells,
+                link,
+                retired,
+            } => Ok(Delta::Despawned {
+                entity: *entity,
+                place: *place,
+                cells: cells.try_clone()?,
+                link: *link,
+                retired: *retired,
+            }),
+            Delta::Shifted {
+                entity,
+                place,
+                kind,
+                cell,
+                inward,
+            } => Ok(Delta::Shifted {
+                entity: *entity,
+                place: *place,
+                kind: *kind,
+                cell: cell.try_clone()?,
+                inward: *inward,
+            }),
+            Delta::CellSet {
+                entity,
+                kind,
+                before,
+                after,
+            } => copy_of_cell(*entity, *kind, before, after),
+            Delta::Linked {
+                entity,
+                before,
+                after,
+            } => Ok(Delta::Linked {
+                entity: *entity,
+                before: *before,
+                after: *after,
+            }),
+            Delta::ResourceSet {
+                name,
+                before,
+                after,
+            } => copy_of_resource(name, before, after),
         }
     }
 }

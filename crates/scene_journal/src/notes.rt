@@ -6,7 +6,7 @@ ghost use Rattle.scene_kinds.specs.Cells.{put_over, shown};
 ghost use Rattle.scene_links.specs.Forest.{link_in};
 ghost use Rattle.scene_resources.specs.Resources.{cell_of as resource_of};
 ghost use Rattle.scene_model.specs.CommandRaw.{last_link};
-ghost use Rattle.scene_model.specs.Perform.{Despawn, Insert, Remove, SetParent, RemoveParent, PutResource, RemoveResource};
+ghost use Rattle.scene_model.specs.Perform.{Despawn, Insert, Remove, PutResource, RemoveResource};
 ghost use Rattle.scene_model.specs.Raw.{cells_of};
 ghost use Rattle.scene_journal.specs.Notes.{deltas_of, listed_delta};
 
@@ -43,7 +43,7 @@ pub(crate) fn cells_of(alloc: Global, world: &World, entity: Entity) -> Result<C
 }
 
 /// The link of an entity, or `None` where it has no parent.
-fn link_of(world: &World, entity: Entity) -> Option<(Entity, u32)>
+pub(crate) fn link_of(world: &World, entity: Entity) -> Option<(Entity, u32)>
     ensures { result ≡ link_in world.now.world.children entity }
 {
     // This tells the prover that the world is valid.
@@ -54,7 +54,7 @@ fn link_of(world: &World, entity: Entity) -> Option<(Entity, u32)>
 }
 
 /// The last place in a parent's list without the child.
-fn last_link(world: &World, child: Entity, parent: Entity) -> (Entity, u32)
+pub(crate) fn last_link(world: &World, child: Entity, parent: Entity) -> (Entity, u32)
     ensures { result ≡ last_link world.now.world.children child parent }
 {
     // This tells the prover that the world is valid.
@@ -175,28 +175,6 @@ pub(crate) fn removed(world: &World, entity: Entity, kind: u8) -> Result<Option<
             None => Ok(None),
         },
         None => Ok(None),
-    }
-}
-
-/// The delta of a new parent. It takes no memory.
-pub(crate) fn linked(world: &World, child: Entity, parent: Entity) -> Delta
-    ensures { result ∷ [] ≡ deltas_of world.now.world (SetParent child parent) }
-{
-    Delta::Linked {
-        entity: child,
-        before: link_of(world, child),
-        after: Some(last_link(world, child, parent)),
-    }
-}
-
-/// The delta of a parent that is taken away. It takes no memory.
-pub(crate) fn unlinked(world: &World, child: Entity) -> Delta
-    ensures { result ∷ [] ≡ deltas_of world.now.world (RemoveParent child) }
-{
-    Delta::Linked {
-        entity: child,
-        before: link_of(world, child),
-        after: None,
     }
 }
 

@@ -7,7 +7,7 @@ ghost use Rattle.scene_journal.specs.Recorder.{opening_of, recording, staged_of}
 use crate::cuts::cut_each;
 use crate::delta::Delta;
 use crate::inserted::insert;
-use crate::notes::{self, keep};
+use crate::notes::{self, keep, last_link, link_of};
 use crate::record::FrameRecord;
 use crate::sound::is_sound;
 use crate::spawned::spawn;
@@ -103,8 +103,8 @@ impl Stage for Recorder {
 
     fn despawn(&mut self, entity: Entity) -> Result<(), Refusal> {
         is_sound(&self.world);
-        let delta = notes::despawned(self.alloc, &self.world, entity)?;
         self.deltas.reserve(1)?;
+        let delta = notes::despawned(self.alloc, &self.world, entity)?;
         self.world.despawn(entity)?;
         keep(&mut self.deltas, delta);
         Ok(())
@@ -120,8 +120,8 @@ impl Stage for Recorder {
 
     fn remove(&mut self, entity: Entity, kind: u8) -> Result<(), Refusal> {
         is_sound(&self.world);
-        let delta = notes::removed(&self.world, entity, kind)?;
         self.deltas.reserve(1)?;
+        let delta = notes::removed(&self.world, entity, kind)?;
         self.world.remove(entity, kind)?;
         keep(&mut self.deltas, delta);
         Ok(())
@@ -129,19 +129,28 @@ impl Stage for Recorder {
 
     fn set_parent(&mut self, child: Entity, parent: Entity) -> Result<(), Refusal> {
         is_sound(&self.world);
-        let delta = notes::linked(&self.world, child, parent);
+        let before = link_of(&self.world, child);
+        let after = last_link(&self.world, child, parent);
         self.deltas.reserve(1)?;
         self.world.set_parent(child, parent)?;
-        self.deltas.push_reserved(delta);
+        self.deltas.push_reserved(Delta::Linked {
+            entity: child,
+            before,
+            after: Some(after),
+        });
         Ok(())
     }
 
     fn remove_parent(&mut self, child: Entity) -> Result<(), Refusal> {
         is_sound(&self.world);
-        let delta = notes::unlinked(&self.world, child);
+        let lost = link_of(&self.world, child);
         self.deltas.reserve(1)?;
         self.world.remove_parent(child)?;
-        self.deltas.push_reserved(delta);
+        self.deltas.push_reserved(Delta::Linked {
+            entity: child,
+            before: lost,
+            after: None,
+        });
         Ok(())
     }
 
@@ -149,8 +158,8 @@ impl Stage for Recorder {
         is_sound(&self.world);
         // This tells the prover that the value is in the range of its type.
         let _shape = value.shape();
-        let delta = notes::put(self.alloc, &self.world, name, &value)?;
         self.deltas.reserve(1)?;
+        let delta = notes::put(self.alloc, &self.world, name, &value)?;
         self.world.put_resource(name, value)?;
         self.deltas.push_reserved(delta);
         Ok(())
@@ -158,8 +167,8 @@ impl Stage for Recorder {
 
     fn remove_resource(&mut self, name: &str) -> Result<(), Refusal> {
         is_sound(&self.world);
-        let delta = notes::taken(self.alloc, &self.world, name)?;
         self.deltas.reserve(1)?;
+        let delta = notes::taken(self.alloc, &self.world, name)?;
         self.world.remove_resource(name)?;
         self.deltas.push_reserved(delta);
         Ok(())

@@ -36,15 +36,18 @@ pub fn redo_delta(world: &mut World, delta: &Delta) -> Result<(), AllocError>
             entity,
             cells,
             fresh,
-        } => world.put_row(*entity, cells.try_clone()?, *fresh)?,
-        Delta::Despawned { entity, .. } => world.cut_row(*entity),
+        } => world.put_row(*entity, cells.try_clone()?, *fresh),
+        Delta::Despawned { entity, .. } => {
+            world.cut_row(*entity);
+            Ok(())
+        }
         Delta::Shifted {
             entity,
             kind,
             cell,
             inward,
             ..
-        } => world.shift_row(*entity, *kind, cell.try_clone()?, *inward)?,
+        } => world.shift_row(*entity, *kind, cell.try_clone()?, *inward),
         Delta::CellSet {
             entity,
             kind,
@@ -52,13 +55,14 @@ pub fn redo_delta(world: &mut World, delta: &Delta) -> Result<(), AllocError>
             ..
         } => {
             let _before = world.set_cell(*entity, *kind, after.try_clone()?);
+            Ok(())
         }
-        Delta::Linked { entity, after, .. } => world.set_link(*entity, wide(*after))?,
+        Delta::Linked { entity, after, .. } => world.set_link(*entity, wide(*after)),
         Delta::ResourceSet { name, after, .. } => {
             let _before = world.set_resource(name.as_str(), copied(after)?)?;
+            Ok(())
         }
     }
-    Ok(())
 }
 
 /// Takes a delta back, where it fits back (docs/JOURNAL.md, "The six deltas"). It makes the room that the world needs,
@@ -73,7 +77,10 @@ pub fn undo_delta(world: &mut World, delta: &Delta) -> Result<(), AllocError>
 {
     let _tick = world.tick();
     match delta {
-        Delta::Spawned { entity, fresh, .. } => world.drop_last(*entity, *fresh),
+        Delta::Spawned { entity, fresh, .. } => {
+            world.drop_last(*entity, *fresh);
+            Ok(())
+        }
         Delta::Despawned {
             entity,
             place,
@@ -82,7 +89,7 @@ pub fn undo_delta(world: &mut World, delta: &Delta) -> Result<(), AllocError>
             retired,
         } => {
             let cells = cells.try_clone()?;
-            world.uncut_row(*entity, *place as usize, cells, wide(*link), *retired)?
+            world.uncut_row(*entity, *place as usize, cells, wide(*link), *retired)
         }
         Delta::Shifted {
             entity,
@@ -92,7 +99,7 @@ pub fn undo_delta(world: &mut World, delta: &Delta) -> Result<(), AllocError>
             inward,
         } => {
             let cell = cell.try_clone()?;
-            world.unshift_row(*entity, *place as usize, *kind, cell, *inward)?
+            world.unshift_row(*entity, *place as usize, *kind, cell, *inward)
         }
         Delta::CellSet {
             entity,
@@ -101,11 +108,12 @@ pub fn undo_delta(world: &mut World, delta: &Delta) -> Result<(), AllocError>
             ..
         } => {
             let _after = world.set_cell(*entity, *kind, before.try_clone()?);
+            Ok(())
         }
-        Delta::Linked { entity, before, .. } => world.set_link(*entity, wide(*before))?,
+        Delta::Linked { entity, before, .. } => world.set_link(*entity, wide(*before)),
         Delta::ResourceSet { name, before, .. } => {
             let _after = world.set_resource(name.as_str(), copied(before)?)?;
+            Ok(())
         }
     }
-    Ok(())
 }

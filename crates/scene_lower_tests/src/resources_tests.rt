@@ -2,7 +2,6 @@
 //! memory where they need it, and do what was worked out by hand.
 use scene_kinds::{Cell, Value};
 use scene_resources::Resources;
-use std::test::Fail;
 
 /// Whether a cell has this number and these ticks.
 fn is_number(cell: Option<&Cell>, number: i64, added: u64, changed: u64) -> bool {
@@ -33,30 +32,28 @@ fn drop_cell(resources: &mut Resources, name: &str) -> bool {
 }
 
 #[test]
-fn cells_come_back(rt: HostRuntime) -> Result<(), Fail> {
+fn cells_come_back(rt: HostRuntime) {
     let mut resources = Resources::new(rt.alloc());
     assert!(rt; put_new(&mut resources, "left", 7, 1));
     assert!(rt; put_and_give_back(&mut resources));
     assert!(rt; is_number(resources.get("left"), 7, 1, 1));
     assert!(rt; resources.restore("left", None).is_ok());
     assert!(rt; resources.get("left").is_none());
-    Ok(())
 }
 
 #[test]
-fn a_kept_name_takes_a_cell_without_memory(rt: HostRuntime) -> Result<(), Fail> {
+fn a_kept_name_takes_a_cell_without_memory(rt: HostRuntime) {
     let mut resources = Resources::new(rt.alloc());
-    resources.reserve("left")?;
+    resources.reserve("left").expect(&rt, "memory");
     assert!(rt; resources.get("left").is_none());
     assert!(rt; resources.put_reserved("left", Value::Int(7), 1).is_none());
-    let taken = resources.take("left")?;
+    let taken = resources.take("left").expect(&rt, "the cell");
     assert!(rt; resources.restore_reserved("left", Some(taken)).is_none());
     assert!(rt; is_number(resources.get("left"), 7, 1, 1));
-    Ok(())
 }
 
 #[test]
-fn what_forgets_names_leaves_the_cells(rt: HostRuntime) -> Result<(), Fail> {
+fn what_forgets_names_leaves_the_cells(rt: HostRuntime) {
     let mut resources = Resources::new(rt.alloc());
     assert!(rt; put_new(&mut resources, "left", 7, 1));
     assert!(rt; put_new(&mut resources, "gold", 3, 2));
@@ -69,5 +66,4 @@ fn what_forgets_names_leaves_the_cells(rt: HostRuntime) -> Result<(), Fail> {
     assert!(rt; drop_cell(&mut resources, "gold"));
     resources.forget("gold");
     assert!(rt; resources.get("gold").is_none());
-    Ok(())
 }

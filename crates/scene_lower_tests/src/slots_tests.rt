@@ -5,7 +5,6 @@ ghost use Rattle.scene_alloc.specs.Slots.{slots_of};
 use scene_alloc::Slots;
 use scene_kinds::Entity;
 use std::alloc::{AllocError, Global};
-use std::test::Fail;
 
 const fn entity(index: u32, generation: u32) -> Entity
     ensures { result ≡ record { index = index; generation = generation } }
@@ -21,36 +20,33 @@ fn highest(alloc: Global) -> Result<Slots, AllocError>
 }
 
 #[test]
-fn retires_an_index_at_the_highest_generation(rt: HostRuntime) -> Result<(), Fail> {
-    let mut slots = highest(rt.alloc())?;
+fn retires_an_index_at_the_highest_generation(rt: HostRuntime) {
+    let mut slots = highest(rt.alloc()).expect(&rt, "memory");
     assert!(rt; slots.release(entity(0, 4294967295)));
     assert!(rt; slots.free().is_empty());
-    assert_eq!(rt; slots.take(), Ok(entity(1, 1)));
-    assert_eq!(rt; slots.generations(), [4294967295, 1].as_slice());
-    Ok(())
+    assert!(rt; slots.take() == Ok(entity(1, 1)));
+    assert!(rt; slots.generations() == [4294967295, 1].as_slice());
 }
 
 #[test]
-fn ways_back_lead_to_no_slot(rt: HostRuntime) -> Result<(), Fail> {
+fn ways_back_lead_to_no_slot(rt: HostRuntime) {
     let mut slots = Slots::new(rt.alloc(), 2);
-    let first = slots.take()?;
+    let first = slots.take().expect(&rt, "memory");
     assert!(rt; !slots.release(first));
     slots.unrelease(first, false);
-    assert_eq!(rt; slots.generations(), [1].as_slice());
+    assert!(rt; slots.generations() == [1].as_slice());
     slots.untake(first, true);
     assert!(rt; slots.is_empty());
-    Ok(())
 }
 
 #[test]
-fn slots_with_room_are_made_without_memory(rt: HostRuntime) -> Result<(), Fail> {
+fn slots_with_room_are_made_without_memory(rt: HostRuntime) {
     let mut slots = Slots::new(rt.alloc(), 2);
-    slots.reserve(2)?;
-    assert_eq!(rt; slots.take_reserved(), entity(0, 1));
-    assert_eq!(rt; slots.take_reserved(), entity(1, 1));
+    slots.reserve(2).expect(&rt, "memory");
+    assert!(rt; slots.take_reserved() == entity(0, 1));
+    assert!(rt; slots.take_reserved() == entity(1, 1));
     assert!(rt; !slots.release(entity(0, 1)));
-    assert_eq!(rt; slots.take_reserved(), entity(0, 2));
+    assert!(rt; slots.take_reserved() == entity(0, 2));
     slots.untake(entity(0, 2), false);
-    assert_eq!(rt; slots.free(), [0].as_slice());
-    Ok(())
+    assert!(rt; slots.free() == [0].as_slice());
 }

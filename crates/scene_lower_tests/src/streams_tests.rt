@@ -4,7 +4,6 @@ use scene_streams::{MOST_BYTES, MOST_TURNS, ReadError, Sink, Source};
 use std::alloc::Global;
 use std::io;
 use std::io::{ErrorKind, Read};
-use std::test::Fail;
 
 /// Gives so many spaces, `step` a call, and fails at one call.
 #[derive(Drop)]
@@ -40,101 +39,101 @@ fn source_of(left: usize, step: usize, fails_at: u32, kind: ErrorKind) -> Source
     })
 }
 
+/// Whether a read answers so many bytes, or this error.
+fn answers(alloc: Global, source: &mut Source<Spaces>, wanted: Result<usize, ReadError>) -> bool {
+    match source.read_all(alloc) {
+        Ok(bytes) => wanted == Ok(bytes.len()),
+        Err(error) => wanted == Err(error),
+    }
+}
+
+/// Whether a source has made so many calls of its reader, each a turn, and whether it has failed.
+fn has_made(source: &Source<Spaces>, calls: u32, failed: bool) -> bool {
+    source.get_ref().calls == calls
+        && source.turns_left() == MOST_TURNS.saturating_sub(calls)
+        && source.has_failed() == failed
+}
+
 #[test]
-fn reads_within_the_limits(rt: HostRuntime) -> Result<(), Fail> {
+fn reads_within_the_limits(rt: HostRuntime) {
+    let too_long = Err(ReadError::TooLong);
+    let turns = MOST_TURNS as usize;
     let cases = [
-        (MOST_BYTES, MOST_BYTES, true),
-        (MOST_BYTES + 1, MOST_BYTES, false),
-        (MOST_TURNS as usize - 1, 1, true),
-        (MOST_TURNS as usize, 1, false),
+        (MOST_BYTES, MOST_BYTES, Ok(MOST_BYTES)),
+        (MOST_BYTES + 1, MOST_BYTES, too_long),
+        (turns - 1, 1, Ok(turns - 1)),
+        (turns, 1, too_long),
     ];
-    for (length, step, fits) in cases {
+    for (length, step, wanted) in cases {
         let mut source = source_of(length, step, 0, ErrorKind::Other);
-        match source.read_all(rt.alloc()) {
-            Ok(bytes) => assert!(rt; fits && bytes.len() == length, "read {length}"),
-            Err(error) => assert!(rt; !fits && error == ReadError::TooLong, "refused {length}"),
-        }
-        assert!(rt; !source.has_failed(), "{length}");
-        let calls = source.get_ref().calls;
-        assert_eq!(rt;
-            source.turns_left(),
-            MOST_TURNS.saturating_sub(calls),
+        assert!(rt; answers(rt.alloc(), &mut source, wanted), "read {length}");
+        assert!(rt;
+            has_made(&source, source.get_ref().calls, false),
             "{length}"
         );
     }
-    Ok(())
 }
 
 #[test]
-fn a_source_without_turns_reads_no_more(rt: HostRuntime) -> Result<(), Fail> {
+fn a_source_without_turns_reads_no_more(rt: HostRuntime) {
+    let too_long = Err(ReadError::TooLong);
     let mut source = source_of(MOST_TURNS as usize + 1, 1, 0, ErrorKind::Other);
     for _ in 0..2 {
-        let answer = source.read_all(rt.alloc());
-        assert!(rt; answer.is_err_and(|error| error == ReadError::TooLong));
-        assert_eq!(rt; source.turns_left(), 0);
-        assert_eq!(rt; source.get_ref().calls, MOST_TURNS);
+        assert!(rt; answers(rt.alloc(), &mut source, too_long));
+        assert!(rt; has_made(&source, MOST_TURNS, false));
     }
-    Ok(())
+}
+
+/// Whether a source of 1000 spaces, 100 a call, whose reader fails at one of its first 11 calls, fails then and stays so
+/// without a further call.
+fn fails_for_good(alloc: Global, fails_at: u32) -> bool {
+    let fault = Err(ReadError::Fault);
+    let mut source = source_of(1000, 100, fails_at, ErrorKind::Other);
+    let failed = answers(alloc, &mut source, fault) && has_made(&source, fails_at, true);
+    let again = answers(alloc, &mut source, fault) && has_made(&source, fails_at, true);
+    failed && again && source.into_inner().calls == fails_at
+}
+
+/// Whether such a source, which is interrupted at one call, or fails at none, reads all, with so many calls.
+fn reads_all(alloc: Global, fails_at: u32, kind: ErrorKind, calls: u32) -> bool {
+    let mut source = source_of(1000, 100, fails_at, kind);
+    answers(alloc, &mut source, Ok(1000)) && has_made(&source, calls, false)
 }
 
 #[test]
-fn a_failed_call_is_a_fault_and_stays_one(rt: HostRuntime) -> Result<(), Fail> {
-    let alloc = rt.alloc();
-    for fails_at in 1u32..=12 {
-        let mut source = source_of(1000, 100, fails_at, ErrorKind::Other);
-        let failed = fails_at < 12;
-        match source.read_all(alloc) {
-            Ok(bytes) => assert!(rt; !failed && bytes.len() == 1000, "call {fails_at}"),
-            Err(error) => assert!(rt; failed && error == ReadError::Fault, "call {fails_at}"),
-        }
-        assert_eq!(rt; source.has_failed(), failed, "call {fails_at}");
-        assert_eq!(rt; source.get_ref().calls, fails_at.min(11), "call {fails_at}");
-        if failed {
-            let again = source.read_all(alloc);
-            assert!(rt;
-                again.is_err_and(|error| error == ReadError::Fault),
-                "again {fails_at}"
-            );
-            assert!(rt; source.has_failed(), "again {fails_at}");
-            assert_eq!(rt; source.turns_left(), MOST_TURNS.saturating_sub(fails_at));
-            assert_eq!(rt; source.into_inner().calls, fails_at, "again {fails_at}");
-        }
+fn a_failed_call_is_a_fault_and_stays_one(rt: HostRuntime) {
+    for fails_at in 1u32..=11 {
+        assert!(rt; fails_for_good(rt.alloc(), fails_at), "call {fails_at}");
     }
-    Ok(())
+    assert!(rt; reads_all(rt.alloc(), 12, ErrorKind::Other, 11));
 }
 
 #[test]
-fn an_interrupted_call_is_made_again_and_counts(rt: HostRuntime) -> Result<(), Fail> {
-    for fails_at in 1u32..=12 {
-        let mut source = source_of(1000, 100, fails_at, ErrorKind::Interrupted);
-        let bytes = source.read_all(rt.alloc()).ok();
+fn an_interrupted_call_is_made_again_and_counts(rt: HostRuntime) {
+    for fails_at in 1u32..=11 {
         assert!(rt;
-            bytes.is_some_and(|bytes| bytes.len() == 1000),
+            reads_all(rt.alloc(), fails_at, ErrorKind::Interrupted, 12),
             "interrupted at {fails_at}"
         );
-        assert!(rt; !source.has_failed(), "interrupted at {fails_at}");
-        let calls = if fails_at == 12 { 11 } else { 12 };
-        assert_eq!(rt;
-            source.turns_left(),
-            MOST_TURNS - calls,
-            "interrupted at {fails_at}"
-        );
-        assert_eq!(rt; source.get_ref().calls, calls, "interrupted at {fails_at}");
     }
-    Ok(())
+    assert!(rt; reads_all(rt.alloc(), 12, ErrorKind::Interrupted, 11));
+}
+
+/// Whether the next read of a source gives this text.
+fn gives(alloc: Global, source: &mut Source<&[u8]>, text: &str) -> bool {
+    match source.read_all(alloc) {
+        Ok(found) => found.as_slice() == text.as_bytes(),
+        Err(_) => false,
+    }
 }
 
 #[test]
-fn a_source_gives_the_bytes_of_its_reader(rt: HostRuntime) -> Result<(), Fail> {
+fn a_source_gives_the_bytes_of_its_reader(rt: HostRuntime) {
     let mut source = Source::new(&b"spawn A=1\n"[..]);
-    for bytes in ["spawn A=1\n", ""] {
-        match source.read_all(rt.alloc()) {
-            Ok(found) => assert_eq!(rt; found.as_slice(), bytes.as_bytes()),
-            Err(_) => assert!(rt; false, "refused"),
-        }
+    for text in ["spawn A=1\n", ""] {
+        assert!(rt; gives(rt.alloc(), &mut source, text), "{text}");
     }
     assert_eq!(rt; source.turns_left(), MOST_TURNS - 3);
-    Ok(())
 }
 
 /// A sink whose writer stops at one call, from 1, or at none for 0.
@@ -153,37 +152,47 @@ fn stops_for_good(sink: Sink<Taker>, text: &[u8], stops_at: u32) -> bool {
     failed && again && writer.calls() == stops_at && writer.taken() == &text[..length]
 }
 
+/// Writes texts one after another. Answers the number, from 0, of the first one that is refused.
+fn first_refused(sink: &mut Sink<Taker>, texts: &[&str]) -> Option<usize> {
+    texts
+        .iter()
+        .position(|text| sink.write_all(text.as_bytes()).is_err())
+}
+
+/// Whether the writer of a sink has taken just this text, and nothing failed.
+fn has_taken(sink: &Sink<Taker>, text: &str) -> bool {
+    !sink.has_failed() && sink.get_ref().taken() == text.as_bytes()
+}
+
 #[test]
-fn writes_a_prefix_where_a_write_stops_and_then_nothing(rt: HostRuntime) -> Result<(), Fail> {
-    let text = b"done 0v1\n";
+fn writes_a_prefix_where_a_write_stops_and_then_nothing(rt: HostRuntime) {
+    let text = "done 0v1\n";
     for stops_at in 1u32..=5 {
         for fails in [false, true] {
             let sink = slow_sink(rt.alloc(), stops_at, fails);
-            assert!(rt; stops_for_good(sink, text, stops_at), "call {stops_at}");
+            assert!(rt;
+                stops_for_good(sink, text.as_bytes(), stops_at),
+                "call {stops_at}"
+            );
         }
     }
     let mut sink = slow_sink(rt.alloc(), 6, true);
-    assert!(rt; sink.write_all(text).is_ok() && !sink.has_failed());
-    assert!(rt; sink.get_ref().taken() == &text[..]);
-    Ok(())
+    assert!(rt; sink.write_all(text.as_bytes()).is_ok());
+    assert!(rt; has_taken(&sink, text));
 }
 
 #[test]
-fn a_sink_takes_one_text_after_another(rt: HostRuntime) -> Result<(), Fail> {
+fn a_sink_takes_one_text_after_another(rt: HostRuntime) {
     let mut sink = slow_sink(rt.alloc(), 0, false);
-    for text in ["spawn", "", " A=1\n"] {
-        assert!(rt; sink.write_all(text.as_bytes()).is_ok(), "{text}");
-    }
-    assert!(rt; !sink.has_failed());
-    assert_eq!(rt; sink.get_ref().taken(), &b"spawn A=1\n"[..]);
-    Ok(())
+    let texts = ["spawn", "", " A=1\n"];
+    assert_eq!(rt; first_refused(&mut sink, texts.as_slice()), None);
+    assert!(rt; has_taken(&sink, "spawn A=1\n"));
 }
 
 #[test]
-fn nothing_to_write_calls_no_writer(rt: HostRuntime) -> Result<(), Fail> {
+fn nothing_to_write_calls_no_writer(rt: HostRuntime) {
     let mut sink = slow_sink(rt.alloc(), 1, true);
     assert!(rt; sink.write_all(b"").is_ok());
-    assert!(rt; !sink.has_failed());
+    assert!(rt; has_taken(&sink, ""));
     assert_eq!(rt; sink.get_ref().calls(), 0);
-    Ok(())
 }

@@ -1,12 +1,12 @@
 //! Queues: lists of commands with a limit, and what applying them does.
-ghost use Rattle.std.specs.Prelude.{◌≡◌, ◌≢◌, ◌<◌, ◌≤◌, ◌^◌, length, IfErr, IfOk, OnOk, OnErr, Ok, Err, if◌then◌else◌};
+ghost use Rattle.std.specs.Prelude.{◌≡◌, ◌≢◌, ◌<◌, ◌≤◌, ◌^◌, length, IfErr, IfOk, OnOk, OnErr, MatchResult, None, Ok, Err, if◌then◌else◌};
 ghost use Rattle.std.specs.Prelude.{vec_len, vec_capacity};
 ghost use Rattle.scene_kinds.specs.Answers.{Answers, refusal_of};
 ghost use Rattle.scene_kinds.specs.declared.fault.Fault.TheVariants.{NoMemory, QueueFull};
 ghost use Rattle.scene_commands.specs.declared.command.Command.TheVariants.{Spawn};
 ghost use Rattle.scene_commands.specs.declared.target.Target.TheVariants.{New};
 ghost use Rattle.scene_model.specs.Queue.{and_spawned, play, reached, refused_at, request, whole};
-ghost use Rattle.scene_model.specs.Perform.{SetParent, perform};
+ghost use Rattle.scene_model.specs.Perform.{Spawn as SpawnCells, DespawnRecursiveIfAlive, Insert, PutResource, SetParent, perform};
 ghost use Rattle.scene_model.specs.Frame.{queue as one_queue, queues_from};
 ghost use Rattle.scene_world.specs.Room.{IsWider};
 ghost use Rattle.scene_world.specs.Stage.{act};
@@ -15,7 +15,7 @@ ghost use Rattle.scene_queue.specs.Requests.{on_both, request_of, requests};
 ghost use Rattle.scene_queue.specs.Frames.{frame_of, ArePassed};
 
 use scene_commands::{Command, Components, Target};
-use scene_kinds::{Entity, Fault, Place, Refusal};
+use scene_kinds::{Entity, Fault, Place, Refusal, Text, Value};
 use scene_world::Stage;
 use std::alloc::{AllocError, Global};
 use std::marker::Model;
@@ -172,6 +172,75 @@ impl Queue {
     }
 }
 
+/// The answer of a command that spawns nothing.
+fn no_entity(done: Result<(), Refusal>) -> Result<Option<Entity>, Refusal>
+    ensures { MatchResult done (λ _. result ≡ Ok None) (λ r. result ≡ Err r) }
+{
+    match done {
+        Ok(()) => Ok(None),
+        Err(refusal) => Err(refusal),
+    }
+}
+
+/// Spawns an entity with a copy of these components.
+fn spawn<S: Stage>(components: &Components, stage: &mut S) -> Result<Option<Entity>, Refusal>
+    ensures answer { Answers result (S.seen stage.old) (S.seen stage.new)
+        (act S.note (S.seen stage.old) (SpawnCells components.now)) }
+    ensures opening { S.opening stage.new ≡ S.opening stage.old }
+    ensures wide { IsWider (S.room stage.old) (S.room stage.new) }
+{
+    let components = components.try_clone()?;
+    match stage.spawn(components.into_vec()) {
+        Ok(entity) => Ok(Some(entity)),
+        Err(refusal) => Err(refusal),
+    }
+}
+
+/// Despawns an entity and all below it, where it is alive.
+fn despawn_if_alive<S: Stage>(entity: Entity, stage: &mut S) -> Result<Option<Entity>, Refusal>
+    ensures answer { Answers result (S.seen stage.old) (S.seen stage.new)
+        (act S.note (S.seen stage.old) (DespawnRecursiveIfAlive entity)) }
+    ensures opening { S.opening stage.new ≡ S.opening stage.old }
+    ensures wide { IsWider (S.room stage.old) (S.room stage.new) }
+{
+    if stage.world().is_alive(entity) {
+        no_entity(stage.despawn_recursive(entity))
+    } else {
+        Ok(None)
+    }
+}
+
+/// Gives an entity a copy of a value as its component of a kind.
+fn insert<S: Stage>(
+    entity: Entity,
+    kind: u8,
+    value: &Value,
+    stage: &mut S,
+) -> Result<Option<Entity>, Refusal>
+    ensures answer { Answers result (S.seen stage.old) (S.seen stage.new)
+        (act S.note (S.seen stage.old) (Insert entity kind value.now)) }
+    ensures opening { S.opening stage.new ≡ S.opening stage.old }
+    ensures wide { IsWider (S.room stage.old) (S.room stage.new) }
+{
+    let copy = value.try_clone()?;
+    no_entity(stage.insert(entity, kind, copy))
+}
+
+/// Puts a copy of a value at a name.
+fn put_resource<S: Stage>(
+    name: &Text,
+    value: &Value,
+    stage: &mut S,
+) -> Result<Option<Entity>, Refusal>
+    ensures answer { Answers result (S.seen stage.old) (S.seen stage.new)
+        (act S.note (S.seen stage.old) (PutResource name.now value.now)) }
+    ensures opening { S.opening stage.new ≡ S.opening stage.old }
+    ensures wide { IsWider (S.room stage.old) (S.room stage.new) }
+{
+    let copy = value.try_clone()?;
+    no_entity(stage.put_resource(name.as_str(), copy))
+}
+
 /// Makes the first target the last child of the second.
 fn link<S: Stage>(
     child: Target,
@@ -203,32 +272,21 @@ fn do_command<S: Stage>(
     ensures wide { IsWider (S.room stage.old) (S.room stage.new) }
 {
     match command {
-        Command::Spawn(components) => {
-            let components = components.try_clone()?;
-            let entity = stage.spawn(components.into_vec())?;
-            return Ok(Some(entity));
+        Command::Spawn(components) => spawn(components, stage),
+        Command::Despawn(target) => no_entity(stage.despawn(target.entity(spawned)?)),
+        Command::DespawnAll(target) => {
+            no_entity(stage.despawn_recursive(target.entity(spawned)?))
         }
-        Command::Despawn(target) => stage.despawn(target.entity(spawned)?)?,
-        Command::DespawnAll(target) => stage.despawn_recursive(target.entity(spawned)?)?,
-        Command::DespawnAllIfAlive(target) => {
-            let entity = target.entity(spawned)?;
-            if stage.world().is_alive(entity) {
-                stage.despawn_recursive(entity)?;
-            }
-        }
+        Command::DespawnAllIfAlive(target) => despawn_if_alive(target.entity(spawned)?, stage),
         Command::Insert(target, kind, value) => {
-            let entity = target.entity(spawned)?;
-            stage.insert(entity, *kind, value.try_clone()?)?
+            insert(target.entity(spawned)?, *kind, value, stage)
         }
-        Command::Remove(target, kind) => stage.remove(target.entity(spawned)?, *kind)?,
-        Command::SetParent(child, parent) => return link(*child, *parent, spawned, stage),
-        Command::RemoveParent(child) => stage.remove_parent(child.entity(spawned)?)?,
-        Command::PutResource(name, value) => {
-            stage.put_resource(name.as_str(), value.try_clone()?)?
-        }
-        Command::RemoveResource(name) => stage.remove_resource(name.as_str())?,
+        Command::Remove(target, kind) => no_entity(stage.remove(target.entity(spawned)?, *kind)),
+        Command::SetParent(child, parent) => link(*child, *parent, spawned, stage),
+        Command::RemoveParent(child) => no_entity(stage.remove_parent(child.entity(spawned)?)),
+        Command::PutResource(name, value) => put_resource(name, value, stage),
+        Command::RemoveResource(name) => no_entity(stage.remove_resource(name.as_str())),
     }
-    Ok(None)
 }
 
 /// Adds what a command spawned, if anything.

@@ -1,7 +1,9 @@
-use Rattle.std.proofs.Common.{◌++◌, ap, subst, ◌∙◌}
+use Rattle.std.proofs.Common.{◌++◌, ap, subst, sym, ◌∙◌}
 use Rattle.scene_world.specs.Room.{Holds}
 use Rattle.scene_journal.specs.Notes.{listed_delta}
-use Rattle.scene_journal.proofs.CutRows.{next_cut}
+use Rattle.scene_journal.specs.Ready.{AreReady}
+use Rattle.scene_journal.specs.Records.{back_all}
+use Rattle.scene_journal.proofs.CutRows.{all_cut, next_cut}
 use Rattle.scene_journal.proofs.cuts.cut_each.Goals as goal
 
 pub loop-entity-preserved : goal.loop-entity-preserved
@@ -12,3 +14,29 @@ loop-entity-preserved c = (
       (c.keep.ensures ∙ ap (λ xs. xs ++ listed_delta c.in-Ok.delta) c.in-Ok.ensures.items),
   c.cut_row.ensures.room ∙ c.loop-entity.invariant.1,
 )
+
+pub take_all_back-requires : goal.take_all_back-requires
+take_all_back-requires c =
+    subst (λ r. AreReady r c.room_and_delta.new.deltas.items c.loop-entity.world.world) (sym c.loop-entity.invariant.1)
+    (subst (λ ds. AreReady c.args.world.now.room ds c.loop-entity.world.world) (sym c.in-Err.ensures.items) c.loop-entity.invariant.0.ready)
+
+pub returns-in-Err-clause-back : goal.returns-in-Err-clause-back
+returns-in-Err-clause-back c =
+    c.take_all_back.ensures.world ∙ ap (λ ds. back_all ds c.loop-entity.world.world) c.in-Err.ensures.items ∙ c.loop-entity.invariant.0.back
+
+pub returns-clause-made : goal.returns-clause-made
+returns-clause-made c =
+    (all_cut c.args.world.now.room c.args.world.now.world c.args.order.now c.loop-entity.entity-index c.loop-entity.world.world c.loop-entity.deltas.items
+    c.loop-entity-test.false c.loop-entity.invariant.0).0
+
+pub returns-clause-noted : goal.returns-clause-noted
+returns-clause-noted c =
+    (all_cut c.args.world.now.room c.args.world.now.world c.args.order.now c.loop-entity.entity-index c.loop-entity.world.world c.loop-entity.deltas.items
+    c.loop-entity-test.false c.loop-entity.invariant.0).1
+
+pub returns-clause-ready : goal.returns-clause-ready
+returns-clause-ready c =
+    subst (λ r. AreReady r c.loop-entity.deltas.items c.loop-entity.world.world) (sym c.loop-entity.invariant.1) c.loop-entity.invariant.0.ready
+
+pub returns-clause-opening : goal.returns-clause-opening
+returns-clause-opening c = c.loop-entity.invariant.0.back

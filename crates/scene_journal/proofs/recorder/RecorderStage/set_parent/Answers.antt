@@ -1,5 +1,6 @@
 use Rattle.std.proofs.Common.{◌++◌, ◌∷◌, [], ap, ◌∙◌, Some}
 use Rattle.scene_model.specs.Perform.{SetParent}
+use Rattle.scene_journal.specs.declared.delta.Delta.TheVariants.{Linked}
 use Rattle.scene_journal.specs.Recorder.{Recording, opening_of}
 use Rattle.scene_journal.proofs.Commands.{set_parent_leads}
 use Rattle.scene_journal.proofs.Recorded.{stays_ready, goes_ready, goes_back}
@@ -14,15 +15,15 @@ pub invariant_of-self-2 : goal.invariant_of-self-2
 invariant_of-self-2 c =
     let w = c.self.inside.world in
     let v = c.set_parent.new.self in
-    goes_ready w.room v.room c.self.inside.deltas.items c.push_reserved.new.self.items w.world v.world (SetParent c.args.child c.args.parent) (Some c.linked-delta.result)
-    c.is_sound.ensures.valid c.linked-delta.ensures (set_parent_leads w.world v.world c.args.child c.args.parent c.is_sound.ensures.valid c.in_ok-set_parent.ensures.answer)
-    (c.push_reserved.ensures.items ∙ ap (λ xs. xs ++ c.linked-delta.result ∷ []) c.reserve.ensures.items) c.is_sound.ensures.held c.set_parent.ensures.wide c.self.invariant
+    goes_ready w.room v.room c.self.inside.deltas.items c.push_reserved.new.self.items w.world v.world (SetParent c.args.child c.args.parent) (Some (Linked c.args.child c.link_of-before.result (Some c.last_link-after.result)))
+    c.is_sound.ensures.valid (λ i. Linked c.args.child (c.link_of-before.ensures i) (Some (c.last_link-after.ensures i)) ∷ []) (set_parent_leads w.world v.world c.args.child c.args.parent c.is_sound.ensures.valid c.in_ok-set_parent.ensures.answer)
+    (c.push_reserved.ensures.items ∙ ap (λ xs. xs ++ Linked c.args.child c.link_of-before.result (Some c.last_link-after.result) ∷ []) c.reserve.ensures.items) c.is_sound.ensures.held c.set_parent.ensures.wide c.self.invariant
 
 pub returns-clause-opening : goal.returns-clause-opening
 returns-clause-opening c =
     let w = c.self.inside.world in
     let v = c.set_parent.new.self in
-    ap (λ u. Some u) (goes_back w.room v.room c.self.inside.deltas.items c.push_reserved.new.self.items w.world v.world (SetParent c.args.child c.args.parent) (Some c.linked-delta.result)
-    c.is_sound.ensures.valid c.linked-delta.ensures (set_parent_leads w.world v.world c.args.child c.args.parent c.is_sound.ensures.valid c.in_ok-set_parent.ensures.answer)
-    (c.push_reserved.ensures.items ∙ ap (λ xs. xs ++ c.linked-delta.result ∷ []) c.reserve.ensures.items))
+    ap (λ u. Some u) (goes_back w.room v.room c.self.inside.deltas.items c.push_reserved.new.self.items w.world v.world (SetParent c.args.child c.args.parent) (Some (Linked c.args.child c.link_of-before.result (Some c.last_link-after.result)))
+    c.is_sound.ensures.valid (λ i. Linked c.args.child (c.link_of-before.ensures i) (Some (c.last_link-after.ensures i)) ∷ []) (set_parent_leads w.world v.world c.args.child c.args.parent c.is_sound.ensures.valid c.in_ok-set_parent.ensures.answer)
+    (c.push_reserved.ensures.items ∙ ap (λ xs. xs ++ Linked c.args.child c.link_of-before.result (Some c.last_link-after.result) ∷ []) c.reserve.ensures.items))
     ∙ ap (λ (r : Recording). Some (opening_of r)) c.self.view_is
