@@ -6,7 +6,7 @@ use scene_commands::{Command, Components, Target};
 use scene_kinds::{Entity, Fault, Refusal, Schema, Shape, Text, Value};
 use scene_pass::{CellName, Filter, changed_since, matching};
 use scene_queue::Queue;
-use scene_undo::{Editor, Made};
+use scene_undo::{Cursor, Editor, Made};
 use scene_world::World;
 use std::alloc::{AllocError, Global};
 
@@ -18,13 +18,6 @@ const POSITION: u8 = 1;
 
 /// How many slots a level has.
 const SLOTS: u32 = 65_536;
-
-/// A moment of a level, since which changes can be asked for until something is undone.
-#[derive(Clone, Copy, Drop)]
-pub struct Cursor {
-    rewinds: u64,
-    tick: u64,
-}
 
 /// A drag of a selection, with the positions from which it began.
 #[derive(Drop)]
@@ -180,19 +173,12 @@ impl Level {
 
     /// The level as it is now.
     pub fn cursor(&self) -> Cursor {
-        Cursor {
-            rewinds: self.editor.rewinds(),
-            tick: self.editor.world().tick(),
-        }
+        self.editor.cursor()
     }
 
     /// The cells that were written since a cursor. A cursor of before an undo is refused.
     pub fn changed(&self, since: Cursor) -> Result<Vec<CellName>, LevelError> {
-        let rewinds = self.editor.rewinds();
-        if since.rewinds != rewinds {
-            return Err(LevelError::Refused(Refusal::from(Fault::Rewound(rewinds))));
-        }
-        let world = self.editor.world();
-        Ok(changed_since(self.alloc, world, Filter::all(), since.tick)?)
+        let tick = self.editor.since(since)?;
+        Ok(changed_since(self.alloc, self.editor.world(), Filter::all(), tick)?)
     }
 }

@@ -6,9 +6,10 @@ mod error;
 mod level;
 
 use crate::error::LevelError;
-use crate::level::{Cursor, Level};
+use crate::level::Level;
 use anyhow::Result;
 use scene_kinds::Entity;
+use scene_undo::Cursor;
 use std::io;
 
 /// Prints where a thing is.

@@ -1,9 +1,9 @@
 -- A script as a function of its lines: the setup, the machine of saved worlds line by line, the printed text, and the bad lines
 -- with their reasons.
-use Rattle.std.specs.Prelude.{ℕ, ◌+◌, List, [], ◌∷◌, ◌++◌, Option, Some, None, Result, Ok, Err, option_map, codes, decimal, nat_eq, if◌then◌else◌}
+use Rattle.std.specs.Prelude.{ℕ, ◌+◌, List, [], ◌∷◌, ◌++◌, Option, Some, None, Result, Ok, Err, option_map, codes, decimal}
 use Rattle.std.specs.Str.Lines.{lines}
 use Rattle.scene_kinds.specs.declared.entity.Entity.{Entity}
-use Rattle.scene_kinds.specs.declared.fault.Fault.TheVariants.{NoSuchEntity, Rewound}
+use Rattle.scene_kinds.specs.declared.fault.Fault.TheVariants.{NoSuchEntity}
 use Rattle.scene_kinds.specs.declared.refusal.Refusal.{Refusal}
 use Rattle.scene_kinds.specs.declared.shape.Shape.{Shape}
 use Rattle.scene_kinds.specs.Answers.{Outcome, refusal_of}
@@ -19,7 +19,8 @@ use Rattle.scene_kinds.specs.declared.cells.Row.{Row}
 use Rattle.scene_pass.specs.Pass.{changed_since, added_since}
 use Rattle.scene_pass.specs.declared.cell_name.CellName.{CellName}
 use Rattle.scene_pass.specs.declared.filter.Filter.{Filter}
-use Rattle.scene_app.specs.declared.cursor.Cursor.{Cursor}
+use Rattle.scene_undo.specs.declared.cursor.Cursor.{Cursor}
+use Rattle.scene_undo.specs.Cursor.{cursor_of, since}
 use Rattle.scene_app.specs.declared.play_state.PlayState.{PlayState}
 use Rattle.scene_script.specs.declared.script_line.Line.{Line}
 use Rattle.scene_script.specs.declared.script_line.Line.TheVariants.{Empty, Kind, Slots, Load, Do, Begin, Queue, Commit, Undo, Redo, Show, Get, Mark, Changed, Added, Dump}
@@ -52,14 +53,6 @@ with_cursor s c = record s { cursor = c }
 -- the state with another open frame, or with none
 abbrev pub with_frame : PlayState → Option Opened → PlayState
 with_frame s f = record s { frame = f }
-
--- the cursor of now
-abbrev pub cursor_of : Machine World → Cursor
-cursor_of m = record { rewinds = m.rewinds; tick = m.now.tick }
-
--- the tick after which cells are listed; after an undo since the cursor, a refusal with the count of rewinds now
-abbrev pub since : PlayState → Result ℕ Refusal
-since s = if nat_eq s.cursor.rewinds s.machine.rewinds then Ok s.cursor.tick else Err (refusal_of (Rewound s.machine.rewinds))
 
 -- ---- the answer of a line
 
@@ -99,11 +92,11 @@ since_text word kinds cells (Err r) = refused_text r
 
 -- what `changed` prints
 abbrev pub changed_text : PlayState → List ℕ
-changed_text s = since_text (codes "changed") s.machine.now.schema (changed_since s.machine.now no_filter) (since s)
+changed_text s = since_text (codes "changed") s.machine.now.schema (changed_since s.machine.now no_filter) (since s.cursor s.machine)
 
 -- what `added` prints
 abbrev pub added_text : PlayState → List ℕ
-added_text s = since_text (codes "added") s.machine.now.schema (added_since s.machine.now no_filter) (since s)
+added_text s = since_text (codes "added") s.machine.now.schema (added_since s.machine.now no_filter) (since s.cursor s.machine)
 
 -- a scene text as it is written, with its newline, or the line of the fault
 abbrev pub saved_text : Result (List ℕ) FileFault → List ℕ

@@ -7,7 +7,8 @@ ghost use Rattle.scene_script.specs.declared.script_line.Line.TheVariants.{Begin
 ghost use Rattle.scene_queue.specs.Frames.{frame_of};
 ghost use Rattle.scene_app.specs.OpenFrame.{alone, queue_count};
 ghost use Rattle.scene_model.specs.World.{row_of};
-ghost use Rattle.scene_app.specs.Play.{line_reply, lone_reply, said_reply, call_reply, submit_reply, made_text, refused_text, row_answer, undone_text, redone_text, mark_text, changed_text, added_text, dump_text, cursor_of, with_cursor};
+ghost use Rattle.scene_app.specs.Play.{line_reply, lone_reply, said_reply, call_reply, submit_reply, made_text, refused_text, row_answer, undone_text, redone_text, mark_text, changed_text, added_text, dump_text, with_cursor};
+ghost use Rattle.scene_undo.specs.Cursor.{cursor_of};
 ghost use Rattle.scene_app.specs.Steps.{Replies};
 
 use crate::file_fault_text::answer_file_fault;

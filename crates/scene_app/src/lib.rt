@@ -8,7 +8,6 @@
 
 mod answer;
 mod check;
-mod cursor;
 mod fault;
 mod file_fault_text;
 mod framed_answer;

@@ -1,8 +1,10 @@
 //! The editor of a script, as the machine of saved worlds that its lines are told by.
 ghost use Rattle.std.specs.Prelude.{◌≡◌};
 ghost use Rattle.scene_model.specs.Machine.{opening};
+ghost use Rattle.scene_undo.specs.Cursor.{cursor_of, since};
 
-use scene_undo::Editor;
+use scene_kinds::Refusal;
+use scene_undo::{Cursor, Editor};
 use scene_world::World;
 use std::alloc::Global;
 use std::marker::Model;
@@ -43,10 +45,17 @@ impl Machine {
         self.editor.world()
     }
 
-    /// How many undos there were.
-    pub(crate) fn rewinds(&self) -> u64
-        ensures { result ≡ self.entry.now.rewinds }
+    /// The cursor of now.
+    pub(crate) fn cursor(&self) -> Cursor
+        ensures { result ≡ cursor_of self.entry.now }
     {
-        self.editor.rewinds()
+        self.editor.cursor()
+    }
+
+    /// The tick after which a query since a cursor lists cells, or `Rewound`.
+    pub(crate) fn since(&self, cursor: Cursor) -> Result<u64, Refusal>
+        ensures { result ≡ since cursor self.entry.now }
+    {
+        self.editor.since(cursor)
     }
 }

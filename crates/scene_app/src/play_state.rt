@@ -1,11 +1,12 @@
 //! What a script has come to between two lines after the setup.
 ghost use Rattle.std.specs.Prelude.{◌≡◌};
-ghost use Rattle.scene_app.specs.Play.{opening_state, cursor_of, with_cursor, since};
+ghost use Rattle.scene_undo.specs.Cursor.{cursor_of, since};
+ghost use Rattle.scene_app.specs.Play.{opening_state, with_cursor};
 
-use crate::cursor::Cursor;
 use crate::machine::Machine;
 use crate::open_frame::OpenFrame;
-use scene_kinds::{Fault, Refusal};
+use scene_kinds::Refusal;
+use scene_undo::Cursor;
 use scene_world::World;
 use std::alloc::Global;
 
@@ -37,25 +38,16 @@ impl PlayState {
         ensures cursor { result ≡ cursor_of self.old.machine }
         ensures kept { self.new ≡ with_cursor self.old (cursor_of self.old.machine) }
     {
-        let cursor = Cursor {
-            rewinds: self.machine.rewinds(),
-            tick: self.machine.now().tick(),
-        };
-        self.cursor = cursor;
-        cursor
+        self.cursor = self.machine.cursor();
+        self.cursor
     }
 
     /// The tick after which a query lists cells.
     ///
     /// Refused: `Rewound`, with the count of rewinds now, where there was an undo since the cursor was taken.
     pub(crate) fn since(&self) -> Result<u64, Refusal>
-        ensures { result ≡ since self.now }
+        ensures { result ≡ since self.now.cursor self.now.machine }
     {
-        let rewinds = self.machine.rewinds();
-        if self.cursor.rewinds == rewinds {
-            Ok(self.cursor.tick)
-        } else {
-            Err(Refusal::from(Fault::Rewound(rewinds)))
-        }
+        self.machine.since(self.cursor)
     }
 }

@@ -16,12 +16,17 @@ pub fn begun(rt: &impl Abort, alloc: Global, world: World) -> Recorder {
     Recorder::new(alloc, raised, FrameRecord::new(tick, Vec::new(alloc)))
 }
 
+/// Does the commands of a queue.
+pub fn apply(rt: &impl Abort, recorder: &mut Recorder, queue: &Queue) {
+    let is_applied = queue.apply(recorder).is_ok();
+    assert!(rt; is_applied);
+}
+
 /// The world after a frame of one queue, and the frame's record.
 pub fn framed(rt: &impl Abort, alloc: Global, world: World, queue: &Queue) -> (World, FrameRecord)
     ensures { AreReady result.0.room result.1.deltas result.0.world }
 {
     let mut recorder = begun(rt, alloc, world);
-    let is_applied = queue.apply(&mut recorder).is_ok();
-    assert!(rt; is_applied);
+    apply(rt, &mut recorder, queue);
     recorder.into_parts()
 }

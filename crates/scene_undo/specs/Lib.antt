@@ -1,3 +1,4 @@
+pub mod Cursor
 pub mod Direction
 pub mod Editor
 pub mod Kept

@@ -14,11 +14,13 @@ ghost use Rattle.scene_journal.specs.Ready.{AreReady};
 ghost use Rattle.scene_journal.specs.Records.{back_all, undone};
 ghost use Rattle.scene_journal.specs.Recorder.{opening_of, staged_of};
 ghost use Rattle.scene_undo.specs.declared.direction.Direction.TheVariants.{Undo, Redo};
+ghost use Rattle.scene_undo.specs.Cursor.{cursor_of, since};
 ghost use Rattle.scene_undo.specs.Direction.{AllFit};
 ghost use Rattle.scene_undo.specs.Editor.{IsMoved, entities_of, machine_of};
 ghost use Rattle.scene_undo.specs.Kept.{CanUndo};
 ghost use Rattle.scene_undo.specs.Parts.{IsFaultOf, NamesFrame};
 
+use crate::cursor::Cursor;
 use crate::direction::Direction;
 use crate::made::Made;
 use crate::parts::{after_frames, try_stack};
@@ -235,6 +237,30 @@ impl Editor {
         ensures { result ≡ self.now.rewinds }
     {
         self.rewinds
+    }
+
+    /// The cursor of now, since which written cells can be asked for (docs/MODEL.md, "The rule of queries").
+    pub fn cursor(&self) -> Cursor
+        ensures { result ≡ cursor_of (machine_of self.now) }
+    {
+        Cursor {
+            rewinds: self.rewinds,
+            tick: self.world.tick(),
+        }
+    }
+
+    /// The tick after which the cells were written that a query since this cursor lists: what `changed_since` and
+    /// `added_since` of scene_pass take.
+    ///
+    /// Refused: `Rewound`, with the count of rewinds now, where it isn't the cursor's, so that there was an undo since.
+    pub fn since(&self, cursor: Cursor) -> Result<u64, Refusal>
+        ensures { result ≡ since cursor (machine_of self.now) }
+    {
+        if cursor.rewinds == self.rewinds {
+            Ok(cursor.tick)
+        } else {
+            Err(Refusal::from(Fault::Rewound(self.rewinds)))
+        }
     }
 
     /// Does a frame, all or nothing: it raises the world's tick by one and applies the queues in order

@@ -5,11 +5,13 @@
 //! world is saved: what was before and after the world now is told by the records (docs/JOURNAL.md, "The editor").
 #![tactic(auto)]
 
+mod cursor;
 mod direction;
 mod editor;
 mod made;
 mod parts;
 mod records;
 
+pub use cursor::Cursor;
 pub use editor::Editor;
 pub use made::Made;
