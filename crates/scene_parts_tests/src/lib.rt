@@ -4,6 +4,5 @@
 
 #[cfg(test)]
 mod parts_tests;
+#[cfg(test)]
 mod small;
-
-pub use small::{last_entity, last_parts};
