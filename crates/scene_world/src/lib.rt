@@ -2,14 +2,18 @@
 //!
 //! What a world is, and what commands do, is said in the crate `scene_model`; `World` keeps the rows in
 //! `scene_archetypes`. All growth comes before the first change, so that a refusal leaves the world as it was.
+//! The raw changes, of which commands are made and by which they are taken back, stand apart in `RawChanges`, which is
+//! for `scene_journal` and not for a tool.
 #![tactic(auto)]
 
 mod built;
 mod given;
 mod moves;
+mod raw_changes;
 mod stage;
 mod world;
 
+pub use raw_changes::RawChanges;
 pub use scene_table::Home;
 pub use stage::Stage;
 pub use world::World;
