@@ -2,14 +2,19 @@
 //!
 //! What a world is, and what commands do, is said in the crate `scene_model`; `World` keeps the rows in
 //! `scene_archetypes`. All growth comes before the first change, so that a refusal leaves the world as it was.
+//!
+//! A `Stage` is what the commands can be applied to, a world or a recorder over one, and a `Frame` is what is done on a
+//! stage at once, all or nothing.
 #![tactic(auto)]
 
 mod built;
+mod frame;
 mod given;
 mod moves;
 mod stage;
 mod world;
 
+pub use frame::Frame;
 pub use scene_table::Home;
 pub use stage::Stage;
 pub use world::World;
