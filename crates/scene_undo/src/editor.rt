@@ -26,7 +26,7 @@ use crate::records::{redo_record, undo_record};
 use scene_journal::{Delta, FrameRecord, Recorder};
 use scene_kinds::{Fault, Refusal, Schema};
 use scene_queue::{Queue, Queues};
-use scene_world::{Frame, World};
+use scene_world::{Frame, RawChanges, World};
 use std::alloc::Global;
 use std::marker::Model;
 
