@@ -6,9 +6,10 @@ use Rattle.scene_world.specs.Room.{IsWider}
 use Rattle.scene_world.specs.Stage.{act}
 use Rattle.scene_world.proofs.Room.{wider_wider}
 use Rattle.scene_queue.specs.Frames.{frame_of}
-use Rattle.scene_journal.specs.Notes.{deltas_of}
-use Rattle.scene_journal.specs.Ready.{AreReady}
-use Rattle.scene_journal.specs.Records.{record_of, back_all}
+use Rattle.scene_deltas.specs.Notes.{deltas_of}
+use Rattle.scene_deltas.specs.Ready.{AreReady}
+use Rattle.scene_journal.specs.Records.{record_of}
+use Rattle.scene_deltas.specs.Deltas.{back_all}
 use Rattle.scene_undo.specs.Kept.{CanUndo}
 use Rattle.scene_undo.proofs.WholeFrames.{lowers, record_is, record_can}
 use Rattle.scene_undo.proofs.editor.frame.Goals as goal
