@@ -6,7 +6,7 @@ ghost use Rattle.scene_machine.specs.Frame.{framed};
 ghost use Rattle.scene_machine.specs.Machine.{submitted};
 ghost use Rattle.scene_world.specs.Stage.{act};
 ghost use Rattle.scene_undo.specs.Editor.{entities_of, machine_of};
-ghost use Rattle.scene_editor_tests.specs.Sweep.{swept};
+ghost use Rattle.scene_journal_tests.specs.Sweep.{swept};
 
 use scene_kinds::{Entity, Refusal};
 use scene_undo::{Editor, Made};

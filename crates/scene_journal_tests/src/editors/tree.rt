@@ -1,5 +1,6 @@
 //! Three entities, a root and its two children, that a first frame spawns and a second fells.
-use crate::small::{first, given, submit_one};
+use crate::editors::small::{given, submit_one};
+use crate::scenes::first;
 use scene_commands::{Command, Target};
 use scene_kinds::{Refusal, Value};
 use scene_queue::Queue;
@@ -9,9 +10,7 @@ use std::alloc::Global;
 
 /// Puts the spawn of a tagged entity last in a queue.
 fn spawn(alloc: Global, queue: &mut Queue) -> Result<Target, Refusal> {
-    queue
-        .spawn(given(alloc, Value::Tag)?)
-        .map_err(|back| back.refusal)
+    Ok(queue.spawn(given(alloc, Value::Tag)?)?)
 }
 
 /// Three entities, of which the first is the parent of the others.
@@ -20,9 +19,7 @@ fn tree(alloc: Global) -> Result<Queue, Refusal> {
     let root = spawn(alloc, &mut queue)?;
     for _ in 0..2 {
         let child = spawn(alloc, &mut queue)?;
-        queue
-            .push(Command::SetParent(child, root))
-            .map_err(|back| back.refusal)?;
+        queue.push(Command::SetParent(child, root))?;
     }
     Ok(queue)
 }

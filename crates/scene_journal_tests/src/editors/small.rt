@@ -1,18 +1,10 @@
 //! Editors of small worlds.
 use scene_commands::{Command, Components};
-use scene_kinds::{Entity, Refusal, Schema, Shape, Value};
+use scene_kinds::{Refusal, Schema, Shape, Value};
 use scene_queue::Queue;
 use scene_undo::Editor;
 use scene_world::World;
 use std::alloc::{AllocError, Global};
-
-/// The first entity of an index.
-pub fn first(index: u32) -> Entity {
-    Entity {
-        index,
-        generation: 1,
-    }
-}
 
 /// A component of the kind 0.
 pub fn given(alloc: Global, value: Value) -> Result<Components, AllocError> {
@@ -22,7 +14,7 @@ pub fn given(alloc: Global, value: Value) -> Result<Components, AllocError> {
 /// A queue of one command.
 pub fn queue_of(alloc: Global, command: Command) -> Result<Queue, Refusal> {
     let mut queue = Queue::new(alloc);
-    queue.push(command).map_err(|back| back.refusal)?;
+    queue.push(command)?;
     Ok(queue)
 }
 

@@ -1,5 +1,6 @@
 //! Records that don't fit, on a world of tick 1 with one entity, whose one Int is 5 since then.
-use crate::small::{editor_of, first, given, queue_of, submit_one};
+use crate::editors::small::{editor_of, given, queue_of, submit_one};
+use crate::scenes::first;
 use scene_commands::Command;
 use scene_deltas::Delta;
 use scene_journal::FrameRecord;

@@ -1,6 +1,7 @@
 //! A past that is kept outside, and taken up by another editor.
-use crate::small::{editor_of, first, queue_of, submit_one};
-use crate::tree::{goes_back_and_on, goes_on, grow};
+use crate::editors::small::{editor_of, queue_of, submit_one};
+use crate::editors::tree::{goes_back_and_on, goes_on, grow};
+use crate::scenes::first;
 use scene_commands::{Command, Target};
 use scene_journal::FrameRecord;
 use scene_kinds::{Refusal, Shape};

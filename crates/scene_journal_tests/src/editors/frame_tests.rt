@@ -1,7 +1,8 @@
 //! A frame that is no list of queues, in an editor.
-use crate::small::{editor_of, first};
-use crate::sweep::sweep_away;
-use crate::tree::{goes_back_and_on, grow};
+use crate::editors::small::editor_of;
+use crate::editors::sweep::sweep_away;
+use crate::editors::tree::{goes_back_and_on, grow};
+use crate::scenes::first;
 use scene_kinds::{Refusal, Shape};
 use std::alloc::Global;
 use std::test::Fail;
