@@ -8,7 +8,7 @@ ghost use Rattle.scene_deltas.specs.Notes.{CanCutEach, cut_each, deltas_of, desp
 use crate::notes::{despawned, keep};
 use scene_deltas::{Delta, is_sound, take_all_back};
 use scene_kinds::Entity;
-use scene_world::World;
+use scene_world::{RawChanges, World};
 use std::alloc::{AllocError, Global};
 
 /// Cuts the rows of entities one after another, and gives the deltas. Where no memory is found for the cells of one of

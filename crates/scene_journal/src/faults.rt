@@ -12,7 +12,7 @@ ghost use Rattle.scene_world.specs.Room.{IsWider};
 use crate::record::FrameRecord;
 use scene_deltas::{Delta, can_set_tick, redo_delta, undo_delta};
 use scene_kinds::{Fault, Refusal};
-use scene_world::World;
+use scene_world::{RawChanges, World};
 
 /// A law of faults: a record that has one doesn't fit.
 pub fn faults_are_faults()

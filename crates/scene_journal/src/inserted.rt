@@ -14,7 +14,7 @@ ghost use Rattle.scene_deltas.specs.Notes.{deltas_of, listed_delta};
 use crate::notes;
 use scene_deltas::{Delta, is_sound, standing};
 use scene_kinds::{Cell, Entity, Refusal, Value};
-use scene_world::World;
+use scene_world::{RawChanges, World};
 use std::alloc::AllocError;
 
 /// The tick at which the cell of a kind was added that an entity has, or `None`.

@@ -10,7 +10,7 @@ ghost use Rattle.scene_deltas.specs.Notes.{deltas_of};
 use crate::notes::cells_of;
 use scene_deltas::{Delta, is_sound};
 use scene_kinds::{Entity, Fault, Refusal, Value};
-use scene_world::World;
+use scene_world::{RawChanges, World};
 use std::alloc::Global;
 
 /// Spawns an entity as `World::spawn` does, and gives it with its delta, which has a copy of the row's cells. Where no
