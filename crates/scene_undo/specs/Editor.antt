@@ -6,7 +6,7 @@ use Rattle.scene_model.specs.World.{World}
 use Rattle.scene_machine.specs.Machine.{Machine}
 use Rattle.scene_kinds.specs.Answers.{Outcome}
 use Rattle.scene_world.specs.Stage.{Staged}
-use Rattle.scene_journal.specs.declared.delta.Delta.{Delta}
+use Rattle.scene_deltas.specs.declared.delta.Delta.{Delta}
 use Rattle.scene_journal.specs.Records.{Record, raised, redone, undone}
 use Rattle.scene_undo.specs.declared.made.Made.{Made}
 
