@@ -12,8 +12,8 @@ set -euo pipefail
 cd "$(dirname "$0")/.."
 place=$(mktemp -d)
 trap 'rm -rf "$place"' EXIT
-(cd crates/scene_journal_bench && rt run > "$place/rt.log" 2>&1) || { cat "$place/rt.log" >&2; exit 1; }
-python3 - "$(pwd)/crates/scene_journal_bench/out/scene_journal_bench" "${1:-1000000}" "${2:-5}" <<'P'
+(cd crates/scene_bench && rt run > "$place/rt.log" 2>&1) || { cat "$place/rt.log" >&2; exit 1; }
+python3 - "$(pwd)/crates/scene_bench/out/scene_bench" "${1:-1000000}" "${2:-5}" <<'P'
 import os, subprocess, sys
 
 program, size, runs = sys.argv[1], int(sys.argv[2]), int(sys.argv[3])
@@ -23,7 +23,7 @@ WORKS = [("spawn", None, 1), ("insert", "spawn", 1), ("move", "spawn", 2), ("des
 
 def once(work, way):
     """Processor seconds of a run, and its memory in MiB."""
-    child = subprocess.Popen([program, work, str(size), "1", way], stdout=subprocess.DEVNULL)
+    child = subprocess.Popen([program, work, str(size), "1", "1", way], stdout=subprocess.DEVNULL)
     _, status, used = os.wait4(child.pid, 0)
     if status:
         sys.exit(f"{work} {way}: status {status}")

@@ -13,12 +13,14 @@ set -euo pipefail
 cd "$(dirname "$0")/.."
 place=$(mktemp -d)
 trap 'rm -rf "$place"' EXIT
-(cd crates/scene_world_bench && rt run > "$place/rt.log" 2>&1) || { cat "$place/rt.log" >&2; exit 1; }
+(cd crates/scene_bench && rt run > "$place/rt.log" 2>&1) || { cat "$place/rt.log" >&2; exit 1; }
 rustc -O --edition 2021 -o "$place/world_floor" bench/world_floor.rs
-python3 - "$(pwd)/crates/scene_world_bench/out/scene_world_bench" "$place/world_floor" "${1:-1000000}" "${2:-5}" <<'P'
+python3 - "$(pwd)/crates/scene_bench/out/scene_bench" "$place/world_floor" "${1:-1000000}" "${2:-5}" <<'P'
 import math, os, subprocess, sys
 
 ours, floor, most, runs = sys.argv[1], sys.argv[2], int(sys.argv[3]), int(sys.argv[4])
+# the floor has one way alone
+WAY = {ours: ["plain"], floor: []}
 sizes = [size for size in (10_000, 100_000, 1_000_000) if size <= most]
 
 # how many calls are made in all, where they are made in passes over one world, and how many in worlds of their own
@@ -49,7 +51,7 @@ CALLS = [
 
 def once(program, size, work, passes, rounds):
     """Processor seconds of a run, and its memory in MiB."""
-    child = subprocess.Popen([program, work, str(size), str(passes), str(rounds)], stdout=subprocess.DEVNULL)
+    child = subprocess.Popen([program, work, str(size), str(passes), str(rounds), *WAY[program]], stdout=subprocess.DEVNULL)
     _, status, used = os.wait4(child.pid, 0)
     if status:
         sys.exit(f"{work} {size}: status {status}")

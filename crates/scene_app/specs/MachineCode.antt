@@ -5,7 +5,7 @@ use Rattle.scene_kinds.specs.Map as map
 use Rattle.scene_world.specs.contracts.world.World as world
 use Rattle.scene_world.specs.Room.{Housed}
 use Rattle.scene_model.specs.World.{World}
-use Rattle.scene_model.specs.Machine.{Machine}
+use Rattle.scene_machine.specs.Machine.{Machine}
 
 -- a world is told apart as one with no room
 abbrev pub world_code : Coded World

@@ -1,7 +1,7 @@
 -- A frame that a script has opened.
 use Rattle.std.specs.Prelude.{ℕ, ◌+◌, List, [], ◌∷◌, ◌++◌, Option, Some, None, Ok, Err, length}
 use Rattle.scene_kinds.specs.Answers.{Outcome}
-use Rattle.scene_model.specs.Queue.{Request}
+use Rattle.scene_machine.specs.Queue.{Request}
 use Rattle.scene_commands.specs.declared.command.Command.{Command}
 use Rattle.scene_queue.specs.Queue.{QueueState, usual_limit, empty_queue, push_of}
 use Rattle.scene_queue.specs.Requests.{requests}

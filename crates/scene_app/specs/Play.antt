@@ -10,9 +10,9 @@ use Rattle.scene_kinds.specs.Answers.{Outcome, refusal_of}
 use Rattle.scene_kinds.specs.Fault.{refusal_text}
 use Rattle.scene_kinds.specs.Schema.{Kinds, with_kind}
 use Rattle.scene_model.specs.World.{World, new_world, row_of}
-use Rattle.scene_model.specs.Machine.{Machine, opening}
-use Rattle.scene_model.specs.Queue.{Request}
-use Rattle.scene_model.specs.Frame.{Submit, Undo as UndoCall, Redo as RedoCall, Reply as Answer, step}
+use Rattle.scene_machine.specs.Machine.{Machine, opening}
+use Rattle.scene_machine.specs.Queue.{Request}
+use Rattle.scene_machine.specs.Frame.{Submit, Undo as UndoCall, Redo as RedoCall, Reply as Answer, step}
 use Rattle.scene_queue.specs.Frames.{frame_of}
 use Rattle.scene_app.specs.OpenFrame.{Opened, new_frame, with_command, with_queue, queues_of, alone}
 use Rattle.scene_kinds.specs.declared.cells.Row.{Row}

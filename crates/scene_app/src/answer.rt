@@ -2,7 +2,7 @@
 ghost use Rattle.std.specs.Prelude.{◌≡◌, ◌≢◌, ◌≤◌, ◌+◌, ◌++◌, length, OnOk, IfOk, Some, None, codes, string_bytes, option_map};
 ghost use Rattle.scene_kinds.specs.Answers.{refusal_of};
 ghost use Rattle.scene_kinds.specs.declared.fault.Fault.TheVariants.{NoMemory};
-ghost use Rattle.scene_model.specs.Frame.{Undo as UndoCall, Redo as RedoCall, step};
+ghost use Rattle.scene_machine.specs.Frame.{Undo as UndoCall, Redo as RedoCall, step};
 ghost use Rattle.scene_script.specs.declared.script_line.Line.TheVariants.{Begin};
 ghost use Rattle.scene_queue.specs.Frames.{frame_of};
 ghost use Rattle.scene_app.specs.OpenFrame.{alone, queue_count};

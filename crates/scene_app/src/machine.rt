@@ -1,6 +1,6 @@
 //! The editor of a script, as the machine of saved worlds that its lines are told by.
 ghost use Rattle.std.specs.Prelude.{◌≡◌};
-ghost use Rattle.scene_model.specs.Machine.{opening};
+ghost use Rattle.scene_machine.specs.Machine.{opening};
 ghost use Rattle.scene_undo.specs.Cursor.{cursor_of, since};
 
 use scene_kinds::Refusal;
@@ -17,7 +17,7 @@ pub(crate) struct Machine {
 
 impl Model for Machine {
     ghost use Rattle.scene_model.specs.World.{World as Whole};
-    ghost use Rattle.scene_model.specs.Machine.{Machine as SavedWorlds};
+    ghost use Rattle.scene_machine.specs.Machine.{Machine as SavedWorlds};
     ghost use Rattle.scene_undo.specs.Editor.{machine_of};
     ghost use Rattle.scene_app.specs.MachineCode.{machine_code};
 

@@ -192,8 +192,7 @@ fn play_all(
 /// Plays a script from its first line, adds what it prints, and notes its bad lines (docs/SCRIPTS.md, "Lines").
 ///
 /// The first line that is no `kind`, `slots` or `load`, not empty and not bad ends the setup, and is played itself. Want
-/// of memory ends it with an error, and then a part of the text may be there. Each frame costs a copy of the
-/// world.
+/// of memory ends it with an error, and then a part of the text may be there. Each line costs what it asks for.
 pub(crate) fn play_script(
     alloc: Global,
     script: &[u8],

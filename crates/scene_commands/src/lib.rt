@@ -1,4 +1,4 @@
-//! Commands as values: what a script reads, what a queue takes, and what a recorder will keep.
+//! Commands as values: what a script reads, and what a queue takes.
 //!
 //! A `Command` is one of the nine of a world, or the recursive despawn that passes over a dead entity (docs/MODEL.md,
 //! "The commands"). It names its entities by a `Target`: an entity, or the k-th that the same queue has spawned. What it

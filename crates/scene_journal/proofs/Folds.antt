@@ -3,8 +3,8 @@ use Rattle.std.proofs.Common.{◌≡◌, ℕ, ◌+◌, List, [], ◌∷◌, leng
 use Rattle.std.specs.Prelude.{Err, ⊤}
 use Rattle.scene_kinds.specs.declared.entity.Entity.{Entity}
 use Rattle.scene_kinds.specs.Answers.{Outcome}
-use Rattle.scene_model.specs.Perform.{Command}
-use Rattle.scene_model.specs.Queue.{Request, Act, Progress, Ended, reached, act_known, request, and_spawned, unless_refused, play_from}
+use Rattle.scene_model.specs.Perform.{Command, Act}
+use Rattle.scene_machine.specs.Queue.{Request, Progress, Ended, reached, act_known, request, and_spawned, unless_refused, play_from}
 
 -- both accept with one answer, and leave related states; or both refuse
 abbrev pub BothDo : {A S T : Type 0} → (S → T → Type 0) → Outcome A S → Outcome A T → Type 0

@@ -8,10 +8,10 @@ use Rattle.scene_kinds.specs.declared.refusal.Refusal.{Refusal}
 use Rattle.scene_kinds.specs.Answers.{Outcome}
 use Rattle.scene_model.specs.World.{World}
 use Rattle.scene_model.specs.Commands.{and_then, raise_tick}
-use Rattle.scene_model.specs.Frame.{all_or_refused, queue, queues_from}
-use Rattle.scene_model.specs.Laws.{AreInRange, QueuesAreInRange}
+use Rattle.scene_machine.specs.Frame.{all_or_refused, queue, queues_from}
+use Rattle.scene_machine.specs.Laws.{AreInRange, QueuesAreInRange}
 use Rattle.scene_model.specs.Perform.{Command, perform, are_in_range}
-use Rattle.scene_model.specs.Queue.{Request, reached, play}
+use Rattle.scene_machine.specs.Queue.{Request, reached, play}
 use Rattle.scene_world.specs.Stage.{Staged, noting, act}
 use Rattle.scene_model.specs.Valid.{IsValid}
 use Rattle.scene_model.proofs.CommandKeeps.{commands_keep}

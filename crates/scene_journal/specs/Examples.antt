@@ -5,8 +5,8 @@ use Rattle.scene_kinds.specs.declared.cell.Cell.{Cell}
 use Rattle.scene_kinds.specs.declared.value.Value.TheVariants as value
 use Rattle.scene_model.specs.World.{World, new_world}
 use Rattle.scene_model.specs.Perform.{DespawnRecursive, SetParent}
-use Rattle.scene_model.specs.Queue.{Request, known}
-use Rattle.scene_model.specs.ExampleWords.{ent, cell, int, schema, spawn_int, spawn_tag, local, world, int_row}
+use Rattle.scene_machine.specs.Queue.{Request, known}
+use Rattle.scene_machine.specs.ExampleWords.{ent, cell, int, schema, spawn_int, spawn_tag, local, world, int_row}
 use Rattle.scene_journal.specs.declared.delta.Delta.{Delta}
 use Rattle.scene_journal.specs.declared.delta.Delta.TheVariants.{Spawned, Despawned, Linked}
 use Rattle.scene_journal.specs.Deltas.{FitsOn, FitsBack}

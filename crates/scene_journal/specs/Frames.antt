@@ -2,9 +2,9 @@
 use Rattle.std.specs.Prelude.{◌≡◌, ℕ, ◌+◌, ◌≤◌, List, [], ◌∷◌, length, sum, sum_by, Ok}
 use Rattle.scene_kinds.specs.declared.entity.Entity.{Entity}
 use Rattle.scene_model.specs.World.{World}
-use Rattle.scene_model.specs.Frame.{frame}
-use Rattle.scene_model.specs.Laws.{QueuesAreInRange}
-use Rattle.scene_model.specs.Queue.{Request, play}
+use Rattle.scene_machine.specs.Frame.{frame}
+use Rattle.scene_machine.specs.Laws.{QueuesAreInRange}
+use Rattle.scene_machine.specs.Queue.{Request, play}
 use Rattle.scene_world.specs.Stage.{Staged, Note, act}
 use Rattle.scene_model.specs.Valid.{IsValid}
 use Rattle.scene_journal.specs.Records.{Record, record_of, raised, redone, RecordFitsOn}

@@ -6,7 +6,6 @@ pub mod CutBack
 pub mod DespawnEach
 pub mod DespawnKeeps
 pub mod Found
-pub mod FrameKeeps
 pub mod GivenLinks
 pub mod GoodCells
 pub mod LastRows

@@ -1,11 +1,9 @@
 -- Laws of the commands: an accepted one keeps a valid world valid, and a recursive despawn is accepted or refused as a whole.
-use Rattle.std.specs.Prelude.{◌≡◌, true, List, [], ◌∷◌, Option, Some, Ok, ⊤}
+use Rattle.std.specs.Prelude.{◌≡◌, true, Option, Ok}
 use Rattle.scene_kinds.specs.declared.entity.Entity.{Entity}
 use Rattle.scene_model.specs.World.{World, is_live}
 use Rattle.scene_model.specs.Commands.{raise_tick, despawn_recursive}
 use Rattle.scene_model.specs.Perform.{Command, perform, are_in_range}
-use Rattle.scene_model.specs.Queue.{Request}
-use Rattle.scene_model.specs.Frame.{frame}
 use Rattle.scene_model.specs.Valid.{IsValid}
 
 -- raising the tick keeps a valid world valid
@@ -15,25 +13,6 @@ RaiseKeeps = (w v : World) → IsValid w → raise_tick w ≡ Ok (tt, v) → IsV
 -- an accepted command keeps a valid world valid, whichever it is, given values that their types can hold
 abbrev pub CommandsKeep : Type 0
 CommandsKeep = (w v : World) (c : Command) (a : Option Entity) → IsValid w → are_in_range c ≡ true → perform w c ≡ Ok (a, v) → IsValid v
-
--- whatever its queue has spawned, a request is a command with values that their types can hold
-abbrev pub IsInRange : Request → Type 0
-IsInRange r = (spawned : List Entity) (c : Command) → r spawned ≡ Some c → are_in_range c ≡ true
-
--- the same of each request of a queue
-abbrev pub AreInRange : List Request → Type 0
-AreInRange [] = ⊤
-AreInRange (r ∷ rs) = IsInRange r × AreInRange rs
-
--- and of each queue of a frame
-abbrev pub QueuesAreInRange : List (List Request) → Type 0
-QueuesAreInRange [] = ⊤
-QueuesAreInRange (rs ∷ rss) = AreInRange rs × QueuesAreInRange rss
-
--- an accepted frame keeps a valid world valid
-abbrev pub FramesKeep : Type 0
-FramesKeep = (queues : List (List Request)) (w v : World) (es : List Entity) → IsValid w → QueuesAreInRange queues → frame queues w ≡ Ok (es, v)
-    → IsValid v
 
 -- a recursive despawn of a live entity is accepted: no despawn on the way is refused
 abbrev pub DespawnRecursiveIsWhole : Type 0

@@ -1,13 +1,8 @@
 pub mod Can
 pub mod CommandRaw
 pub mod Commands
-pub mod ExampleWords
-pub mod Examples
-pub mod Frame
 pub mod Laws
-pub mod Machine
 pub mod Perform
-pub mod Queue
 pub mod Raw
 pub mod RawLaws
 pub mod RawLists

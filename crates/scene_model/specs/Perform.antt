@@ -24,6 +24,10 @@ pub data Command : Type 0 where
   PutResource : List ℕ → Value → Command
   RemoveResource : List ℕ → Command
 
+-- what a command does to a state; its answer is the entity that a spawn made, and none of the others has one
+abbrev pub Act : Type 0 → Type 0
+Act S = S → Command → Outcome (Option Entity) S
+
 -- the values that a command gives are ones that their types can hold, as every value of a program is (`Value::shape` says so)
 abbrev pub are_in_range : Command → Bool
 are_in_range (Spawn cells) = list_all (λ c. is_in_range c.1) cells

@@ -2,22 +2,18 @@
 //! There is no code here, but for the functions whose contracts say the laws.
 //!
 //! `specs/World.antt` says what a world is and what its readers answer, `specs/Commands.antt` what the nine commands do,
-//! `specs/Valid.antt` the ten rules of a valid world, and `specs/Machine.antt` what frames, undo and redo do to whole
-//! saved worlds. `worked_examples_hold` has those definitions compute short scripts. `laws` says of all commands, and of
-//! frames, that an accepted one keeps a valid world valid.
+//! `specs/Perform.antt` has them as one type, and `specs/Valid.antt` the ten rules of a valid world. `laws` says of all
+//! commands that an accepted one keeps a valid world valid. Frames of commands, undo and redo are in the crate
+//! `scene_machine`.
 //!
 //! `specs/Raw.antt` has the raw changes, `specs/Can.antt` where each may be made, and `raw_laws` says that each keeps a
 //! valid world valid and is taken back exactly.
 #![tactic(auto)]
 
-mod examples;
 mod laws;
 mod raw_laws;
 
-pub use examples::worked_examples_hold;
-pub use laws::{
-    commands_keep_worlds_valid, frames_keep_worlds_valid, recursive_despawn_is_never_refused_midway,
-};
+pub use laws::{commands_keep_worlds_valid, recursive_despawn_is_never_refused_midway};
 pub use raw_laws::{
     cells_come_back, commands_are_raw_changes, cut_rows_come_back, links_come_back,
     recursive_despawn_comes_back, resource_commands_are_raw_changes, resources_come_back,

@@ -6,7 +6,8 @@ use Rattle.scene_kinds.specs.declared.entity.Entity.{Entity}
 use Rattle.scene_kinds.specs.declared.refusal.Refusal.{Refusal}
 use Rattle.scene_kinds.specs.declared.fault.Fault.TheVariants.{NoMemory}
 use Rattle.scene_kinds.specs.Answers.{Outcome, refusal_of}
-use Rattle.scene_model.specs.Queue.{Request, Act, Progress, reached, refused_at, and_spawned, whole, stopped, unless_refused, request, play_from, play}
+use Rattle.scene_model.specs.Perform.{Act}
+use Rattle.scene_machine.specs.Queue.{Request, Progress, reached, refused_at, and_spawned, whole, stopped, unless_refused, request, play_from, play}
 use Rattle.scene_queue.specs.Queue.{IsPassed, Stops}
 
 module _ {S : Type 0} (act : Act S) where

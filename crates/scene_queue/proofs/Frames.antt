@@ -6,8 +6,9 @@ use Rattle.scene_kinds.specs.declared.entity.Entity.{Entity}
 use Rattle.scene_kinds.specs.declared.refusal.Refusal.{Refusal}
 use Rattle.scene_kinds.specs.Answers.{Outcome}
 use Rattle.scene_model.specs.Commands.{and_then}
-use Rattle.scene_model.specs.Queue.{Request, Act, reached, whole, play}
-use Rattle.scene_model.specs.Frame.{whole_or_refused, queue, queues_from}
+use Rattle.scene_model.specs.Perform.{Act}
+use Rattle.scene_machine.specs.Queue.{Request, reached, whole, play}
+use Rattle.scene_machine.specs.Frame.{whole_or_refused, queue, queues_from}
 use Rattle.scene_model.proofs.Outcomes.{same_world}
 use Rattle.scene_queue.specs.Queue.{IsPassed, Stops}
 use Rattle.scene_queue.specs.Frames.{ArePassed}

@@ -7,8 +7,8 @@ use Rattle.scene_kinds.specs.Answers.{Outcome}
 use Rattle.scene_model.specs.World.{World, is_live}
 use Rattle.scene_model.specs.Commands.{and_then, spawn, despawn, despawn_recursive, insert, remove, set_parent, remove_parent, put_resource, remove_resource}
 use Rattle.scene_model.specs.Perform.{Command, Spawn, Despawn, DespawnRecursive, DespawnRecursiveIfAlive, Insert, Remove, SetParent, RemoveParent, PutResource, RemoveResource, answering, perform}
-use Rattle.scene_model.specs.Queue.{Request, Progress, Ended, reached, and_spawned, act_known, request, unless_refused, play_from, play, whole}
-use Rattle.scene_model.specs.Frame.{all_or_refused, whole_or_refused, queue, queues_from}
+use Rattle.scene_machine.specs.Queue.{Request, Progress, Ended, reached, and_spawned, act_known, request, unless_refused, play_from, play, whole}
+use Rattle.scene_machine.specs.Frame.{all_or_refused, whole_or_refused, queue, queues_from}
 use Rattle.scene_world.specs.Stage.{Staged, Note, noting, act}
 use Rattle.scene_queue.specs.Queue.{Stops}
 use Rattle.scene_queue.specs.Frames.{on_world}

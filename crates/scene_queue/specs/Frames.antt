@@ -3,8 +3,9 @@ use Rattle.std.specs.Prelude.{◌≡◌, ℕ, List, [], Ok, Err, map, take, get_
 use Rattle.scene_kinds.specs.declared.entity.Entity.{Entity}
 use Rattle.scene_kinds.specs.Answers.{Outcome}
 use Rattle.scene_model.specs.World.{World}
-use Rattle.scene_model.specs.Queue.{Request, Act}
-use Rattle.scene_model.specs.Frame.{queues_from}
+use Rattle.scene_model.specs.Perform.{Act}
+use Rattle.scene_machine.specs.Queue.{Request}
+use Rattle.scene_machine.specs.Frame.{queues_from}
 use Rattle.scene_world.specs.Stage.{Staged}
 use Rattle.scene_queue.specs.Requests.{requests}
 use Rattle.scene_queue.specs.Queue.{QueueState, IsPassed}

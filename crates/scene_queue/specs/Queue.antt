@@ -4,7 +4,8 @@ use Rattle.scene_kinds.specs.declared.entity.Entity.{Entity}
 use Rattle.scene_kinds.specs.declared.fault.Fault.TheVariants.{QueueFull}
 use Rattle.scene_kinds.specs.declared.refusal.Refusal.{Refusal}
 use Rattle.scene_kinds.specs.Answers.{Outcome, refuse}
-use Rattle.scene_model.specs.Queue.{Request, Act, reached, whole, stopped, play, refused_at}
+use Rattle.scene_model.specs.Perform.{Act}
+use Rattle.scene_machine.specs.Queue.{Request, reached, whole, stopped, play, refused_at}
 use Rattle.scene_commands.specs.declared.command.Command.{Command}
 use Rattle.scene_queue.specs.declared.queue.Returned.{Returned}
 use Rattle.scene_commands.specs.declared.command.Command.TheVariants.{Spawn}

@@ -6,7 +6,7 @@ use Rattle.scene_commands.specs.declared.command.Command.{Command as Queued}
 use Rattle.scene_commands.specs.declared.command.Command.TheVariants as queued
 use Rattle.scene_commands.specs.Target.{target_entity, target_entities}
 use Rattle.scene_model.specs.Perform.{Command, Spawn, Despawn, DespawnRecursive, DespawnRecursiveIfAlive, Insert, Remove, SetParent, RemoveParent, PutResource, RemoveResource}
-use Rattle.scene_model.specs.Queue.{Request, known}
+use Rattle.scene_machine.specs.Queue.{Request, known}
 
 -- a command on one target, once that is an entity
 abbrev pub on_entity : Target → (Entity → Command) → Request

@@ -7,9 +7,9 @@ use Rattle.scene_kinds.specs.declared.entity.Entity.{Entity}
 use Rattle.scene_kinds.specs.declared.refusal.Refusal.{Refusal}
 use Rattle.scene_kinds.specs.Answers.{refuse}
 use Rattle.scene_kinds.specs.declared.fault.Fault.TheVariants.{TickFull}
-use Rattle.scene_model.specs.Frame.{Submit, call, frame}
-use Rattle.scene_model.specs.Machine.{Machine, submitted, undo, redo}
-use Rattle.scene_model.specs.Queue.{Request}
+use Rattle.scene_machine.specs.Frame.{Submit, call, frame}
+use Rattle.scene_machine.specs.Machine.{Machine, submitted, undo, redo}
+use Rattle.scene_machine.specs.Queue.{Request}
 use Rattle.scene_model.specs.World.{World}
 use Rattle.scene_model.specs.Valid.{IsValid}
 use Rattle.scene_world.specs.Room.{Room, Holds}

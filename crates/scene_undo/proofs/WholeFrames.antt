@@ -7,9 +7,9 @@ use Rattle.scene_kinds.specs.Answers.{Outcome}
 use Rattle.scene_model.specs.World.{World}
 use Rattle.scene_model.specs.Can.{CanSetTick}
 use Rattle.scene_model.specs.Commands.{and_then, raise_tick}
-use Rattle.scene_model.specs.Frame.{all_or_refused, frame, queues_from}
+use Rattle.scene_machine.specs.Frame.{all_or_refused, frame, queues_from}
 use Rattle.scene_model.specs.Perform.{perform}
-use Rattle.scene_model.specs.Queue.{Request, play}
+use Rattle.scene_machine.specs.Queue.{Request, play}
 use Rattle.scene_model.specs.Raw.{set_tick}
 use Rattle.scene_model.specs.Valid.{IsValid}
 use Rattle.scene_model.proofs.Outcomes.{not_ok, same_world}

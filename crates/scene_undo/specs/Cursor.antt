@@ -4,7 +4,7 @@ use Rattle.scene_kinds.specs.declared.fault.Fault.TheVariants.{Rewound}
 use Rattle.scene_kinds.specs.declared.refusal.Refusal.{Refusal}
 use Rattle.scene_kinds.specs.Answers.{refusal_of}
 use Rattle.scene_model.specs.World.{World}
-use Rattle.scene_model.specs.Machine.{Machine}
+use Rattle.scene_machine.specs.Machine.{Machine}
 use Rattle.scene_undo.specs.declared.cursor.Cursor.{Cursor}
 
 -- the cursor of now

@@ -3,7 +3,7 @@ use Rattle.std.specs.Prelude.{◌≡◌, ℕ, List, [], ◌∷◌, Result, Ok, E
 use Rattle.scene_kinds.specs.declared.entity.Entity.{Entity}
 use Rattle.scene_kinds.specs.declared.refusal.Refusal.{Refusal}
 use Rattle.scene_model.specs.World.{World}
-use Rattle.scene_model.specs.Machine.{Machine}
+use Rattle.scene_machine.specs.Machine.{Machine}
 use Rattle.scene_journal.specs.Records.{Record, redone, undone}
 use Rattle.scene_undo.specs.declared.made.Made.{Made}
 

@@ -2,8 +2,8 @@
 ghost use Rattle.std.specs.Prelude.{◌≡◌, ◌≢◌, ◌≤◌, ◌∷◌, [], length, reverse, Ok, Err, IfOk, IfErr, OnOk, OnErr};
 ghost use Rattle.scene_kinds.specs.Answers.{Answers, refusal_of};
 ghost use Rattle.scene_kinds.specs.declared.fault.Fault.TheVariants.{NoMemory};
-ghost use Rattle.scene_model.specs.Frame.{Submit, call, frame, queues_from};
-ghost use Rattle.scene_model.specs.Machine.{opening, redo, undo};
+ghost use Rattle.scene_machine.specs.Frame.{Submit, call, frame, queues_from};
+ghost use Rattle.scene_machine.specs.Machine.{opening, redo, undo};
 ghost use Rattle.scene_model.specs.Perform.{perform};
 ghost use Rattle.scene_world.specs.Room.{IsWider};
 ghost use Rattle.scene_world.specs.Stage.{act};

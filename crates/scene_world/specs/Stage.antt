@@ -5,8 +5,7 @@ use Rattle.scene_kinds.specs.Answers.{Outcome, Answers}
 use Rattle.scene_kinds.specs.declared.entity.Entity.{Entity}
 use Rattle.scene_model.specs.World.{World, is_live}
 use Rattle.scene_model.specs.Commands.{spawn, despawn, despawn_recursive, insert, remove, set_parent, remove_parent, put_resource, remove_resource}
-use Rattle.scene_model.specs.Perform.{Command, Spawn, Despawn, DespawnRecursive, DespawnRecursiveIfAlive, Insert, Remove, SetParent, RemoveParent, PutResource, RemoveResource, answering}
-use Rattle.scene_model.specs.Queue.{Act}
+use Rattle.scene_model.specs.Perform.{Command, Spawn, Despawn, DespawnRecursive, DespawnRecursiveIfAlive, Insert, Remove, SetParent, RemoveParent, PutResource, RemoveResource, answering, Act}
 
 -- a world with what was noted of the commands on it
 pub record Staged (N : Type 0) : Type 0 where

@@ -10,7 +10,7 @@ use crate::world::World;
 use scene_kinds::{Entity, Refusal, Value};
 use std::convert::Infallible;
 
-/// A world that the nine commands change, with notes of what they did (docs/MODEL.md, "Commands").
+/// A world that the nine commands change, with notes of what they did (docs/MODEL.md, "The commands").
 ///
 /// Each command answers what it answers on the world itself, refusals included, and want of memory. An accepted one
 /// appends the notes that the world before it and the command fix; after a refusal world and notes are as they were.

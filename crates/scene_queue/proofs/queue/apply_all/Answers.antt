@@ -1,6 +1,6 @@
 use Rattle.std.proofs.Common.{◌+◌, ◌++◌, ap, sym, cond, ◌∙◌, Ok}
 use Rattle.std.proofs.lemmas.List.{take_all}
-use Rattle.scene_model.specs.Frame.{queues_from}
+use Rattle.scene_machine.specs.Frame.{queues_from}
 use Rattle.scene_world.specs.Stage.{act}
 use Rattle.scene_queue.specs.Requests.{requests}
 use Rattle.scene_queue.specs.Queue.{QueueState}

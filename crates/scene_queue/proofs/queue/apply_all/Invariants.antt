@@ -1,5 +1,5 @@
 use Rattle.std.proofs.Common.{◌≡◌, take, Ok}
-use Rattle.scene_model.specs.Frame.{queues_from}
+use Rattle.scene_machine.specs.Frame.{queues_from}
 use Rattle.scene_world.specs.Room.{IsWider}
 use Rattle.scene_world.specs.Stage.{act}
 use Rattle.scene_queue.specs.Frames.{frame_of}

@@ -1,6 +1,6 @@
 use Rattle.std.proofs.Common.{◌+◌, ap, ◌∙◌, refl}
 use Rattle.scene_world.specs.Stage.{act}
-use Rattle.scene_model.specs.Queue.{and_spawned}
+use Rattle.scene_machine.specs.Queue.{and_spawned}
 use Rattle.scene_queue.specs.Requests.{request_of}
 use Rattle.scene_queue.proofs.Folds.{goes_on, passed_over, stops_there}
 use Rattle.scene_world.proofs.Room.{wider_wider}

@@ -1,5 +1,5 @@
 use Rattle.std.proofs.Common.{◌≡◌, take}
-use Rattle.scene_model.specs.Queue.{reached, whole, play}
+use Rattle.scene_machine.specs.Queue.{reached, whole, play}
 use Rattle.scene_world.specs.Room.{IsWider}
 use Rattle.scene_world.specs.Stage.{act}
 use Rattle.scene_queue.specs.Requests.{requests}

@@ -1,7 +1,7 @@
 use Rattle.std.proofs.Common.{◌≡◌, [], ap, subst, sym, ◌∙◌, Ok}
 use Rattle.std.specs.Prelude.{IfOk, OnErr}
 use Rattle.scene_model.specs.Can.{CanSetTick}
-use Rattle.scene_model.specs.Frame.{queues_from}
+use Rattle.scene_machine.specs.Frame.{queues_from}
 use Rattle.scene_world.specs.Room.{IsWider}
 use Rattle.scene_world.specs.Stage.{act}
 use Rattle.scene_world.proofs.Room.{wider_wider}

@@ -2,8 +2,8 @@ use Rattle.std.proofs.Common.{◌≡◌, ◌≢◌, [], ◌∷◌, reverse, ap, 
 use Rattle.std.specs.Prelude.{IfOk, IfErr, OnErr}
 use Rattle.scene_kinds.specs.declared.fault.Fault.TheVariants.{NoMemory}
 use Rattle.scene_kinds.specs.Answers.{refusal_of}
-use Rattle.scene_model.specs.Frame.{frame}
-use Rattle.scene_model.specs.Machine.{submitted}
+use Rattle.scene_machine.specs.Frame.{frame}
+use Rattle.scene_machine.specs.Machine.{submitted}
 use Rattle.scene_world.specs.Room.{Housed, IsWider}
 use Rattle.scene_queue.specs.Frames.{frame_of}
 use Rattle.scene_journal.specs.Frames.{frame_record}

@@ -1,5 +1,5 @@
 use Rattle.std.proofs.Common.{Ok, ap, length, reverse, slice_get, subst, sym, ◌+◌, ◌-◌, ◌∙◌, ◌∷◌, ◌≡◌}
-use Rattle.scene_model.specs.Machine.{undo}
+use Rattle.scene_machine.specs.Machine.{undo}
 use Rattle.scene_model.specs.World.{World}
 use Rattle.scene_world.specs.Room.{Room}
 use Rattle.scene_journal.specs.Records.{undone}

@@ -1,7 +1,7 @@
 //! The ways in which work is done: on a world itself, or by a recorder, which may take it back.
 ghost use Rattle.std.specs.Prelude.{◌≡◌, ◌≤◌};
 
-use crate::work::{Work, work_on, world_for};
+use crate::work::{Job, work_on, world_for};
 use scene_journal::{FrameRecord, Recorder};
 use scene_kinds::Refusal;
 use scene_world::World;
@@ -53,35 +53,35 @@ fn free_in(world: &World) -> usize {
     world.slots().free().len()
 }
 
-fn plain(alloc: Global, world: World, work: Work, size: u32) -> Result<usize, Refusal> {
+fn plain(alloc: Global, world: World, job: Job) -> Result<usize, Refusal> {
     let mut after = world;
-    let worked = work_on(alloc, &mut after, work, size);
+    let worked = work_on(alloc, &mut after, job);
     worked.map(|()| free_in(&after))
 }
 
-fn recorded(alloc: Global, world: World, work: Work, size: u32) -> Result<usize, Refusal> {
+fn recorded(alloc: Global, world: World, job: Job) -> Result<usize, Refusal> {
     let mut recorder = begun(alloc, world);
-    let worked = work_on(alloc, &mut recorder, work, size);
+    let worked = work_on(alloc, &mut recorder, job);
     let (after, _record) = recorder.into_parts();
     worked.map(|()| free_in(&after))
 }
 
-fn reverted(alloc: Global, world: World, work: Work, size: u32) -> Result<usize, Refusal> {
+fn reverted(alloc: Global, world: World, job: Job) -> Result<usize, Refusal> {
     let mut recorder = begun(alloc, world);
-    let worked = work_on(alloc, &mut recorder, work, size);
+    let worked = work_on(alloc, &mut recorder, job);
     let before = recorder.revert();
     worked.map(|()| free_in(&before))
 }
 
-/// Does some work in some way on a new world of so many entities, and answers how many indices are free in the end.
-pub fn done(alloc: Global, way: Way, work: Work, size: u32) -> Result<usize, Refusal>
-    requires least { 1 ≤ size }
-    requires most { size ≤ 1048576 }
+/// Does a job in some way on a new world, and answers how many indices are free in the end.
+pub fn done(alloc: Global, way: Way, job: Job) -> Result<usize, Refusal>
+    requires least { 1 ≤ job.size }
+    requires most { job.size ≤ 1048576 }
 {
-    let world = world_for(alloc, work, size)?;
+    let world = world_for(alloc, job)?;
     match way {
-        Way::Plain => plain(alloc, world, work, size),
-        Way::Recorded => recorded(alloc, world, work, size),
-        Way::Reverted => reverted(alloc, world, work, size),
+        Way::Plain => plain(alloc, world, job),
+        Way::Recorded => recorded(alloc, world, job),
+        Way::Reverted => reverted(alloc, world, job),
     }
 }

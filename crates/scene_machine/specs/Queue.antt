@@ -5,7 +5,7 @@ use Rattle.scene_kinds.specs.declared.fault.Fault.{Fault}
 use Rattle.scene_kinds.specs.declared.fault.Fault.TheVariants.{BadLocal, NoMemory}
 use Rattle.scene_kinds.specs.declared.refusal.Refusal.{Refusal}
 use Rattle.scene_kinds.specs.Answers.{Outcome, refusal_of, refuse}
-use Rattle.scene_model.specs.Perform.{Command}
+use Rattle.scene_model.specs.Perform.{Command, Act}
 
 -- a command as a queue holds it: the command that it is, once the entities are known that its queue has spawned so far; none where
 -- it names one of them that isn't there yet
@@ -15,10 +15,6 @@ Request = List Entity → Option Command
 -- a command that names no entity of its queue
 abbrev pub known : Command → Request
 known c spawned = Some c
-
--- what a command does to a state; its answer is the entity that a spawn made, and none of the others has one
-abbrev pub Act : Type 0 → Type 0
-Act S = S → Command → Outcome (Option Entity) S
 
 -- how far a queue has come: the state, and the entities that the queue has spawned, in order
 pub record Progress (S : Type 0) : Type 0 where

@@ -7,10 +7,10 @@ use Rattle.scene_kinds.specs.Answers.{Outcome}
 use Rattle.scene_model.specs.World.{World}
 use Rattle.scene_model.specs.Commands.{and_then, raise_tick}
 use Rattle.scene_model.specs.Perform.{Command, perform}
-use Rattle.scene_model.specs.Queue.{Request, Progress, Ended, reached, act_known, request, and_spawned, unless_refused, play_from, play}
-use Rattle.scene_model.specs.Frame.{all_or_refused, queue, queues_from}
+use Rattle.scene_machine.specs.Queue.{Request, Progress, Ended, reached, act_known, request, and_spawned, unless_refused, play_from, play}
+use Rattle.scene_machine.specs.Frame.{all_or_refused, queue, queues_from}
 use Rattle.scene_model.specs.Valid.{IsValid}
-use Rattle.scene_model.specs.Laws.{IsInRange, AreInRange, QueuesAreInRange, FramesKeep}
+use Rattle.scene_machine.specs.Laws.{IsInRange, AreInRange, QueuesAreInRange, FramesKeep}
 use Rattle.scene_model.proofs.Outcomes.{not_ok, same_world}
 use Rattle.scene_model.proofs.CommandKeeps.{commands_keep}
 use Rattle.scene_model.proofs.MoveKeeps.{raise_keeps}

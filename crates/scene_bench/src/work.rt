@@ -1,8 +1,8 @@
-//! The work on a world, by its public calls alone.
+//! The work on a world, by its public calls alone, or by those of a recorder.
 ghost use Rattle.std.specs.Prelude.{◌≡◌, ◌≤◌};
 
 use scene_kinds::{Entity, Refusal, Schema, Shape, Value};
-use scene_world::World;
+use scene_world::{Stage, World};
 use std::alloc::Global;
 
 /// The number of the Int that each entity has from its spawn.
@@ -17,10 +17,11 @@ const FRIEND: u8 = 2;
 /// The number of the Tag that no entity has from its spawn.
 const MARK: u8 = 3;
 
-/// What is done to a world of so many entities of three kinds. Where a pass is spoken of, so many are made on one world.
+/// What is done to a world of so many entities of three kinds. Where a pass is spoken of, so many are made on one world. All
+/// but the spawns is done once the entities are there, and linked where the work wants them linked.
 #[derive(Clone, Copy, PartialEq, Eq)]
 pub enum Work {
-    /// Nothing after the spawns.
+    /// The entities come, one after another.
     Spawn,
     /// A pass reads one component of each entity.
     Get,
@@ -117,9 +118,9 @@ fn components(alloc: Global, index: u32) -> Result<Vec<(u8, Value)>, Refusal> {
     Ok(Vec::from_array(alloc, cells)?)
 }
 
-fn spawn_each(alloc: Global, world: &mut World, size: u32) -> Result<(), Refusal> {
+fn spawn_each<S: Stage>(alloc: Global, stage: &mut S, size: u32) -> Result<(), Refusal> {
     for index in 0..size {
-        let _entity = world.spawn(components(alloc, index)?)?;
+        let _entity = stage.spawn(components(alloc, index)?)?;
     }
     Ok(())
 }
@@ -131,97 +132,101 @@ fn get_each(world: &World, size: u32) -> Result<(), Refusal> {
     Ok(())
 }
 
-fn insert_each(world: &mut World, size: u32) -> Result<(), Refusal> {
+fn insert_each<S: Stage>(stage: &mut S, size: u32) -> Result<(), Refusal> {
     for index in 0..size {
-        world.insert(first(index), HEALTH, Value::Int(7))?;
+        stage.insert(first(index), HEALTH, Value::Int(7))?;
     }
     Ok(())
 }
 
-fn move_each(world: &mut World, size: u32) -> Result<(), Refusal> {
+fn mark_each<S: Stage>(stage: &mut S, size: u32) -> Result<(), Refusal> {
     for index in 0..size {
-        world.insert(first(index), MARK, Value::Tag)?;
-    }
-    for index in 0..size {
-        world.remove(first(index), MARK)?;
+        stage.insert(first(index), MARK, Value::Tag)?;
     }
     Ok(())
 }
 
-fn link_wide(world: &mut World, size: u32) -> Result<(), Refusal> {
+fn unmark_each<S: Stage>(stage: &mut S, size: u32) -> Result<(), Refusal> {
+    for index in 0..size {
+        stage.remove(first(index), MARK)?;
+    }
+    Ok(())
+}
+
+fn link_wide<S: Stage>(stage: &mut S, size: u32) -> Result<(), Refusal> {
     for index in 1..size {
-        world.set_parent(first(index), first(0))?;
+        stage.set_parent(first(index), first(0))?;
     }
     Ok(())
 }
 
-fn link_deep(world: &mut World, size: u32) -> Result<(), Refusal> {
+fn link_deep<S: Stage>(stage: &mut S, size: u32) -> Result<(), Refusal> {
     for index in 1..size {
-        world.set_parent(first(index), first(index - 1))?;
+        stage.set_parent(first(index), first(index - 1))?;
     }
     Ok(())
 }
 
 /// Each child leaves its parent, the last one first.
-fn unlink_each(world: &mut World, size: u32) -> Result<(), Refusal> {
+fn unlink_each<S: Stage>(stage: &mut S, size: u32) -> Result<(), Refusal> {
     for index in (1..size).rev() {
-        world.remove_parent(first(index))?;
+        stage.remove_parent(first(index))?;
     }
     Ok(())
 }
 
-fn despawn_each(world: &mut World, size: u32) -> Result<(), Refusal> {
+fn despawn_each<S: Stage>(stage: &mut S, size: u32) -> Result<(), Refusal> {
     for index in 0..size {
-        world.despawn(first(index))?;
+        stage.despawn(first(index))?;
     }
     Ok(())
 }
 
-fn put_often(world: &mut World, size: u32) -> Result<(), Refusal> {
+fn put_often<S: Stage>(stage: &mut S, size: u32) -> Result<(), Refusal> {
     for index in 0..size {
-        world.put_resource("score", Value::Int(i64::from(index)))?;
+        stage.put_resource("score", Value::Int(i64::from(index)))?;
     }
     Ok(())
 }
 
-/// Makes one pass of some work over a world of so many entities; of work that takes the world apart, none.
-fn pass_over(world: &mut World, work: Work, size: u32) -> Result<(), Refusal> {
+/// Makes one pass of some work; of work that fills the world or takes it apart, none.
+fn pass_over<S: Stage>(stage: &mut S, work: Work, size: u32) -> Result<(), Refusal> {
     match work {
-        Work::Get => get_each(world, size),
-        Work::Insert => insert_each(world, size),
-        Work::Move => move_each(world, size),
+        Work::Get => get_each(stage.world(), size),
+        Work::Insert => insert_each(stage, size),
+        Work::Move => {
+            mark_each(stage, size)?;
+            unmark_each(stage, size)
+        }
         Work::Wide => {
-            unlink_each(world, size)?;
-            link_wide(world, size)
+            unlink_each(stage, size)?;
+            link_wide(stage, size)
         }
         Work::Deep => {
-            unlink_each(world, size)?;
-            link_deep(world, size)
+            unlink_each(stage, size)?;
+            link_deep(stage, size)
         }
-        Work::Put => put_often(world, size),
+        Work::Put => put_often(stage, size),
         Work::Spawn | Work::Despawn | Work::DespawnWide | Work::DespawnDeep => Ok(()),
     }
 }
 
-/// Links the entities that some work wants linked.
-fn link_each(world: &mut World, work: Work, size: u32) -> Result<(), Refusal> {
+/// The part of some work that can't be done twice on one world: the spawns of all entities, or their despawns.
+fn fill_or_empty<S: Stage>(
+    alloc: Global,
+    stage: &mut S,
+    work: Work,
+    size: u32,
+) -> Result<(), Refusal> {
     match work {
-        Work::Wide | Work::DespawnWide => link_wide(world, size),
-        Work::Deep | Work::DespawnDeep => link_deep(world, size),
+        Work::Spawn => spawn_each(alloc, stage, size),
+        Work::Despawn => despawn_each(stage, size),
+        Work::DespawnWide | Work::DespawnDeep => stage.despawn_recursive(first(0)),
         _ => Ok(()),
     }
 }
 
-/// Despawns the entities that some work wants despawned.
-fn take_apart(world: &mut World, work: Work, size: u32) -> Result<(), Refusal> {
-    match work {
-        Work::Despawn => despawn_each(world, size),
-        Work::DespawnWide | Work::DespawnDeep => world.despawn_recursive(first(0)),
-        _ => Ok(()),
-    }
-}
-
-/// Some work, in an empty world, with so many entities and so many passes.
+/// Some work, in a world of so many entities and so many passes.
 #[derive(Clone, Copy)]
 pub struct Job {
     pub work: Work,
@@ -229,25 +234,35 @@ pub struct Job {
     pub passes: u32,
 }
 
-/// Does a job on an empty world.
-fn fill_and_work(alloc: Global, world: &mut World, job: Job) -> Result<(), Refusal> {
-    spawn_each(alloc, world, job.size)?;
-    link_each(world, job.work, job.size)?;
+/// Does a job on a stage that was made for it.
+pub fn work_on<S: Stage>(alloc: Global, stage: &mut S, job: Job) -> Result<(), Refusal> {
     for _ in 0..job.passes {
-        pass_over(world, job.work, job.size)?;
+        pass_over(stage, job.work, job.size)?;
     }
-    take_apart(world, job.work, job.size)
+    fill_or_empty(alloc, stage, job.work, job.size)
 }
 
-/// Does a job on a new world, and answers how many indices are free in the end.
-pub fn done(alloc: Global, job: Job) -> Result<usize, Refusal>
+/// Fills an empty world as a job wants it before its work: with all entities, and with their links.
+fn fill(alloc: Global, world: &mut World, job: Job) -> Result<(), Refusal> {
+    if job.work == Work::Spawn {
+        return Ok(());
+    }
+    spawn_each(alloc, world, job.size)?;
+    match job.work {
+        Work::Wide | Work::DespawnWide => link_wide(world, job.size),
+        Work::Deep | Work::DespawnDeep => link_deep(world, job.size),
+        _ => Ok(()),
+    }
+}
+
+/// A new world for a job.
+pub fn world_for(alloc: Global, job: Job) -> Result<World, Refusal>
     requires least { 1 ≤ job.size }
     requires most { job.size ≤ 1048576 }
 {
     let mut schema = Schema::new(alloc);
     let added = add_kinds(alloc, &mut schema);
     let mut world = World::new(alloc, schema, job.size);
-    let worked = added.and(fill_and_work(alloc, &mut world, job));
-    let free = world.slots().free().len();
-    worked.map(|()| free)
+    let filled = added.and(fill(alloc, &mut world, job));
+    filled.map(|()| world)
 }

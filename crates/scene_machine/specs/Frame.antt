@@ -1,13 +1,13 @@
--- Frames of queues, on whatever commands can be performed on, and the total step of the machine of saved worlds.
+-- Frames, those of queues on whatever commands can be performed on, and the total step of the machine of saved worlds.
 use Rattle.std.specs.Prelude.{ℕ, ◌+◌, List, [], ◌∷◌, ◌++◌, Option, Some, None, Result, Ok, Err}
 use Rattle.scene_kinds.specs.declared.entity.Entity.{Entity}
 use Rattle.scene_kinds.specs.declared.refusal.Refusal.{Refusal}
 use Rattle.scene_kinds.specs.Answers.{Outcome}
 use Rattle.scene_model.specs.World.{World}
 use Rattle.scene_model.specs.Commands.{and_then, raise_tick}
-use Rattle.scene_model.specs.Perform.{perform}
-use Rattle.scene_model.specs.Queue.{Request, Act, Ended, play, refused_at}
-use Rattle.scene_model.specs.Machine.{Machine, submitted, undo, redo}
+use Rattle.scene_model.specs.Perform.{perform, Act}
+use Rattle.scene_machine.specs.Queue.{Request, Ended, play, refused_at}
+use Rattle.scene_machine.specs.Machine.{Machine, submitted, undo, redo}
 
 -- what a queue came to, by the first refusal, if there is one, with its place
 abbrev pub all_or_refused : {S : Type 0} → ℕ → S → List Entity → Option (ℕ × Refusal) → Outcome (List Entity) S
@@ -28,9 +28,13 @@ module _ {S : Type 0} (act : Act S) where
   queues_from q [] s = Ok ([], s)
   queues_from q (rs ∷ rss) s = and_then (queue q rs s) (λ es t. and_then (queues_from (q + 1) rss t) (λ fs u. Ok (es ++ fs, u)))
 
--- a frame raises the tick, and then does its queues; a refusal gives no world
+-- a frame of whatever kind, by what it does to a world: it raises the tick, and then it is done; a refusal gives no world
+abbrev pub framed : (World → Outcome (List Entity) World) → World → Outcome (List Entity) World
+framed does w = and_then (raise_tick w) (λ a v. does v)
+
+-- a frame of queues
 abbrev pub frame : List (List Request) → World → Outcome (List Entity) World
-frame queues w = and_then (raise_tick w) (λ a v. queues_from perform 0 queues v)
+frame queues = framed (queues_from perform 0 queues)
 
 -- what a tool asks of the machine
 pub data Call : Type 0 where

@@ -14,9 +14,9 @@ use Rattle.scene_kinds.specs.Map as map
 use Rattle.scene_kinds.specs.Schema.{Kinds}
 use Rattle.scene_model.specs.World.{World, new_world}
 use Rattle.scene_model.specs.Perform.{Command, Spawn}
-use Rattle.scene_model.specs.Machine.{Machine, opening}
-use Rattle.scene_model.specs.Queue.{Request, known, refused_at}
-use Rattle.scene_model.specs.Frame.{Call, Submit, Reply, after_calls}
+use Rattle.scene_machine.specs.Machine.{Machine, opening}
+use Rattle.scene_machine.specs.Queue.{Request, known, refused_at}
+use Rattle.scene_machine.specs.Frame.{Call, Submit, Reply, after_calls}
 
 -- an entity by its index and its generation
 abbrev pub ent : ℕ → ℕ → Entity

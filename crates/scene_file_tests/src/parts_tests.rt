@@ -1,5 +1,5 @@
 //! A world of its parts, and what is answered where they break a rule.
-use crate::small::{last_entity, last_parts};
+use crate::last_parts::{last_entity, last_parts};
 use scene_kinds::{Cell, Fault, Refusal, Value};
 use scene_parts::WorldParts;
 use scene_world::World;

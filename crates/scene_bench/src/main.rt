@@ -1,35 +1,38 @@
-//! `scene_journal_bench WORK SIZE ROUNDS WAY`: some work on a world of so many entities, so many times, each time on a new
-//! world. By the way `plain` the world does it, by `recorded` a recorder, and by `reverted` a recorder that takes it back. It
-//! prints how many indices are free in the end of each.
+//! `scene_bench WORK SIZE PASSES ROUNDS WAY`: some work on a world of so many entities, in so many passes, and all of it so
+//! many times, each time on a new world. By the way `plain` the world does it, by `recorded` a recorder, and by `reverted` a
+//! recorder that takes it back. It prints how many indices are free in the end of each.
 //!
-//! Without words it does all work in each way on a small world once. bench/journal.sh makes a table of such runs.
+//! Without words it does all work in each way on a small world once. bench/world.sh and bench/journal.sh make tables of such
+//! runs.
 #![tactic(auto)]
 
 mod way;
 mod work;
 
 use crate::way::{Way, done};
-use crate::work::Work;
+use crate::work::{Job, Work};
 use std::process::ExitCode;
 use std::{env, io};
 
 /// One run.
 #[derive(Clone, Copy)]
 struct Asked {
-    work: Work,
-    way: Way,
-    size: u32,
+    job: Job,
     rounds: u32,
+    way: Way,
 }
 
 /// The run that the words after the program's name ask for, or `None` where they ask for none.
 fn read_words(words: &[String]) -> Option<Asked> {
     match words {
-        [_, work, size, rounds, way] => Some(Asked {
-            work: Work::named(work.as_str())?,
-            way: Way::named(way.as_str())?,
-            size: size.parse().ok()?,
+        [_, work, size, passes, rounds, way] => Some(Asked {
+            job: Job {
+                work: Work::named(work.as_str())?,
+                size: size.parse().ok()?,
+                passes: passes.parse().ok()?,
+            },
             rounds: rounds.parse().ok()?,
+            way: Way::named(way.as_str())?,
         }),
         _ => None,
     }
@@ -40,12 +43,13 @@ const SMALL: u32 = 10;
 
 /// Whether the run was made: a world has 1 to 1,048,576 entities here.
 fn run(rt: &HostRuntime, asked: Asked) -> io::Result<bool> {
-    if asked.size == 0 || asked.size > 1_048_576 {
+    let job = asked.job;
+    if job.size == 0 || job.size > 1_048_576 {
         return Ok(false);
     }
-    let (work, way) = (asked.work.name(), asked.way.name());
+    let (work, way) = (job.work.name(), asked.way.name());
     for _ in 0..asked.rounds {
-        match done(rt.alloc(), asked.way, asked.work, asked.size) {
+        match done(rt.alloc(), asked.way, job) {
             Ok(free) => println!(rt; "{work} {way}: {free} free")?,
             Err(refusal) => {
                 println!(rt; "{work} {way}: refused {refusal}")?;
@@ -59,11 +63,15 @@ fn run(rt: &HostRuntime, asked: Asked) -> io::Result<bool> {
 /// All work on a small world, in one way.
 fn run_all(rt: &HostRuntime, way: Way) -> io::Result<bool> {
     for work in Work::ALL {
-        let small = Asked {
+        let job = Job {
             work,
-            way,
             size: SMALL,
+            passes: 2,
+        };
+        let small = Asked {
+            job,
             rounds: 1,
+            way,
         };
         if !run(rt, small)? {
             return Ok(false);

@@ -7,10 +7,10 @@ use Rattle.scene_kinds.specs.Map as map
 use Rattle.scene_model.specs.World.{World, new_world, component_of}
 use Rattle.scene_model.specs.Commands.{highest_tick, spawn}
 use Rattle.scene_model.specs.Perform.{Despawn, DespawnRecursive, DespawnRecursiveIfAlive, Insert, Remove, SetParent, RemoveParent, PutResource, RemoveResource}
-use Rattle.scene_model.specs.Machine.{Machine, opening}
-use Rattle.scene_model.specs.Queue.{known, refused_at}
-use Rattle.scene_model.specs.Frame.{Call, Submit, Undo, Redo, step, after_calls, replies}
-use Rattle.scene_model.specs.ExampleWords.{ent, cell, int, schema, world, fresh, int_row, tag_row, spawn_int, spawn_tag, local, frame_of, one, only, empty_frame, ends, made, done, refused, refused_first}
+use Rattle.scene_machine.specs.Machine.{Machine, opening}
+use Rattle.scene_machine.specs.Queue.{known, refused_at}
+use Rattle.scene_machine.specs.Frame.{Call, Submit, Undo, Redo, step, after_calls, replies}
+use Rattle.scene_machine.specs.ExampleWords.{ent, cell, int, schema, world, fresh, int_row, tag_row, spawn_int, spawn_tag, local, frame_of, one, only, empty_frame, ends, made, done, refused, refused_first}
 
 -- undo and redo of an empty world are refused, and change nothing
 abbrev pub NothingToTakeBack : Type 0

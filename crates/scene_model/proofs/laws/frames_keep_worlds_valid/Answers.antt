@@ -1,5 +1,0 @@
-use Rattle.scene_model.proofs.FrameKeeps.{frames_keep}
-use Rattle.scene_model.proofs.laws.frames_keep_worlds_valid.Goals as goal
-
-pub returns : goal.returns
-returns c = frames_keep
