@@ -8,6 +8,13 @@ use scene_editor::{Components, Editor, Filter, Queue, Schema, Shape, World, matc
 use std::alloc::Global;
 use std::io::Read;
 
+/// The kinds of a scene, with the shapes of their values.
+const KINDS: [(&str, Shape); 3] = [
+    ("Name", Shape::Text),
+    ("Health", Shape::Int),
+    ("Position", Shape::Vec3),
+];
+
 /// How many slots a scene has.
 const SLOTS: u32 = 65_536;
 
@@ -68,18 +75,6 @@ fn components(
     Ok(Components::from(cells))
 }
 
-/// Adds the spawn of a row to a queue.
-fn push_row(
-    alloc: Global,
-    columns: &[Column],
-    row: Result<StringRecord, Error>,
-    queue: &mut Queue,
-) -> Result<(), ImportError> {
-    let row = row.map_err(table_error)?;
-    let _new = queue.spawn(components(alloc, columns, &row)?)?;
-    Ok(())
-}
-
 /// Adds the spawns of all rows below the header row to a queue.
 fn push_rows<R: Read>(
     alloc: Global,
@@ -90,13 +85,13 @@ fn push_rows<R: Read>(
     let header = reader.headers().map_err(table_error)?;
     let columns = columns(alloc, schema, header)?;
     for row in reader.records() {
-        push_row(alloc, columns.as_slice(), row, queue)?;
+        let row = row.map_err(table_error)?;
+        let _new = queue.spawn(components(alloc, columns.as_slice(), &row)?)?;
     }
     Ok(())
 }
 
-/// A queue that spawns an entity for each row of a table. The reader is large: here it is dropped once, and not on each way
-/// out of the rows.
+/// A queue that spawns an entity for each row of a table. The reader is large, so it is dropped here alone.
 fn spawns<R: Read + Drop>(alloc: Global, schema: &Schema, table: R) -> Result<Queue, ImportError> {
     let mut reader = Reader::from_reader(alloc, table);
     let mut queue = Queue::new(alloc);
@@ -104,14 +99,19 @@ fn spawns<R: Read + Drop>(alloc: Global, schema: &Schema, table: R) -> Result<Qu
     Ok(queue)
 }
 
+/// The schema of a scene.
+fn kinds(alloc: Global) -> Result<Schema, ImportError> {
+    let mut schema = Schema::new(alloc);
+    for (name, shape) in KINDS {
+        let _kind = schema.add(String::from_str(alloc, name)?, shape)?;
+    }
+    Ok(schema)
+}
+
 impl Importer {
     /// A scene without things.
     pub fn open(alloc: Global) -> Result<Importer, ImportError> {
-        let mut schema = Schema::new(alloc);
-        let _name = schema.add(String::from_str(alloc, "Name")?, Shape::Text)?;
-        let _health = schema.add(String::from_str(alloc, "Health")?, Shape::Int)?;
-        let _position = schema.add(String::from_str(alloc, "Position")?, Shape::Vec3)?;
-        let editor = Editor::new(alloc, World::new(alloc, schema, SLOTS));
+        let editor = Editor::new(alloc, World::new(alloc, kinds(alloc)?, SLOTS));
         Ok(Importer { alloc, editor })
     }
 

@@ -11,12 +11,11 @@ use crate::importer::Importer;
 use anyhow::Result;
 use std::io;
 
-/// Tables that no scene takes: a wrong number, a missing field, an unknown kind, and a kind that an entity would have twice.
-const BAD_TABLES: [&str; 4] = [
+/// Tables that no scene takes: a wrong number, a missing field, and an unknown kind.
+const BAD_TABLES: [&str; 3] = [
     "Name,Health\nghost,9\nimp,many\n",
     "Name,Health\nghost,9\nimp\n",
     "Name,Speed\nghost,9\n",
-    "Name,Name\nghost,spirit\n",
 ];
 
 /// Prints how many entities there are.
