@@ -10,10 +10,13 @@ use scene_editor::{
 };
 use std::alloc::{AllocError, Global};
 
-/// The kind of names, a Text.
+/// The kinds of a level, with the shapes of their values.
+const KINDS: [(&str, Shape); 2] = [("Name", Shape::Text), ("Position", Shape::Vec3)];
+
+/// The kind of names: its place in `KINDS`.
 const NAME: u8 = 0;
 
-/// The kind of positions, a Vec3.
+/// The kind of positions: its place in `KINDS`.
 const POSITION: u8 = 1;
 
 /// How many slots a level has.
@@ -53,11 +56,12 @@ fn thing(alloc: Global, name: &str) -> Result<Components, AllocError> {
     Ok(Components::from(cells))
 }
 
-/// The kinds of a level: names and positions.
+/// The schema of a level.
 fn kinds(alloc: Global) -> Result<Schema, LevelError> {
     let mut schema = Schema::new(alloc);
-    let _name = schema.add(String::from_str(alloc, "Name")?, Shape::Text)?;
-    let _position = schema.add(String::from_str(alloc, "Position")?, Shape::Vec3)?;
+    for (name, shape) in KINDS {
+        let _kind = schema.add(String::from_str(alloc, name)?, shape)?;
+    }
     Ok(schema)
 }
 
