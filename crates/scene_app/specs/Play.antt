@@ -7,7 +7,6 @@ use Rattle.scene_kinds.specs.declared.fault.Fault.TheVariants.{NoSuchEntity}
 use Rattle.scene_kinds.specs.declared.refusal.Refusal.{Refusal}
 use Rattle.scene_kinds.specs.declared.shape.Shape.{Shape}
 use Rattle.scene_kinds.specs.Answers.{Outcome, refusal_of}
-use Rattle.scene_kinds.specs.Fault.{refusal_text}
 use Rattle.scene_kinds.specs.Schema.{Kinds, with_kind}
 use Rattle.scene_model.specs.World.{World, new_world, row_of}
 use Rattle.scene_machine.specs.Machine.{Machine, opening}
@@ -32,7 +31,7 @@ use Rattle.scene_file.specs.Saving.{save_of}
 use Rattle.scene_file.specs.Scene.{loaded}
 use Rattle.scene_app.specs.FileFaultText.{file_fault_text}
 use Rattle.scene_show.specs.Listed.{listed_text}
-use Rattle.scene_script.specs.Printed.{row_text}
+use Rattle.scene_script.specs.Printed.{refusal_line, row_text}
 use Rattle.scene_script.specs.Script.{line_in}
 use Rattle.scene_show.specs.Shown.{entities_text, show_text}
 
@@ -70,7 +69,7 @@ redone_text es = codes "redone\n"
 
 -- the line of a refusal: its fault by number and name, and its place where it has one
 abbrev pub refused_text : Refusal → List ℕ
-refused_text r = codes "refused " ++ (refusal_text r ++ codes "\n")
+refused_text r = codes "refused " ++ (refusal_line r ++ codes "\n")
 
 -- what `get` prints: the row, or that there is no such entity
 abbrev pub row_answer : Kinds → Option Row → List ℕ

@@ -20,7 +20,7 @@ use scene_file::save_text;
 use scene_kinds::{Entity, Fault, Refusal};
 use scene_pass::{Filter, added_since, changed_since};
 use scene_queue::Queue;
-use scene_script::{BadLine, Line};
+use scene_script::{BadLine, Line, write_refusal};
 use scene_show::{write_entities, write_listed, write_row, write_show};
 use scene_world::World;
 use std::alloc::{AllocError, Global};
@@ -29,8 +29,9 @@ use std::alloc::{AllocError, Global};
 fn write_refused(out: &mut String, refusal: Refusal) -> Result<(), AllocError>
     ensures { OnOk result (string_bytes out.new ≡ string_bytes out.old ++ refused_text refusal) }
 {
-    write!(out, "refused {refusal}\n")?;
-    Ok(())
+    out.push_str("refused ")?;
+    write_refusal(out, refusal)?;
+    out.push('\n')
 }
 
 /// Adds a refusal of the machine; want of memory is no answer, and ends the run.

@@ -10,7 +10,7 @@ use crate::notes::{despawned, keep};
 use crate::sound::is_sound;
 use crate::steps::take_all_back;
 use scene_kinds::Entity;
-use scene_world::World;
+use scene_world::{RawChanges, World};
 use std::alloc::{AllocError, Global};
 
 /// Cuts the rows of entities one after another, and gives the deltas. Where no memory is found for the cells of one of

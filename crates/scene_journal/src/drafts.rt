@@ -7,7 +7,7 @@ ghost use Rattle.scene_world.specs.Room.{IsWider};
 use crate::delta::Delta;
 use crate::record::FrameRecord;
 use crate::redo::{redo_delta, undo_delta};
-use scene_world::World;
+use scene_world::{RawChanges, World};
 use std::alloc::AllocError;
 
 /// Makes deltas again, the first first, where each fits at its turn.

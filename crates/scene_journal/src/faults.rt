@@ -13,7 +13,7 @@ use crate::record::FrameRecord;
 use crate::redo::{redo_delta, undo_delta};
 use crate::timely::can_set_tick;
 use scene_kinds::{Fault, Refusal};
-use scene_world::World;
+use scene_world::{RawChanges, World};
 
 /// A law of faults: a record that has one doesn't fit.
 pub fn faults_are_faults()

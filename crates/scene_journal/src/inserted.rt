@@ -16,7 +16,7 @@ use crate::fits::standing;
 use crate::notes;
 use crate::sound::is_sound;
 use scene_kinds::{Cell, Entity, Refusal, Value};
-use scene_world::World;
+use scene_world::{RawChanges, World};
 use std::alloc::AllocError;
 
 /// The tick at which the cell of a kind was added that an entity has, or `None`.

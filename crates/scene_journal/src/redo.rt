@@ -7,7 +7,7 @@ use crate::delta::Delta;
 use crate::resource_cell::ResourceCell;
 use crate::steps::wide;
 use scene_kinds::Cell;
-use scene_world::World;
+use scene_world::{RawChanges, World};
 use std::alloc::AllocError;
 
 /// A copy of the cell of a resource, where there is one.

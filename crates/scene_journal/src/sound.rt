@@ -2,7 +2,7 @@
 ghost use Rattle.scene_model.specs.Valid.{IsValid};
 ghost use Rattle.scene_world.specs.Room.{Holds};
 
-use scene_world::World;
+use scene_world::{RawChanges, World};
 
 /// A law of every world: it is valid, and its room holds it. It does nothing.
 pub(crate) fn is_sound(world: &World)

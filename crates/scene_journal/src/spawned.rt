@@ -11,7 +11,7 @@ use crate::delta::Delta;
 use crate::notes::cells_of;
 use crate::sound::is_sound;
 use scene_kinds::{Entity, Fault, Refusal, Value};
-use scene_world::World;
+use scene_world::{RawChanges, World};
 use std::alloc::Global;
 
 /// Spawns an entity as `World::spawn` does, and gives it with its delta, which has a copy of the row's cells. Where no

@@ -7,7 +7,7 @@ ghost use Rattle.scene_world.specs.Room.{Holds};
 
 use crate::delta::Delta;
 use scene_kinds::Entity;
-use scene_world::World;
+use scene_world::{RawChanges, World};
 
 /// A link as the calls of a world take it.
 pub(crate) fn wide(link: Option<(Entity, u32)>) -> Option<(Entity, usize)>

@@ -86,15 +86,15 @@ fault_text (BadWorld rule) = labelled (BadWorld rule) (codes " " ++ decimal rule
 fault_text (BadRecord frame delta) = labelled (BadRecord frame delta) (codes " " ++ (decimal frame ++ (codes " " ++ decimal delta)))
 fault_text f = decimal (fault_number f) ++ (codes " " ++ fault_name f)
 
--- phase, queue and command, parted by points
+-- phase, queue and command, in words
 abbrev pub place_text : Place → List ℕ
-place_text p = decimal p.phase ++ (codes "." ++ (decimal p.queue ++ (codes "." ++ decimal p.command)))
+place_text p = codes "phase " ++ (decimal p.phase ++ (codes ", queue " ++ (decimal p.queue ++ (codes ", command " ++ decimal p.command))))
 
 -- the fault, and then the place where there is one
 abbrev pub placed_text : Fault → Option Place → List ℕ
 placed_text f None = fault_text f
 placed_text f (Some p) = fault_text f ++ (codes " at " ++ place_text p)
 
--- the line of a refusal
+-- what a refusal says: the fault, and its place in words
 abbrev pub refusal_text : Refusal → List ℕ
 refusal_text r = placed_text r.fault r.place

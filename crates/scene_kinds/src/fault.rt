@@ -3,6 +3,7 @@ ghost use Rattle.std.specs.Prelude.{◌≡◌, Some};
 ghost use Rattle.scene_kinds.specs.Fault.{fault_number, fault_name, fault_text};
 
 use crate::entity::Entity;
+use std::error::Error;
 use std::fmt;
 
 /// Why a call was refused. docs/MODEL.md, "Faults", says when each comes.
@@ -145,3 +146,5 @@ impl fmt::Display for Fault {
         }
     }
 }
+
+impl Error for Fault {}

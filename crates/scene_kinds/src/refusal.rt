@@ -6,6 +6,7 @@ ghost use Rattle.scene_kinds.specs.declared.fault.Fault.TheVariants.{NoMemory};
 
 use crate::fault::Fault;
 use std::alloc::{AllocError, AllocFailed};
+use std::error::Error;
 use std::fmt;
 
 /// The place of a command in a frame: its phase, its queue in the phase, and its place in the queue, each
@@ -51,16 +52,20 @@ impl<T: Drop> From<AllocFailed<T>> for Refusal {
     }
 }
 
-/// Phase, queue and command, with points between them.
+/// In words, as `phase 0, queue 0, command 2`.
 impl fmt::Display for Place {
     ghost output = { λ p. Some (place_text p) };
 
     fn fmt<W: fmt::Write>(&self, f: &mut fmt::Formatter<W>) -> fmt::Result {
-        write!(f, "{}.{}.{}", self.phase, self.queue, self.command)
+        write!(
+            f,
+            "phase {}, queue {}, command {}",
+            self.phase, self.queue, self.command
+        )
     }
 }
 
-/// The fault's text, and ` at ` with the place where there is one.
+/// The fault's text, and ` at ` with the place where there is one, as `8 Cycle at phase 0, queue 0, command 2`.
 impl fmt::Display for Refusal {
     ghost output = { λ r. Some (refusal_text r) };
 
@@ -71,3 +76,5 @@ impl fmt::Display for Refusal {
         }
     }
 }
+
+impl Error for Refusal {}

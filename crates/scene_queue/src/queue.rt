@@ -1,7 +1,8 @@
 //! Queues: lists of commands with a limit, and what applying them does.
-ghost use Rattle.std.specs.Prelude.{◌≡◌, ◌≢◌, ◌<◌, ◌≤◌, ◌^◌, length, IfErr, IfOk, OnOk, OnErr, MatchResult, None, Ok, Err, if◌then◌else◌};
+ghost use Rattle.std.specs.Prelude.{◌≡◌, ◌≢◌, ◌<◌, ◌≤◌, ◌^◌, length, IfErr, IfOk, OnOk, OnErr, MatchResult, Some, None, Ok, Err, if◌then◌else◌};
 ghost use Rattle.std.specs.Prelude.{vec_len, vec_capacity};
 ghost use Rattle.scene_kinds.specs.Answers.{Answers, refusal_of};
+ghost use Rattle.scene_kinds.specs.Fault.{refusal_text};
 ghost use Rattle.scene_kinds.specs.declared.fault.Fault.TheVariants.{NoMemory, QueueFull};
 ghost use Rattle.scene_commands.specs.declared.command.Command.TheVariants.{Spawn};
 ghost use Rattle.scene_commands.specs.declared.target.Target.TheVariants.{New};
@@ -18,17 +19,41 @@ use scene_commands::{Command, Components, Target};
 use scene_kinds::{Entity, Fault, Place, Refusal, Text, Value};
 use scene_world::Stage;
 use std::alloc::{AllocError, Global};
+use std::error::Error;
+use std::fmt;
 use std::marker::Model;
 
 /// How many commands a queue takes for which no other limit is given.
 const USUAL_LIMIT: u32 = 67_108_864;
 
 /// What a queue didn't take, handed back, and why.
+///
+/// Where only the refusal counts, `?` makes a `Refusal` of it, and drops what was handed back.
 #[derive(Drop, Debug)]
 pub struct Returned<T> {
     pub refusal: Refusal,
     pub value: T,
 }
+
+/// The refusal; what was handed back is dropped.
+impl<T: Drop> From<Returned<T>> for Refusal {
+    ghost from_gives = { λ returned r. r ≡ returned.refusal };
+
+    fn from(returned: Returned<T>) -> Refusal {
+        returned.refusal
+    }
+}
+
+/// The refusal's text.
+impl<T> fmt::Display for Returned<T> {
+    ghost output = { λ returned. Some (refusal_text returned.refusal) };
+
+    fn fmt<W: fmt::Write>(&self, f: &mut fmt::Formatter<W>) -> fmt::Result {
+        write!(f, "{}", self.refusal)
+    }
+}
+
+impl<T: fmt::Debug + Drop> Error for Returned<T> {}
 
 /// Commands, first to last, up to a limit (docs/MODEL.md, "The rule of frames"). Contracts see the list and the
 /// limit.

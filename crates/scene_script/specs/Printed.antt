@@ -1,5 +1,5 @@
--- How values, cells and rows print.
-use Rattle.std.specs.Prelude.{ℕ, ℤ, List, [], ◌∷◌, ◌++◌, codes, decimal, map, unwrap_or}
+-- How values, cells, rows and refusals print.
+use Rattle.std.specs.Prelude.{ℕ, ℤ, List, [], ◌∷◌, ◌++◌, Option, Some, None, codes, decimal, map, unwrap_or}
 use Rattle.std.specs.List.{join_with_byte}
 use Rattle.std.specs.Fmt.{signed_decimal}
 use Rattle.serde_json.specs.Data.{string}
@@ -10,6 +10,9 @@ use Rattle.scene_kinds.specs.declared.cell.Cell.{Cell}
 use Rattle.scene_kinds.specs.declared.cells.Row.{Row}
 use Rattle.scene_kinds.specs.declared.entity.Entity.{Entity}
 use Rattle.scene_kinds.specs.Entity.{entity_text}
+use Rattle.scene_kinds.specs.declared.refusal.Place.{Place}
+use Rattle.scene_kinds.specs.declared.refusal.Refusal.{Refusal}
+use Rattle.scene_kinds.specs.Fault.{fault_text}
 use Rattle.scene_kinds.specs.Schema.{Kinds, name_of}
 
 -- a text as a JSON string
@@ -61,3 +64,12 @@ row_head entity = codes "row " ++ entity_text entity.index entity.generation
 -- the entity of a row, and then its cells
 abbrev pub row_text : Kinds → Row → List ℕ
 row_text kinds row = row_head row.entity ++ cells_text kinds row.cells
+
+-- what stands behind a fault: nothing where it has no place, else  at PHASE.QUEUE.COMMAND
+abbrev pub dotted_place : Option Place → List ℕ
+dotted_place None = []
+dotted_place (Some p) = codes " at " ++ (decimal p.phase ++ (codes "." ++ (decimal p.queue ++ (codes "." ++ decimal p.command))))
+
+-- a refusal: the fault by number and name with its fields, and its place where it has one
+abbrev pub refusal_line : Refusal → List ℕ
+refusal_line r = fault_text r.fault ++ dotted_place r.place

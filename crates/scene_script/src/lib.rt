@@ -3,7 +3,7 @@
 //! A script's bytes are cut into lines and a line into words. The words are read as numbers, entities, targets,
 //! cells and commands of a queue, and a line becomes one value of the type `Line`, or a `BadLine`, which says its first
 //! mistake.
-//! Values, cells and the parts of a row print as docs/SCRIPTS.md, "Output", says. Each step is exact against a total
+//! Values, cells, the parts of a row and refusals print as docs/SCRIPTS.md, "Output", says. Each step is exact against a total
 //! function of bytes in `specs/` (docs/SCRIPTS.md explains the language). The crate calls no world and no queue: what a
 //! line does is scene_app's.
 #![tactic(auto)]
@@ -22,7 +22,9 @@ pub use bad_line::{BadLine, LineError};
 pub use form::Form;
 pub use line::first_line;
 pub use number::{read_count, read_entity, read_number};
-pub use print::{write_cell, write_json_text, write_row_cell, write_row_head, write_value};
+pub use print::{
+    write_cell, write_json_text, write_refusal, write_row_cell, write_row_head, write_value,
+};
 pub use script_line::{Line, read_line};
 pub use slot_limit::SlotLimit;
 pub use target::read_target;

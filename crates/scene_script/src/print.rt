@@ -1,9 +1,9 @@
-//! The printed texts of values, cells and rows.
+//! The printed texts of values, cells, rows and refusals.
 ghost use Rattle.std.specs.Prelude.{◌≡◌, ◌++◌, OnOk, string_bytes};
 ghost use Rattle.scene_kinds.specs.Cells.{shown};
-ghost use Rattle.scene_script.specs.Printed.{json_text, vec3_text, value_text, assigned_text, cell_text, row_head, row_cell_text};
+ghost use Rattle.scene_script.specs.Printed.{json_text, vec3_text, value_text, assigned_text, cell_text, row_head, row_cell_text, refusal_line};
 
-use scene_kinds::{Cell, CellRef, Entity, Schema, Value};
+use scene_kinds::{Cell, CellRef, Entity, Place, Refusal, Schema, Value};
 use std::alloc::{AllocError, Global};
 
 /// Adds a text as a JSON string, as `serde_json` writes it.
@@ -104,4 +104,22 @@ pub fn write_row_cell(
     out.push(' ')?;
     let name = schema.name_of(kind).unwrap_or("");
     write_lent_cell(alloc, out, name, cell)
+}
+
+/// Adds a refusal: the fault by number and name with its fields, and ` at PHASE.QUEUE.COMMAND` where it has a place
+/// (docs/SCRIPTS.md, "Output").
+pub fn write_refusal(out: &mut String, refusal: Refusal) -> Result<(), AllocError>
+    ensures { OnOk result (string_bytes out.new ≡ string_bytes out.old ++ refusal_line refusal) }
+{
+    match refusal.place {
+        Some(
+            Place {
+                phase,
+                queue,
+                command,
+            },
+        ) => write!(out, "{} at {phase}.{queue}.{command}", refusal.fault)?,
+        None => write!(out, "{}", refusal.fault)?,
+    }
+    Ok(())
 }

@@ -28,7 +28,7 @@ use crate::records::{redo_record, undo_record};
 use scene_journal::{Delta, FrameRecord, Recorder};
 use scene_kinds::{Fault, Refusal, Schema};
 use scene_queue::{Queue, apply_all};
-use scene_world::World;
+use scene_world::{RawChanges, World};
 use std::alloc::Global;
 use std::marker::Model;
 

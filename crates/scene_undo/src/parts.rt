@@ -9,7 +9,7 @@ ghost use Rattle.scene_undo.specs.Parts.{IsFirstFault, NamesFrame};
 use crate::direction::Direction;
 use scene_journal::FrameRecord;
 use scene_kinds::{Fault, Refusal};
-use scene_world::World;
+use scene_world::{RawChanges, World};
 use std::alloc::AllocError;
 
 /// A refusal of the first record, as that of a frame of this number.

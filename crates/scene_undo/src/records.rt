@@ -4,7 +4,7 @@ ghost use Rattle.scene_journal.specs.Records.{redone, undone};
 ghost use Rattle.scene_undo.specs.Kept.{CanRedo, CanUndo};
 
 use scene_journal::{FrameRecord, make_all_again, take_all_back};
-use scene_world::World;
+use scene_world::{RawChanges, World};
 use std::alloc::AllocError;
 
 /// Undoes a record: its deltas are taken back, the last first, and the tick is the one before the frame. It copies the

@@ -11,22 +11,16 @@ ghost use Rattle.scene_world.specs.Homes.{home_at, home_of_index};
 ghost use Rattle.scene_world.specs.Room.{Holds, IsWider};
 ghost use Rattle.std.specs.Option.{option_flatten};
 
-mod cut_row;
 mod despawn;
 mod despawn_recursive;
 mod from_parts;
 mod insert;
 mod put_resource;
+mod raw;
 mod remove;
 mod remove_parent;
 mod remove_resource;
-mod reserve;
-mod set_cell;
-mod set_link;
 mod set_parent;
-mod set_resource;
-mod set_tick;
-mod shift_row;
 mod spawn;
 
 use crate::given::is_unknown;
@@ -100,16 +94,6 @@ impl World {
             links: Links::new(alloc),
             resources: Resources::new(alloc),
         }
-    }
-
-    /// A law of every value: its room holds its world. It does nothing.
-    pub fn room_holds(&self)
-        ensures { Holds self.now.room self.now.world }
-    {
-        let _count = self.slots.len();
-        self.tables.room_holds();
-        self.links.room_holds();
-        self.resources.room_holds();
     }
 
     /// The tick of the last frame; 0 in a new world. And every world is valid (docs/MODEL.md, "A valid world").

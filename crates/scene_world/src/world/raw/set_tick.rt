@@ -6,9 +6,8 @@ ghost use Rattle.scene_model.specs.Can.{CanSetTick};
 use crate::world::World;
 
 impl World {
-    /// Sets the tick, as taking a frame back does. No cell may have been changed later than it (docs/MODEL.md, "Raw
-    /// changes"). It takes no memory.
-    pub fn set_tick(&mut self, tick: u64)
+    /// As `RawChanges::set_tick`.
+    pub(crate) fn set_tick(&mut self, tick: u64)
         requires { CanSetTick self.old.world tick }
         ensures world { self.new.world ≡ set_tick self.old.world tick }
         ensures room { self.new.room ≡ self.old.room }

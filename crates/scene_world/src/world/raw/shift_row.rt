@@ -11,10 +11,8 @@ use scene_kinds::{Cell, Entity};
 use std::alloc::AllocError;
 
 impl World {
-    /// Moves a live entity's row, last, to the table with one kind more, with this cell, or, not `inward`, to the one
-    /// without the kind, whose cell is this one (docs/MODEL.md, "Raw changes"). It takes no memory, since the room must
-    /// hold the world after it.
-    pub fn shift_row_reserved(&mut self, entity: Entity, kind: u8, cell: Cell, inward: bool)
+    /// As `RawChanges::shift_row_reserved`.
+    pub(crate) fn shift_row_reserved(&mut self, entity: Entity, kind: u8, cell: Cell, inward: bool)
         requires live { is_live self.old.world entity ≡ true }
         requires low { kind < 64 }
         requires moves { CanMove self.old.world (cells_of self.old.world entity) kind cell inward }
@@ -27,10 +25,8 @@ impl World {
         move_row(&mut self.tables, entity, home, last, kind, cell, inward);
     }
 
-    /// Moves the last row of a table, which is an entity's, back to a place of the table without the kind, or, not
-    /// `inward`, with it and this cell (docs/MODEL.md, "Raw changes"). It takes no memory, since the room must hold the
-    /// world after it.
-    pub fn unshift_row_reserved(
+    /// As `RawChanges::unshift_row_reserved`.
+    pub(crate) fn unshift_row_reserved(
         &mut self,
         entity: Entity,
         place: usize,
@@ -48,11 +44,8 @@ impl World {
         move_row(&mut self.tables, entity, home, place, kind, cell, !inward);
     }
 
-    /// Makes its room, and then does what `shift_row_reserved` does (docs/MODEL.md, "Raw changes").
-    ///
-    /// It fails only where that room isn't there and no memory was found: then the world is as it was, and the cell is
-    /// dropped.
-    pub fn shift_row(
+    /// As `RawChanges::shift_row`.
+    pub(crate) fn shift_row(
         &mut self,
         entity: Entity,
         kind: u8,
@@ -72,11 +65,8 @@ impl World {
         Ok(())
     }
 
-    /// Makes its room, and then does what `unshift_row_reserved` does (docs/MODEL.md, "Raw changes").
-    ///
-    /// It fails only where that room isn't there and no memory was found: then the world is as it was, and the cell is
-    /// dropped.
-    pub fn unshift_row(
+    /// As `RawChanges::unshift_row`.
+    pub(crate) fn unshift_row(
         &mut self,
         entity: Entity,
         place: usize,

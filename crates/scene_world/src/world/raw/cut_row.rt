@@ -11,9 +11,8 @@ use scene_kinds::{Cells, Entity, Row};
 use std::alloc::AllocError;
 
 impl World {
-    /// Takes a live entity without children out of the world, as a despawn does (docs/MODEL.md, "Raw changes"). It takes
-    /// no memory.
-    pub fn cut_row(&mut self, entity: Entity)
+    /// As `RawChanges::cut_row`.
+    pub(crate) fn cut_row(&mut self, entity: Entity)
         requires live { is_live self.old.world entity ≡ true }
         requires childless { children_of self.old.world.children entity ≡ [] }
         ensures world { self.new.world ≡ cut_row self.old.world entity }
@@ -25,10 +24,8 @@ impl World {
         let _link = self.links.leave(entity);
     }
 
-    /// Brings an entity back: its slot, its row with these cells to its place, and its link (docs/MODEL.md, "Raw
-    /// changes"). It takes no memory, since the room must hold the world after it. `retired` says that its index was
-    /// retired when it left.
-    pub fn uncut_row_reserved(
+    /// As `RawChanges::uncut_row_reserved`.
+    pub(crate) fn uncut_row_reserved(
         &mut self,
         entity: Entity,
         place: usize,
@@ -50,11 +47,8 @@ impl World {
         }
     }
 
-    /// Makes its room, and then does what `uncut_row_reserved` does (docs/MODEL.md, "Raw changes").
-    ///
-    /// It fails only where that room isn't there and no memory was found: then the world is as it was, and the cells are
-    /// dropped.
-    pub fn uncut_row(
+    /// As `RawChanges::uncut_row`.
+    pub(crate) fn uncut_row(
         &mut self,
         entity: Entity,
         place: usize,

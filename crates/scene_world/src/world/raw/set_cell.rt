@@ -8,9 +8,8 @@ use crate::world::World;
 use scene_kinds::{Cell, Entity};
 
 impl World {
-    /// Puts a cell, with its ticks, in place of the one of a kind that an entity has, and gives the old one
-    /// (docs/MODEL.md, "Raw changes"). It takes no memory.
-    pub fn set_cell(&mut self, entity: Entity, kind: u8, cell: Cell) -> Cell
+    /// As `RawChanges::set_cell`.
+    pub(crate) fn set_cell(&mut self, entity: Entity, kind: u8, cell: Cell) -> Cell
         requires there { IsSome (cell_of (cells_of self.old.world entity) kind) }
         requires good { IsGoodCell self.old.world kind cell }
         ensures old { cell_of (cells_of self.old.world entity) kind ≡ Some result }

@@ -10,9 +10,8 @@ use scene_kinds::Cell;
 use std::alloc::AllocError;
 
 impl World {
-    /// Gives a name this cell, with its ticks, or none, and gives the one that it had (docs/MODEL.md, "Raw changes"). It
-    /// takes no memory, since the room must hold the world after it.
-    pub fn set_resource_reserved(&mut self, name: &str, cell: Option<Cell>) -> Option<Cell>
+    /// As `RawChanges::set_resource_reserved`.
+    pub(crate) fn set_resource_reserved(&mut self, name: &str, cell: Option<Cell>) -> Option<Cell>
         requires can { CanSetResource self.old.world name.now (cell_of self.old.world.resources name.now) cell }
         requires room { Holds self.old.room (set_resource self.old.world name.now cell) }
         ensures old { result ≡ cell_of self.old.world.resources name.now }
@@ -22,11 +21,8 @@ impl World {
         self.resources.restore_reserved(name, cell)
     }
 
-    /// Makes its room, and then does what `set_resource_reserved` does (docs/MODEL.md, "Raw changes"); no cell takes none.
-    ///
-    /// It fails only where that room isn't there and no memory was found: then the world is as it was, and the cell is
-    /// dropped.
-    pub fn set_resource(
+    /// As `RawChanges::set_resource`.
+    pub(crate) fn set_resource(
         &mut self,
         name: &str,
         cell: Option<Cell>,

@@ -16,6 +16,16 @@ use scene_kinds::{Cell, Cells, Entity, KindSet};
 use std::alloc::AllocError;
 
 impl World {
+    /// As `RawChanges::room_holds`.
+    pub(crate) fn room_holds(&self)
+        ensures { Holds self.now.room self.now.world }
+    {
+        let _count = self.slots.len();
+        self.tables.room_holds();
+        self.links.room_holds();
+        self.resources.room_holds();
+    }
+
     /// A law of every value: it is valid, and its room holds it. It does nothing.
     fn laws_hold(&self)
         ensures valid { IsValid self.now.world }
@@ -76,11 +86,8 @@ impl World {
         }
     }
 
-    /// Makes the room that `put_row_reserved` needs (docs/MODEL.md, "Raw changes").
-    ///
-    /// It fails only where that room isn't there and no memory was found. Whether it does or not, the world stays, and
-    /// no room is lost.
-    pub fn reserve_put_row(
+    /// As `RawChanges::reserve_put_row`.
+    pub(crate) fn reserve_put_row(
         &mut self,
         entity: Entity,
         cells: &Cells,
@@ -97,8 +104,8 @@ impl World {
         self.reserve_row(cells.mask(), entity.index)
     }
 
-    /// Makes the room that `uncut_row_reserved` needs (docs/MODEL.md, "Raw changes"), as `reserve_put_row` does.
-    pub fn reserve_uncut_row(
+    /// As `RawChanges::reserve_uncut_row`.
+    pub(crate) fn reserve_uncut_row(
         &mut self,
         entity: Entity,
         place: usize,
@@ -117,8 +124,8 @@ impl World {
         self.reserve_row(cells.mask(), entity.index)
     }
 
-    /// Makes the room that `shift_row_reserved` needs (docs/MODEL.md, "Raw changes"), as `reserve_put_row` does.
-    pub fn reserve_shift_row(
+    /// As `RawChanges::reserve_shift_row`.
+    pub(crate) fn reserve_shift_row(
         &mut self,
         entity: Entity,
         kind: u8,
@@ -138,8 +145,8 @@ impl World {
         self.reserve_row(moved_mask(home.mask, kind, inward), entity.index)
     }
 
-    /// Makes the room that `unshift_row_reserved` needs (docs/MODEL.md, "Raw changes"), as `reserve_put_row` does.
-    pub fn reserve_unshift_row(
+    /// As `RawChanges::reserve_unshift_row`.
+    pub(crate) fn reserve_unshift_row(
         &mut self,
         entity: Entity,
         place: usize,
@@ -159,8 +166,8 @@ impl World {
         self.reserve_row(moved_mask(home.mask, kind, !inward), entity.index)
     }
 
-    /// Makes the room that `set_link_reserved` needs (docs/MODEL.md, "Raw changes"), as `reserve_put_row` does.
-    pub fn reserve_set_link(
+    /// As `RawChanges::reserve_set_link`.
+    pub(crate) fn reserve_set_link(
         &mut self,
         entity: Entity,
         link: Option<(Entity, usize)>,
@@ -175,9 +182,8 @@ impl World {
         self.reserve_link(entity, link)
     }
 
-    /// Makes the room that `set_resource_reserved` needs (docs/MODEL.md, "Raw changes"), as `reserve_put_row` does. No
-    /// cell takes none.
-    pub fn reserve_set_resource(
+    /// As `RawChanges::reserve_set_resource`.
+    pub(crate) fn reserve_set_resource(
         &mut self,
         name: &str,
         cell: &Option<Cell>,

@@ -10,10 +10,8 @@ use scene_kinds::Entity;
 use std::alloc::AllocError;
 
 impl World {
-    /// Takes a live entity out of its parent's list, if it stands in one, and puts it at a place of another's, or leaves
-    /// it without a parent (docs/MODEL.md, "Raw changes"). The place is that in the list without the entity. It takes no
-    /// memory, since the room must hold the world after it.
-    pub fn set_link_reserved(&mut self, entity: Entity, link: Option<(Entity, usize)>)
+    /// As `RawChanges::set_link_reserved`.
+    pub(crate) fn set_link_reserved(&mut self, entity: Entity, link: Option<(Entity, usize)>)
         requires can { CanSetLink self.old.world entity (link_in self.old.world.children entity) link }
         requires room { Holds self.old.room (set_link self.old.world entity link) }
         ensures world { self.new.world ≡ set_link self.old.world entity link }
@@ -26,10 +24,8 @@ impl World {
         }
     }
 
-    /// Makes its room, and then does what `set_link_reserved` does (docs/MODEL.md, "Raw changes").
-    ///
-    /// It fails only where that room isn't there and no memory was found: then the world is as it was.
-    pub fn set_link(
+    /// As `RawChanges::set_link`.
+    pub(crate) fn set_link(
         &mut self,
         entity: Entity,
         link: Option<(Entity, usize)>,
