@@ -4,8 +4,8 @@ pub use Rattle.scene_kinds.specs.Answers
 pub use Rattle.scene_kinds.specs.Schema
 -- worlds, the machine of saved worlds, and its calls
 pub use Rattle.scene_model.specs.World
-pub use Rattle.scene_model.specs.Machine
-pub use Rattle.scene_model.specs.Frame
+pub use Rattle.scene_machine.specs.Machine
+pub use Rattle.scene_machine.specs.Frame
 -- queues, and what the queues of a frame ask of a world
 pub use Rattle.scene_queue.specs.Queue
 pub use Rattle.scene_queue.specs.Frames
