@@ -1,7 +1,8 @@
 //! Records that don't fit, on a world of tick 1 with one entity, whose one Int is 5 since then.
 use crate::small::{editor_of, first, given, queue_of, submit_one};
 use scene_commands::Command;
-use scene_journal::{Delta, FrameRecord};
+use scene_deltas::Delta;
+use scene_journal::FrameRecord;
 use scene_kinds::{Cell, Cells, Fault, Refusal, Shape, Value};
 use scene_queue::Queue;
 use scene_undo::Editor;

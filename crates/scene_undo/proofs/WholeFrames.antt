@@ -16,13 +16,14 @@ use Rattle.scene_model.proofs.PartCommands.{raise_sets_tick}
 use Rattle.scene_model.proofs.ResourceBack.{ticks_come_back}
 use Rattle.scene_world.specs.Room.{Room}
 use Rattle.scene_world.specs.Stage.{Staged, Note, act}
-use Rattle.scene_journal.specs.declared.delta.Delta.{Delta}
+use Rattle.scene_deltas.specs.declared.delta.Delta.{Delta}
 use Rattle.scene_journal.specs.Frames.{after_queues, frame_record}
-use Rattle.scene_journal.specs.Notes.{deltas_of}
-use Rattle.scene_journal.specs.Ready.{AreReady}
-use Rattle.scene_journal.specs.Records.{Record, record_of, back_all, raised, undone}
-use Rattle.scene_journal.proofs.Deltas.{back_all_keeps_tick}
-use Rattle.scene_journal.proofs.Turns.{ready_fits_back}
+use Rattle.scene_deltas.specs.Notes.{deltas_of}
+use Rattle.scene_deltas.specs.Ready.{AreReady}
+use Rattle.scene_journal.specs.Records.{Record, record_of, raised, undone}
+use Rattle.scene_deltas.specs.Deltas.{back_all}
+use Rattle.scene_deltas.proofs.Deltas.{back_all_keeps_tick}
+use Rattle.scene_deltas.proofs.Turns.{ready_fits_back}
 use Rattle.scene_undo.specs.declared.made.Made.{Made}
 use Rattle.scene_undo.specs.Editor.{IsRecordOf}
 use Rattle.scene_undo.specs.Kept.{CanUndo}

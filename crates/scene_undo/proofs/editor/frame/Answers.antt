@@ -3,9 +3,10 @@ use Rattle.std.specs.Prelude.{IfOk, OnErr}
 use Rattle.scene_model.specs.Can.{CanSetTick}
 use Rattle.scene_world.specs.Room.{IsWider}
 use Rattle.scene_world.proofs.Room.{wider_wider}
-use Rattle.scene_journal.specs.Notes.{deltas_of}
-use Rattle.scene_journal.specs.Ready.{AreReady}
-use Rattle.scene_journal.specs.Records.{record_of, back_all}
+use Rattle.scene_deltas.specs.Notes.{deltas_of}
+use Rattle.scene_deltas.specs.Ready.{AreReady}
+use Rattle.scene_journal.specs.Records.{record_of}
+use Rattle.scene_deltas.specs.Deltas.{back_all}
 use Rattle.scene_undo.specs.Editor.{IsRecordOf}
 use Rattle.scene_undo.specs.Kept.{CanUndo}
 use Rattle.scene_undo.proofs.WholeFrames.{lowers, record_is, record_can}

@@ -5,7 +5,7 @@ use Rattle.scene_kinds.specs.Answers.{refusal_of}
 use Rattle.scene_machine.specs.Machine.{submitted}
 use Rattle.scene_world.specs.Room.{Housed, IsWider}
 use Rattle.scene_machine.specs.Frame.{framed}
-use Rattle.scene_journal.specs.Notes.{deltas_of}
+use Rattle.scene_deltas.specs.Notes.{deltas_of}
 use Rattle.scene_journal.specs.Records.{undone}
 use Rattle.scene_undo.specs.Editor.{EditorState, IsRecordOf, machine_of, worlds_along}
 use Rattle.scene_undo.specs.Kept.{CanUndo, CanUndoAll, CanRedoAll}
