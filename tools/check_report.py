@@ -36,7 +36,7 @@ class Refusal(NamedTuple):
     failures: list
 
     def false_goals(self):
-        """The goals that fail, but for those whose answer is lost with a name: the search alone is left to prove them."""
+        """The goals that fail, but for one whose answer is lost with a name: the search alone has to prove it."""
         lost = {stem(name[1]) for fail in self.failures if (name := GONE_GOAL.search(fail.said))}
         standing = [fail for fail in self.failures if not fail.names_what_is_gone()]
         return sorted((fail for fail in standing if stem(fail.goal) not in lost), key=Failure.rank)
@@ -56,9 +56,10 @@ class Refusal(NamedTuple):
 
 def stem(goal):
     """What a goal is about, without the way to it and its number."""
-    if clause := re.search(r"^returns.*-clause-(.+)$", goal):
-        return f"clause-{clause[1]}"
-    return re.sub(r"-(?:then|else|\d+)\b.*", "", goal)
+    if goal.startswith("returns"):
+        _, named, clause = goal.partition("-clause-")
+        return f"clause-{clause}" if named else "returns"
+    return re.sub(r"-(?:then|else|in|\d+)\b.*", "", goal)
 
 
 def in_words(goal):
@@ -90,7 +91,8 @@ def refusals(report):
         if said := OPEN_GOALS.match(line):
             open_goals += [Failure(goal, said[2], False) for goal in quoted(said[1])]
         elif error := IN_A_PROOF.match(line):
-            in_proofs.setdefault(error[1].rpartition("/")[0], []).append(Failure(error[2] or error[1], error[3], True))
+            failure = Failure(error[2] or "of its use lines", error[3], True)
+            in_proofs.setdefault(error[1].rpartition("/")[0], []).append(failure)
         elif verdict := VERDICT.match(line):
             if verdict[2].startswith(OWN_FAILURE):
                 found[verdict[1]] = open_goals or searched(verdict[2])
