@@ -10,6 +10,7 @@ SEARCHED = re.compile(r"did not prove (.*)")
 IN_A_PROOF = re.compile(r"(?:\./)?proofs/(\S+)\.antt:\d+:\d+: error: (?:`([^`]+)`: )?(.*)")
 NAME_IS_GONE = re.compile(r"has no field|is not in scope|has no `|has no name|was not admitted")
 GONE_GOAL = re.compile(r"`goal\.([^`]+)`: module .* has no `")
+FOLLOWS = re.compile(r"which was rejected, (?:was|were) not checked")
 PATH = re.compile(r"`Rattle\.[^`]*\.")
 FALSE_SOMEWHERE = "allow values at which this goal is false"
 
@@ -90,7 +91,7 @@ def refusals(report):
     for line in report.splitlines():
         if said := OPEN_GOALS.match(line):
             open_goals += [Failure(goal, said[2], False) for goal in quoted(said[1])]
-        elif error := IN_A_PROOF.match(line):
+        elif (error := IN_A_PROOF.match(line)) and not FOLLOWS.search(error[3]):
             failure = Failure(error[2] or "of its use lines", error[3], True)
             in_proofs.setdefault(error[1].rpartition("/")[0], []).append(failure)
         elif verdict := VERDICT.match(line):
