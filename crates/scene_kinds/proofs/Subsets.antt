@@ -6,7 +6,8 @@ use Rattle.std.specs.List.{range_with_len}
 use Rattle.std.proofs.lemmas.Bool.{eq-eqb, eqb-true}
 use Rattle.std.proofs.lemmas.Bool.Decides.{nat_tests}
 use Rattle.std.proofs.lemmas.Nat.Bits.{bit_at_and, bit_at-zero, bit_at-lt, bit_at_above, same_from_bits}
-use Rattle.scene_kinds.specs.KindSet.{has_kind, is_subset, is_disjoint, kinds_from, SubsetsShareTheirKinds, DisjointSetsShareNoKind}
+use Rattle.scene_kinds.specs.KindLaws.{SubsetsShareTheirKinds, DisjointSetsShareNoKind}
+use Rattle.scene_kinds.specs.KindSet.{has_kind, is_subset, is_disjoint, kinds_from}
 
 -- a kind that a set has is a bit that is set
 bit : (set kind : ℕ) → has_kind set kind ≡ true → bit_at set kind ≡ 1

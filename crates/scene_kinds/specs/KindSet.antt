@@ -1,10 +1,8 @@
 -- Sets of kinds as numbers of 64 bits: kind k is bit k.
-use Rattle.std.specs.Prelude.{◌≡◌, ◌<◌, ◌-◌, ℕ, ◌^◌, Bool, true, false, IsTrue, ◌↔◌, List, filter, nat_eq, bit_and, bit_or, is_some}
+use Rattle.std.specs.Prelude.{◌-◌, ℕ, ◌^◌, Bool, List, filter, nat_eq, bit_and, bit_or}
 use Rattle.std.specs.List.{range_with_len}
 use Rattle.std.specs.Int.{bit_at, bit_not, w64}
-use Rattle.scene_kinds.specs.declared.cell.Cell.{Cell}
 use Rattle.scene_kinds.specs.declared.kind_set.KindsOfSet.{KindsOfSet}
-use Rattle.scene_kinds.specs.Cells.{IsAscending, AreKindsBelow, cell_of, with_cell, without_cell, mask_of}
 
 -- a set of kinds
 abbrev pub KindSet : Type 0
@@ -41,27 +39,3 @@ kinds_in set = kinds_from set 0
 -- the kinds that a walk over a set has still to give
 abbrev pub kinds_left : KindsOfSet → List ℕ
 kinds_left walk = kinds_from walk.set walk.next
-
--- a set is a subset of another one just where each kind of the one is in the other
-abbrev pub SubsetsShareTheirKinds : Type 0
-SubsetsShareTheirKinds = (set other : KindSet) → set < 2 ^ 64
-    → IsTrue (is_subset set other) ↔ ((kind : ℕ) → kind < 64 → has_kind set kind ≡ true → has_kind other kind ≡ true)
-
--- two sets are disjoint just where no kind of the one is in the other
-abbrev pub DisjointSetsShareNoKind : Type 0
-DisjointSetsShareNoKind = (set other : KindSet) → set < 2 ^ 64
-    → IsTrue (is_disjoint set other) ↔ ((kind : ℕ) → kind < 64 → has_kind set kind ≡ true → has_kind other kind ≡ false)
-
--- the kind set of cells has just their kinds
-abbrev pub KindSetsHaveTheirKinds : Type 0
-KindSetsHaveTheirKinds = (cells : List (ℕ × Cell)) (kind : ℕ) → IsAscending cells → has_kind (mask_of cells) kind ≡ is_some (cell_of cells kind)
-
--- a cell that is put in brings its kind
-abbrev pub CellsBringTheirKinds : Type 0
-CellsBringTheirKinds = (cells : List (ℕ × Cell)) (kind : ℕ) (cell : Cell) → IsAscending cells
-    → mask_of (with_cell cells kind cell) ≡ set_with (mask_of cells) kind
-
--- a cell that is taken out takes its kind along
-abbrev pub CellsTakeTheirKinds : Type 0
-CellsTakeTheirKinds = (cells : List (ℕ × Cell)) (kind : ℕ) → IsAscending cells → AreKindsBelow 64 cells → kind < 64
-    → mask_of (without_cell cells kind) ≡ set_without (mask_of cells) kind

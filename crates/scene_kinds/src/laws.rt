@@ -1,5 +1,5 @@
 //! What sets of kinds say of the cells of a row, and of one another.
-ghost use Rattle.scene_kinds.specs.KindSet.{KindSetsHaveTheirKinds, CellsBringTheirKinds, CellsTakeTheirKinds, SubsetsShareTheirKinds, DisjointSetsShareNoKind};
+ghost use Rattle.scene_kinds.specs.KindLaws.{KindSetsHaveTheirKinds, CellsBringTheirKinds, CellsTakeTheirKinds, SubsetsShareTheirKinds, DisjointSetsShareNoKind};
 
 /// A law: the kind set of a row's cells has just the kinds of its cells; a cell that is put in brings its kind, and one
 /// that is taken out takes it along.
