@@ -1,6 +1,5 @@
 //! Why the tool couldn't do what it was told.
-use scene_kinds::Refusal;
-use scene_queue::Returned;
+use scene_editor::{Refusal, Returned};
 use std::alloc::AllocError;
 use thiserror::Error;
 

@@ -1,19 +1,22 @@
 //! A level: things with names and positions, which an editor holds.
-ghost use Rattle.std.specs.Prelude.{◌≡◌, OnErr};
+ghost use Rattle.std.specs.Prelude.{◌≡◌, Ok, OnErr, OnOk};
+ghost use Rattle.scene_editor.specs.Editor.{machine_of};
+ghost use Rattle.scene_editor.specs.Machine.{redo, undo};
 
 use crate::error::LevelError;
-use scene_commands::{Command, Components, Target};
-use scene_kinds::{Entity, Fault, Refusal, Schema, Shape, Text, Value};
-use scene_pass::{CellName, Filter, changed_since, matching};
-use scene_queue::Queue;
-use scene_undo::{Cursor, Editor, Made};
-use scene_world::World;
+use scene_editor::{
+    CellName, Command, Components, Cursor, Editor, Entity, Fault, Filter, Made, Queue, Refusal,
+    Schema, Shape, Target, Text, Value, World, changed_since, matching,
+};
 use std::alloc::{AllocError, Global};
 
-/// The kind of names, a Text.
+/// The kinds of a level, with the shapes of their values.
+const KINDS: [(&str, Shape); 2] = [("Name", Shape::Text), ("Position", Shape::Vec3)];
+
+/// The kind of names: its place in `KINDS`.
 const NAME: u8 = 0;
 
-/// The kind of positions, a Vec3.
+/// The kind of positions: its place in `KINDS`.
 const POSITION: u8 = 1;
 
 /// How many slots a level has.
@@ -53,13 +56,19 @@ fn thing(alloc: Global, name: &str) -> Result<Components, AllocError> {
     Ok(Components::from(cells))
 }
 
+/// The schema of a level.
+fn kinds(alloc: Global) -> Result<Schema, LevelError> {
+    let mut schema = Schema::new(alloc);
+    for (name, shape) in KINDS {
+        let _kind = schema.add(String::from_str(alloc, name)?, shape)?;
+    }
+    Ok(schema)
+}
+
 impl Level {
     /// A level without things.
     pub fn open(alloc: Global) -> Result<Level, LevelError> {
-        let mut schema = Schema::new(alloc);
-        let _name = schema.add(String::from_str(alloc, "Name")?, Shape::Text)?;
-        let _position = schema.add(String::from_str(alloc, "Position")?, Shape::Vec3)?;
-        let editor = Editor::new(alloc, World::new(alloc, schema, SLOTS));
+        let editor = Editor::new(alloc, World::new(alloc, kinds(alloc)?, SLOTS));
         Ok(Level { alloc, editor })
     }
 
@@ -72,7 +81,9 @@ impl Level {
     }
 
     /// Spawns a root with parts below it, in one frame, and gives their entities, the root first.
-    pub fn place(&mut self, root: &str, parts: &[&str]) -> Result<Vec<Entity>, LevelError> {
+    pub fn place(&mut self, root: &str, parts: &[&str]) -> Result<Vec<Entity>, LevelError>
+        ensures same { OnErr result (self.new.editor ≡ self.old.editor) }
+    {
         let mut queue = Queue::new(self.alloc);
         let parent = queue.spawn(thing(self.alloc, root)?)?;
         for part in parts {
@@ -106,7 +117,9 @@ impl Level {
     }
 
     /// Puts a thing last below another.
-    pub fn put_below(&mut self, child: Entity, parent: Entity) -> Result<(), LevelError> {
+    pub fn put_below(&mut self, child: Entity, parent: Entity) -> Result<(), LevelError>
+        ensures same { OnErr result (self.new.editor ≡ self.old.editor) }
+    {
         let mut queue = Queue::new(self.alloc);
         queue.push(Command::SetParent(Target::Id(child), Target::Id(parent)))?;
         let _made = self.frame(queue)?;
@@ -114,7 +127,9 @@ impl Level {
     }
 
     /// Deletes a thing and all below it.
-    pub fn delete(&mut self, entity: Entity) -> Result<(), LevelError> {
+    pub fn delete(&mut self, entity: Entity) -> Result<(), LevelError>
+        ensures same { OnErr result (self.new.editor ≡ self.old.editor) }
+    {
         let mut queue = Queue::new(self.alloc);
         queue.push(Command::DespawnAll(Target::Id(entity)))?;
         let _made = self.frame(queue)?;
@@ -122,12 +137,18 @@ impl Level {
     }
 
     /// Takes the newest change back.
-    pub fn undo(&mut self) -> Result<(), LevelError> {
+    pub fn undo(&mut self) -> Result<(), LevelError>
+        ensures machine { OnOk result (undo (machine_of self.old.editor) ≡ Ok (tt, machine_of self.new.editor)) }
+        ensures same { OnErr result (self.new.editor ≡ self.old.editor) }
+    {
         Ok(self.editor.undo()?)
     }
 
     /// Makes the newest change that was taken back again.
-    pub fn redo(&mut self) -> Result<(), LevelError> {
+    pub fn redo(&mut self) -> Result<(), LevelError>
+        ensures machine { OnOk result (redo (machine_of self.old.editor) ≡ Ok (tt, machine_of self.new.editor)) }
+        ensures same { OnErr result (self.new.editor ≡ self.old.editor) }
+    {
         Ok(self.editor.redo()?)
     }
 

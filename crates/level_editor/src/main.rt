@@ -8,8 +8,7 @@ mod level;
 use crate::error::LevelError;
 use crate::level::Level;
 use anyhow::Result;
-use scene_kinds::Entity;
-use scene_undo::Cursor;
+use scene_editor::{Cursor, Entity};
 use std::io;
 
 /// Prints where a thing is.

@@ -10,7 +10,7 @@ mod ending;
 
 use crate::ending::Ending;
 use scene_app::{AppFault, RunEnd, check_scene, print_scene, run_script};
-use scene_command_line::{Asked, read_words};
+use scene_command_line::{Asked, mistake_in, read_words};
 use scene_streams::{Sink, Source};
 use std::io::ErrorKind;
 use std::process::ExitCode;
@@ -94,11 +94,21 @@ fn end(rt: &HostRuntime) -> Ending {
     }
 }
 
+/// Says that the command line is bad, and what is wrong with it.
+fn tell_mistake(rt: &HostRuntime) -> io::Result<()> {
+    eprintln!(rt; "scene: bad command line")?;
+    match words_given(rt) {
+        Ok(words) => eprintln!(rt; "scene: {}", mistake_in(words.as_slice())),
+        Err(error) if error.kind() == ErrorKind::OutOfMemory => Ok(()),
+        Err(_) => eprintln!(rt; "scene: a word is no UTF-8"),
+    }
+}
+
 /// Says on standard error why the program ends, where its output doesn't say it.
 fn tell(rt: &HostRuntime, ending: Ending) -> io::Result<()> {
     match ending {
         Ending::Done | Ending::Refused => Ok(()),
-        Ending::BadCommandLine => eprintln!(rt; "scene: bad command line"),
+        Ending::BadCommandLine => tell_mistake(rt),
         Ending::Fault(fault) => eprintln!(rt; "scene: {fault}"),
     }
 }

@@ -1,2 +1,3 @@
+pub mod Mistakes
 pub mod Plain
 pub mod Words

@@ -1,12 +1,15 @@
 //! The command line of the program `scene`, read by the library `clap` (docs/SCRIPTS.md, "Command line").
 //!
 //! `read_words` says what the words of a command line ask for. `specs/Words.antt` has the commands that `clap` is told
-//! of and what its answers mean, and `specs/Plain.antt` what a command line without options asks for.
+//! of and what its answers mean, and `specs/Plain.antt` what a command line without options asks for. `mistake_in` says
+//! what is wrong with the words where they ask for nothing.
 #![tactic(auto)]
 
 mod asked;
+mod mistake;
 mod reading;
 mod texts;
 
 pub use asked::Asked;
+pub use mistake::{BadWords, Mistake, mistake_in};
 pub use reading::read_words;

@@ -14,13 +14,13 @@ use Rattle.scene_model.proofs.DespawnEach.{recursive_is_whole}
 use Rattle.scene_model.proofs.ListBack.{recursive_cuts}
 use Rattle.scene_world.specs.Room.{Room, Holds}
 use Rattle.scene_world.proofs.Room.{wider_self}
-use Rattle.scene_journal.specs.declared.delta.Delta.{Delta}
-use Rattle.scene_journal.specs.declared.delta.Delta.TheVariants.{Despawned}
-use Rattle.scene_journal.specs.CommandLaws.{LeadTo}
-use Rattle.scene_journal.specs.Notes.{listed_delta, of_row, deltas_of, despawned_each, cut_each, CanCutEach}
-use Rattle.scene_journal.specs.Ready.{AreReady}
-use Rattle.scene_journal.specs.Records.{back_all}
-use Rattle.scene_journal.proofs.Commands.{one_leads}
+use Rattle.scene_deltas.specs.declared.delta.Delta.{Delta}
+use Rattle.scene_deltas.specs.declared.delta.Delta.TheVariants.{Despawned}
+use Rattle.scene_deltas.specs.CommandLaws.{LeadTo}
+use Rattle.scene_deltas.specs.Notes.{listed_delta, of_row, deltas_of, despawned_each, cut_each, CanCutEach}
+use Rattle.scene_deltas.specs.Ready.{AreReady}
+use Rattle.scene_deltas.specs.Deltas.{back_all}
+use Rattle.scene_deltas.proofs.Commands.{one_leads}
 use Rattle.scene_journal.proofs.Recorded.{ready_kept, opening_kept}
 
 abbrev entities : List CutNote → List Entity

@@ -18,14 +18,14 @@ use Rattle.scene_model.proofs.CommandKeeps.{commands_keep}
 use Rattle.scene_model.proofs.MoveKeeps.{raise_keeps}
 use Rattle.scene_model.proofs.PartCommands.{raise_sets_tick}
 use Rattle.scene_model.proofs.Outcomes.{not_ok, same_world}
-use Rattle.scene_journal.specs.declared.delta.Delta.{Delta}
-use Rattle.scene_journal.specs.Deltas.{fwd}
+use Rattle.scene_deltas.specs.declared.delta.Delta.{Delta}
+use Rattle.scene_deltas.specs.Deltas.{fwd}
 use Rattle.scene_journal.specs.Records.{raised}
-use Rattle.scene_journal.specs.Notes.{deltas_of}
-use Rattle.scene_journal.specs.CommandLaws.{LeadTo, along}
+use Rattle.scene_deltas.specs.Notes.{deltas_of}
+use Rattle.scene_deltas.specs.CommandLaws.{LeadTo, along}
 use Rattle.scene_journal.specs.Frames.{after_queue, after_queues, FramesAreRecords, FramesMakeFewDeltas}
-use Rattle.scene_journal.proofs.Commands.{commands_lead}
-use Rattle.scene_journal.proofs.Counts.{commands_make_few}
+use Rattle.scene_deltas.proofs.Commands.{commands_lead}
+use Rattle.scene_deltas.proofs.Counts.{commands_make_few}
 use Rattle.scene_journal.proofs.Folds.{BothDo, both_play}
 use Rattle.scene_journal.proofs.Stages.{PassesOver, act_is}
 

@@ -25,9 +25,9 @@ use Rattle.scene_model.specs.Valid.{IsValid}
 use Rattle.scene_model.specs.World.{World, is_unknown}
 use Rattle.scene_model.proofs.RowCommands.{insert_shifts_or_sets}
 use Rattle.scene_model.proofs.RowOf.{has_cell, made_by_row}
-use Rattle.scene_journal.specs.Notes.{inserted, of_row, deltas_of}
-use Rattle.scene_journal.specs.declared.delta.Delta.{Delta}
-use Rattle.scene_journal.specs.declared.delta.Delta.TheVariants.{CellSet}
+use Rattle.scene_deltas.specs.Notes.{inserted, of_row, deltas_of}
+use Rattle.scene_deltas.specs.declared.delta.Delta.{Delta}
+use Rattle.scene_deltas.specs.declared.delta.Delta.TheVariants.{CellSet}
 
 -- a kind that a value fits is in the schema
 known : (schema : Kinds) (kind : ℕ) (value : Value) → fits_kind schema value kind ≡ true → is_unknown schema kind ≡ false

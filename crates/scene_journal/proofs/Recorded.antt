@@ -8,15 +8,14 @@ use Rattle.scene_model.specs.Valid.{IsValid}
 use Rattle.scene_world.specs.Room.{Room, Holds, IsWider}
 use Rattle.scene_world.specs.Stage.{Staged, noting}
 use Rattle.scene_world.proofs.Room.{holds_wider}
-use Rattle.scene_journal.specs.declared.delta.Delta.{Delta}
-use Rattle.scene_journal.specs.Deltas.{back, fwd, FitsBack}
-use Rattle.scene_journal.specs.CommandLaws.{LeadTo}
-use Rattle.scene_journal.specs.Notes.{deltas_of, listed_delta}
-use Rattle.scene_journal.specs.Ready.{AreReady, AreReadyOn}
-use Rattle.scene_journal.specs.Records.{back_all}
-use Rattle.scene_journal.proofs.Deltas.{deltas_come_back}
-use Rattle.scene_journal.proofs.Ready.{back_pushed, ready_appended}
-use Rattle.scene_journal.proofs.Truncated.{found_ready}
+use Rattle.scene_deltas.specs.declared.delta.Delta.{Delta}
+use Rattle.scene_deltas.specs.Deltas.{back, fwd, FitsBack, back_all}
+use Rattle.scene_deltas.specs.CommandLaws.{LeadTo}
+use Rattle.scene_deltas.specs.Notes.{deltas_of, listed_delta}
+use Rattle.scene_deltas.specs.Ready.{AreReady, AreReadyOn}
+use Rattle.scene_deltas.proofs.Deltas.{deltas_come_back}
+use Rattle.scene_deltas.proofs.Ready.{back_pushed, ready_appended}
+use Rattle.scene_deltas.proofs.Truncated.{found_ready}
 
 -- in wider room deltas can be taken back as before
 pub ready_wider : (room wider : Room) (ds : List Delta) (w : World) → IsWider room wider → AreReady room ds w → AreReady wider ds w

@@ -2,15 +2,15 @@
 use Rattle.std.proofs.Common.{◌≡◌, ℕ, ◌+◌, ◌<◌, ◌≤◌, List, [], ◌∷◌, ◌++◌, length, take, drop, get_or, refl, ap, sym, subst, ◌∙◌, arith}
 use Rattle.std.proofs.lemmas.List.{take_all, take-append-drop, length-take-le}
 use Rattle.scene_model.specs.World.{World}
-use Rattle.scene_journal.specs.declared.delta.Delta.{Delta}
-use Rattle.scene_journal.specs.Deltas.{fwd, back, FitsOn, FitsBack}
+use Rattle.scene_deltas.specs.declared.delta.Delta.{Delta}
+use Rattle.scene_deltas.specs.Deltas.{fwd, back, FitsOn, FitsBack, fwd_all, back_all, AllFitOn, AllFitBack}
 use Rattle.scene_kinds.specs.declared.refusal.Refusal.{Refusal}
-use Rattle.scene_journal.specs.Records.{Record, fwd_all, back_all, AllFitOn, AllFitBack}
+use Rattle.scene_journal.specs.Records.{Record}
 use Rattle.scene_journal.specs.Faults.{IsFirstUnfit, IsLastUnfit, IsFaultBack, FaultsAreFaults, IsAfterSome, IsBeforeSome, Names}
 use Rattle.scene_world.specs.Room.{Room, Holds, IsWider}
-use Rattle.scene_journal.specs.Ready.{AreReady, AreReadyOn, IsReadyOn}
-use Rattle.scene_journal.proofs.Lists.{cut_here, may_longer, may_next, may_parts, one_more, undo_parts}
-use Rattle.scene_journal.proofs.Lists.{IsTakenTo as IsListTakenTo, made_next as list_next, taken_next as list_taken}
+use Rattle.scene_deltas.specs.Ready.{AreReady, AreReadyOn, IsReadyOn}
+use Rattle.scene_deltas.proofs.Lists.{cut_here, may_longer, may_next, may_parts, one_more, undo_parts}
+use Rattle.scene_deltas.proofs.Lists.{IsTakenTo as IsListTakenTo, made_next as list_next, taken_next as list_taken}
 use Rattle.scene_journal.proofs.Recorded.{on_wider, ready_wider}
 
 -- ---- made, the first first

@@ -7,9 +7,9 @@ use Rattle.scene_model.specs.World.{World, new_world}
 use Rattle.scene_model.specs.Perform.{DespawnRecursive, SetParent}
 use Rattle.scene_machine.specs.Queue.{Request, known}
 use Rattle.scene_machine.specs.ExampleWords.{ent, cell, int, schema, spawn_int, spawn_tag, local, world, int_row}
-use Rattle.scene_journal.specs.declared.delta.Delta.{Delta}
-use Rattle.scene_journal.specs.declared.delta.Delta.TheVariants.{Spawned, Despawned, Linked}
-use Rattle.scene_journal.specs.Deltas.{FitsOn, FitsBack}
+use Rattle.scene_deltas.specs.declared.delta.Delta.{Delta}
+use Rattle.scene_deltas.specs.declared.delta.Delta.TheVariants.{Spawned, Despawned, Linked}
+use Rattle.scene_deltas.specs.Deltas.{FitsOn, FitsBack}
 use Rattle.scene_journal.specs.Records.{Record, record_of, redone, undone, RecordFitsOn, RecordFitsBack}
 use Rattle.scene_journal.specs.Frames.{frame_record, size}
 

@@ -6,9 +6,9 @@ use Rattle.scene_kinds.specs.Answers.{refusal_of}
 use Rattle.scene_model.specs.World.{World}
 use Rattle.scene_model.specs.Commands.{highest_tick}
 use Rattle.scene_model.specs.Can.{CanSetTick}
-use Rattle.scene_journal.specs.declared.delta.Delta.{Delta}
-use Rattle.scene_journal.specs.Deltas.{FitsOn, FitsBack}
-use Rattle.scene_journal.specs.Records.{Record, fwd_all, back_all, AllFitOn, AllFitBack, raised, RecordFitsOn, RecordFitsBack}
+use Rattle.scene_deltas.specs.declared.delta.Delta.{Delta}
+use Rattle.scene_deltas.specs.Deltas.{FitsOn, FitsBack, fwd_all, back_all, AllFitOn, AllFitBack}
+use Rattle.scene_journal.specs.Records.{Record, raised, RecordFitsOn, RecordFitsBack}
 
 -- the delta of this number is the first, one after another, that doesn't fit at its turn
 pub record IsFirstUnfit (ds : List Delta) (w : World) (k : ℕ) : Type 0 where

@@ -8,8 +8,8 @@ use Rattle.scene_machine.specs.Queue.{Request, play}
 use Rattle.scene_world.specs.Stage.{Staged, Note, act}
 use Rattle.scene_model.specs.Valid.{IsValid}
 use Rattle.scene_journal.specs.Records.{Record, record_of, raised, redone, RecordFitsOn}
-use Rattle.scene_journal.specs.Notes.{deltas_of}
-use Rattle.scene_journal.specs.CommandLaws.{along}
+use Rattle.scene_deltas.specs.Notes.{deltas_of}
+use Rattle.scene_deltas.specs.CommandLaws.{along}
 
 -- the stage after a queue of commands, as far as they are accepted
 abbrev pub after_queue : {N : Type 0} → Note N → List Request → Staged N → Staged N

@@ -1,13 +1,6 @@
-pub mod Ascending
-pub mod CommandLaws
-pub mod Deltas
 pub mod Examples
 pub mod Faults
 pub mod Frames
 pub mod Laws
-pub mod Notes
-pub mod Ready
 pub mod Recorder
 pub mod Records
-pub mod Standing
-pub mod Timely

@@ -4,9 +4,8 @@ use Rattle.scene_model.specs.World.{World}
 use Rattle.scene_model.specs.Commands.{highest_tick}
 use Rattle.scene_model.specs.Raw.{set_tick}
 use Rattle.scene_model.specs.Can.{CanSetTick}
-use Rattle.scene_model.specs.RawLists.{MayAll, MayUndoAll, after_all, before_all}
-use Rattle.scene_journal.specs.declared.delta.Delta.{Delta}
-use Rattle.scene_journal.specs.Deltas.{fwd, back, FitsOn, FitsBack}
+use Rattle.scene_deltas.specs.declared.delta.Delta.{Delta}
+use Rattle.scene_deltas.specs.Deltas.{fwd_all, back_all, AllFitOn, AllFitBack}
 
 -- the tick of the world before a frame, and what the frame did, in order
 pub record Record : Type 0 where
@@ -16,22 +15,6 @@ pub record Record : Type 0 where
 -- a record by its parts
 abbrev pub record_of : ℕ → List Delta → Record
 record_of tick deltas = record { tick_before = tick; deltas = deltas }
-
--- deltas one after another
-abbrev pub fwd_all : List Delta → World → World
-fwd_all ds w = after_all fwd ds w
-
--- each delta fits at its turn
-abbrev pub AllFitOn : List Delta → World → Type 0
-AllFitOn ds w = MayAll FitsOn fwd ds w
-
--- deltas taken back, the last first
-abbrev pub back_all : List Delta → World → World
-back_all ds w = before_all back ds w
-
--- each fits back at its turn
-abbrev pub AllFitBack : List Delta → World → Type 0
-AllFitBack ds w = MayUndoAll FitsBack back ds w
 
 -- the world with its tick raised
 abbrev pub raised : World → World

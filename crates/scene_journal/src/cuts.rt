@@ -1,14 +1,12 @@
 //! Despawns one after another, with their deltas.
 ghost use Rattle.std.specs.Prelude.{◌≡◌, ◌<◌, IfOk, OnOk, OnErr, vec_len, vec_capacity};
 ghost use Rattle.scene_model.specs.Perform.{Despawn};
-ghost use Rattle.scene_journal.specs.Ready.{AreReady};
-ghost use Rattle.scene_journal.specs.Records.{back_all};
-ghost use Rattle.scene_journal.specs.Notes.{CanCutEach, cut_each, deltas_of, despawned_each, listed_delta};
+ghost use Rattle.scene_deltas.specs.Ready.{AreReady};
+ghost use Rattle.scene_deltas.specs.Deltas.{back_all};
+ghost use Rattle.scene_deltas.specs.Notes.{CanCutEach, cut_each, deltas_of, despawned_each, listed_delta};
 
-use crate::delta::Delta;
 use crate::notes::{despawned, keep};
-use crate::sound::is_sound;
-use crate::steps::take_all_back;
+use scene_deltas::{Delta, is_sound, take_all_back};
 use scene_kinds::Entity;
 use scene_world::{RawChanges, World};
 use std::alloc::{AllocError, Global};

@@ -1,12 +1,12 @@
 //! Records that are made again and taken back on a draft: a world that is dropped where no memory is found.
 ghost use Rattle.std.specs.Prelude.{◌≡◌, OnOk, OnErr};
 ghost use Rattle.scene_journal.specs.Faults.{IsAfterSome, IsBeforeSome};
-ghost use Rattle.scene_journal.specs.Records.{fwd_all, back_all, AllFitOn, AllFitBack, raised, redone, undone, RecordFitsOn, RecordFitsBack};
+ghost use Rattle.scene_deltas.specs.Deltas.{fwd_all, back_all, AllFitOn, AllFitBack};
+ghost use Rattle.scene_journal.specs.Records.{raised, redone, undone, RecordFitsOn, RecordFitsBack};
 ghost use Rattle.scene_world.specs.Room.{IsWider};
 
-use crate::delta::Delta;
 use crate::record::FrameRecord;
-use crate::redo::{redo_delta, undo_delta};
+use scene_deltas::{Delta, redo_delta, undo_delta};
 use scene_world::{RawChanges, World};
 use std::alloc::AllocError;
 

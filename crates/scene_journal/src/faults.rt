@@ -4,14 +4,13 @@ ghost use Rattle.scene_kinds.specs.Answers.{refusal_of};
 ghost use Rattle.scene_kinds.specs.declared.fault.Fault.TheVariants.{BadRecord};
 ghost use Rattle.scene_journal.specs.Faults.{FaultsAreFaults, IsFirstUnfit, IsLastUnfit, IsFaultOn, IsFaultBack, Names};
 ghost use Rattle.scene_journal.specs.Faults.{IsAfterSome, IsBeforeSome, IsRedoneInPart, IsUndoneInPart};
-ghost use Rattle.scene_journal.specs.Ready.{AreReady, AreReadyOn};
-ghost use Rattle.scene_journal.specs.Records.{fwd_all, back_all, raised, redone, undone, RecordFitsOn, RecordFitsBack};
+ghost use Rattle.scene_deltas.specs.Ready.{AreReady, AreReadyOn};
+ghost use Rattle.scene_deltas.specs.Deltas.{fwd_all, back_all};
+ghost use Rattle.scene_journal.specs.Records.{raised, redone, undone, RecordFitsOn, RecordFitsBack};
 ghost use Rattle.scene_world.specs.Room.{IsWider};
 
-use crate::delta::Delta;
 use crate::record::FrameRecord;
-use crate::redo::{redo_delta, undo_delta};
-use crate::timely::can_set_tick;
+use scene_deltas::{Delta, can_set_tick, redo_delta, undo_delta};
 use scene_kinds::{Fault, Refusal};
 use scene_world::{RawChanges, World};
 
@@ -74,7 +73,7 @@ impl FrameRecord {
     /// draft's tick isn't the one before the record or can't be raised, with the number of deltas (docs/JOURNAL.md,
     /// "Records"); `NoMemory`. Where the tick is at fault, the draft stays. Else its tick is raised then, and some of the
     /// deltas are made, the first ones.
-    #[tactic(auto, using(crate::proofs::Turns::ready_fits))]
+    #[tactic(auto, using(scene_deltas::proofs::Turns::ready_fits))]
     pub fn redo_checked(&self, draft: &mut World) -> Result<(), Refusal>
         ensures fits { OnOk result (RecordFitsOn self.now draft.old.world) }
         ensures ready { OnOk result (AreReadyOn draft.new.room self.now.deltas (raised draft.old.world)) }
@@ -98,7 +97,7 @@ impl FrameRecord {
     /// draft's tick isn't one above the one before the record, or a cell would be left that was changed later than that,
     /// with the number of deltas (docs/JOURNAL.md, "Records"); `NoMemory`. Where the tick is at fault, the draft stays. Else
     /// some of the deltas are taken back then, the last ones.
-    #[tactic(auto, using(crate::proofs::Turns::ready_fits))]
+    #[tactic(auto, using(scene_deltas::proofs::Turns::ready_fits))]
     pub fn undo_checked(&self, draft: &mut World) -> Result<(), Refusal>
         ensures fits { OnOk result (RecordFitsBack self.now draft.old.world) }
         ensures ready { OnOk result (AreReady draft.new.room self.now.deltas draft.old.world) }

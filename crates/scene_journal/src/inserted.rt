@@ -9,12 +9,10 @@ ghost use Rattle.scene_model.specs.Commands.{insert};
 ghost use Rattle.scene_model.specs.Perform.{Insert};
 ghost use Rattle.scene_model.specs.Raw.{cells_of};
 ghost use Rattle.scene_world.specs.Room.{IsWider};
-ghost use Rattle.scene_journal.specs.Notes.{deltas_of, listed_delta};
+ghost use Rattle.scene_deltas.specs.Notes.{deltas_of, listed_delta};
 
-use crate::delta::Delta;
-use crate::fits::standing;
 use crate::notes;
-use crate::sound::is_sound;
+use scene_deltas::{Delta, is_sound, standing};
 use scene_kinds::{Cell, Entity, Refusal, Value};
 use scene_world::{RawChanges, World};
 use std::alloc::AllocError;

@@ -8,11 +8,9 @@ ghost use Rattle.scene_resources.specs.Resources.{cell_of as resource_of};
 ghost use Rattle.scene_model.specs.CommandRaw.{last_link};
 ghost use Rattle.scene_model.specs.Perform.{Despawn, Insert, Remove, PutResource, RemoveResource};
 ghost use Rattle.scene_model.specs.Raw.{cells_of};
-ghost use Rattle.scene_journal.specs.Notes.{deltas_of, listed_delta};
+ghost use Rattle.scene_deltas.specs.Notes.{deltas_of, listed_delta};
 
-use crate::delta::Delta;
-use crate::fits::{count_without, standing};
-use crate::resource_cell::ResourceCell;
+use scene_deltas::{Delta, ResourceCell, count_without, standing};
 use scene_kinds::{Cell, CellRef, Cells, Entity, Text, Value};
 use scene_table::Table;
 use scene_world::World;

@@ -2,7 +2,7 @@
 ghost use Rattle.std.specs.Prelude.{◌≡◌, IfOk};
 ghost use Rattle.scene_journal.specs.Records.{record_of};
 
-use crate::delta::Delta;
+use scene_deltas::Delta;
 use std::alloc::AllocError;
 use std::marker::Model;
 

@@ -1,17 +1,15 @@
 //! A world that keeps a record of what is done to it, and can always go back.
 ghost use Rattle.std.specs.Prelude.{◌≡◌, Some};
-ghost use Rattle.scene_journal.specs.Notes.{deltas_of};
-ghost use Rattle.scene_journal.specs.Ready.{AreReady};
-ghost use Rattle.scene_journal.specs.Recorder.{opening_of, recording, staged_of};
+ghost use Rattle.scene_deltas.specs.Notes.{deltas_of};
+ghost use Rattle.scene_deltas.specs.Ready.{AreReady};
+ghost use Rattle.scene_journal.specs.Recorder.{began, opening_of, recording, staged_of};
 
 use crate::cuts::cut_each;
-use crate::delta::Delta;
 use crate::inserted::insert;
 use crate::notes::{self, keep, last_link, link_of};
 use crate::record::FrameRecord;
-use crate::sound::is_sound;
 use crate::spawned::spawn;
-use crate::steps::take_all_back;
+use scene_deltas::{Delta, is_sound, take_all_back};
 use scene_kinds::{Entity, Fault, Refusal, Value};
 use scene_world::{Stage, World};
 use std::alloc::Global;
@@ -30,7 +28,7 @@ pub struct Recorder {
 }
 
 impl Model for Recorder {
-    ghost use Rattle.scene_journal.specs.Ready.{AreReady};
+    ghost use Rattle.scene_deltas.specs.Ready.{AreReady};
     ghost use Rattle.scene_journal.specs.Records.{record_of};
     ghost use Rattle.scene_journal.specs.Recorder.{Recording, recording};
 
@@ -93,7 +91,7 @@ impl Stage for Recorder {
 
     ghost note = { deltas_of };
 
-    ghost opening = { λ r. Some (opening_of r) };
+    ghost opening = { λ r. Some (began r) };
 
     ghost room = { λ r. r.room };
 

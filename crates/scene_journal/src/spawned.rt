@@ -5,11 +5,10 @@ ghost use Rattle.scene_kinds.specs.declared.fault.Fault.TheVariants.{NoMemory};
 ghost use Rattle.scene_model.specs.Commands.{spawn};
 ghost use Rattle.scene_model.specs.Perform.{Spawn};
 ghost use Rattle.scene_world.specs.Room.{IsWider};
-ghost use Rattle.scene_journal.specs.Notes.{deltas_of};
+ghost use Rattle.scene_deltas.specs.Notes.{deltas_of};
 
-use crate::delta::Delta;
 use crate::notes::cells_of;
-use crate::sound::is_sound;
+use scene_deltas::{Delta, is_sound};
 use scene_kinds::{Entity, Fault, Refusal, Value};
 use scene_world::{RawChanges, World};
 use std::alloc::Global;

@@ -1,6 +1,6 @@
 //! Changes of small worlds that were worked out by hand, each by a few numbers.
 use crate::scenes::{A, T, cell, first, number, one_number};
-use scene_journal::{Delta, ResourceCell};
+use scene_deltas::{Delta, ResourceCell};
 use scene_kinds::{Entity, Text, Value};
 use std::alloc::{AllocError, Global};
 

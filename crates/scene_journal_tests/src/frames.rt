@@ -1,5 +1,5 @@
 //! Frames of one queue, with their records.
-ghost use Rattle.scene_journal.specs.Ready.{AreReady};
+ghost use Rattle.scene_deltas.specs.Ready.{AreReady};
 
 use scene_journal::{FrameRecord, Recorder};
 use scene_queue::Queue;

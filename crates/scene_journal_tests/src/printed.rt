@@ -1,7 +1,7 @@
 //! Worlds and deltas as texts, so that tests can compare them.
 ghost use Rattle.std.specs.Prelude.{◌<◌, length};
 
-use scene_journal::Delta;
+use scene_deltas::Delta;
 use scene_kinds::Entity;
 use scene_table::Table;
 use scene_world::World;

@@ -1,7 +1,8 @@
 //! Records that don't fit, each with its first fault.
 use crate::frames::framed;
 use crate::scenes::{A, empty_world, first, one_number, pushed, spawn};
-use scene_journal::{Delta, FrameRecord};
+use scene_deltas::Delta;
+use scene_journal::FrameRecord;
 use scene_kinds::{Entity, Fault, Refusal, Value};
 use scene_queue::Queue;
 use scene_world::World;

@@ -1,7 +1,7 @@
 //! What is done to a small world, and what is seen of it then, as a list of steps.
 use crate::changes::Change;
 use crate::scenes::first;
-use scene_journal::{redo_delta, undo_delta};
+use scene_deltas::{redo_delta, undo_delta};
 use scene_kinds::Entity;
 use scene_table::Home;
 use scene_world::World;

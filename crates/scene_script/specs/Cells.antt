@@ -1,5 +1,6 @@
 -- Which words are cells and targets, and of what value, or why they are none.
-use Rattle.std.specs.Prelude.{ℕ, ◌==◌, ℤ, List, [], ◌∷◌, Option, Some, None, Result, Ok, Err, if◌then◌else◌, option_map}
+use Rattle.std.specs.Prelude.{ℕ, ◌==◌, ℤ, List, [], ◌∷◌, Bool, true, false, not, ◌&&◌, Option, Some, None, Result, Ok, Err, is_some, if◌then◌else◌, option_map}
+use Rattle.std.specs.Option.{option_map_or}
 use Rattle.scene_kinds.specs.declared.shape.Shape.{Shape}
 use Rattle.scene_kinds.specs.declared.shape.Shape.TheVariants as shape
 use Rattle.scene_kinds.specs.declared.value.Value.{Value}
@@ -69,6 +70,20 @@ cell_of_parts kinds word (Some p) = do
 -- the kind and the value that a word names: NAME of a tag, else NAME=VALUE
 abbrev pub cell_said : Kinds → List ℕ → Result (ℕ × Value) BadLine
 cell_said kinds word = cell_of_parts kinds word (cut_at 61 word)
+
+-- whether a value is a text
+abbrev pub is_text : Value → Bool
+is_text (value.Text bytes) = true
+is_text v = false
+
+-- the name that a word has as a cell: what stands before its = (61), or all of it
+abbrev pub cell_name : List ℕ → List ℕ
+cell_name word = option_map_or (λ p. p.0) (cut_at 61 word) word
+
+-- a cell behind others; where the last one is a text, a word that names no kind was meant as a further part of it
+abbrev pub next_cell : Kinds → Bool → List ℕ → Result (ℕ × Value) BadLine
+next_cell kinds behind_text word =
+    if behind_text && not (is_some (number_of kinds (cell_name word))) then Err (bad.BehindText word) else cell_said kinds word
 
 -- the shape of a name
 abbrev pub shape_said : List ℕ → Result Shape BadLine

@@ -1,5 +1,5 @@
 -- Reading a line from the left: what it says so far, or the reason why it is bad.
-use Rattle.std.specs.Prelude.{ℕ, ◌≡◌, List, [], ◌∷◌, Option, Some, None, Result, Ok, Err, ⊤}
+use Rattle.std.specs.Prelude.{ℕ, ◌≡◌, List, [], ◌∷◌, Bool, Option, Some, None, Result, Ok, Err, ⊤, if◌then◌else◌}
 use Rattle.scene_script.specs.declared.form.Form.{Form}
 use Rattle.scene_script.specs.declared.bad_line.BadLine.{BadLine}
 use Rattle.scene_script.specs.declared.bad_line.BadLine.TheVariants as bad
@@ -26,6 +26,15 @@ next_word form (w ∷ ws) = Ok (w, ws)
 abbrev pub ended : {A : Type 0} → Form → List (List ℕ) → A → Result A BadLine
 ended form [] a = Ok a
 ended form (w ∷ ws) a = Err (bad.ExtraWord w form)
+
+-- what a line says that has no more words behind a text; a further word was meant as a part of it
+abbrev pub text_ended : {A : Type 0} → List (List ℕ) → A → Result A BadLine
+text_ended [] a = Ok a
+text_ended (w ∷ ws) a = Err (bad.BehindText w)
+
+-- what a line says that has no more words behind a value, which may be a text
+abbrev pub ended_behind : {A : Type 0} → Bool → Form → List (List ℕ) → A → Result A BadLine
+ended_behind behind_text form words a = if behind_text then text_ended words a else ended form words a
 
 -- what a body that reads answers: what was said, or want of memory
 abbrev pub Reads : {A : Type 0} → Result A LineError → Result A BadLine → Type 0

@@ -11,8 +11,8 @@ use Rattle.scene_script.specs.declared.form.Form.TheVariants as form
 use Rattle.scene_script.specs.declared.bad_line.BadLine.{BadLine}
 use Rattle.scene_script.specs.declared.bad_line.BadLine.TheVariants as bad
 use Rattle.scene_script.specs.Forms.{form_named, runs_later}
-use Rattle.scene_script.specs.Reading.{◌>>=◌, or_bad, next_word, ended}
-use Rattle.scene_script.specs.Cells.{kind_said, cell_said, shape_said, shaped_value_said, target_said}
+use Rattle.scene_script.specs.Reading.{◌>>=◌, or_bad, next_word, ended, ended_behind}
+use Rattle.scene_script.specs.Cells.{kind_said, cell_said, next_cell, is_text, shape_said, shaped_value_said, target_said}
 use Rattle.scene_script.specs.Numbers.{count_in, bad_number, entity_said}
 use Rattle.scene_script.specs.Words.{words_of, behind_first}
 
@@ -39,13 +39,17 @@ slots_line words = do
   n ← limit_said word.0
   ended form.Slots word.1 (Slots n)
 
+-- the cells that words are, behind a text or not
+abbrev pub cells_behind : Kinds → Bool → List (List ℕ) → Result (List (ℕ × Value)) BadLine
+cells_behind kinds behind_text [] = Ok []
+cells_behind kinds behind_text (w ∷ ws) = do
+  c ← next_cell kinds behind_text w
+  cs ← cells_behind kinds (is_text c.1) ws
+  Ok (c ∷ cs)
+
 -- the cells that words are
 abbrev pub cells_said : Kinds → List (List ℕ) → Result (List (ℕ × Value)) BadLine
-cells_said kinds [] = Ok []
-cells_said kinds (w ∷ ws) = do
-  c ← cell_said kinds w
-  cs ← cells_said kinds ws
-  Ok (c ∷ cs)
+cells_said kinds words = cells_behind kinds false words
 
 -- `spawn CELL..`
 abbrev pub spawn_line : Kinds → List (List ℕ) → Result Line BadLine
@@ -60,7 +64,7 @@ insert_line kinds words = do
   t ← target_said target.0
   cell ← next_word form.Insert target.1
   c ← cell_said kinds cell.0
-  ended form.Insert cell.1 (Do (Insert t c.0 c.1))
+  ended_behind (is_text c.1) form.Insert cell.1 (Do (Insert t c.0 c.1))
 
 -- `despawn T`
 abbrev pub despawn_line : List (List ℕ) → Result Line BadLine
@@ -114,7 +118,7 @@ put_line words = do
   name ← next_word form.Put words
   value ← next_word form.Put name.1
   v ← shaped_value_said value.0
-  ended form.Put value.1 (Do (PutResource name.0 v))
+  ended_behind (is_text v) form.Put value.1 (Do (PutResource name.0 v))
 
 -- `drop NAME`; the name is any word
 abbrev pub drop_line : List (List ℕ) → Result Line BadLine

@@ -24,6 +24,9 @@ pub enum BadLine {
     /// The first word behind the last one of the form.
     #[error("`{}` is a word too many for `{}`", quoted(.0), .1)]
     ExtraWord(Text, Form),
+    /// A word behind a text that can be no more than a further part of it.
+    #[error("`{}` is no part of the text before it: a text ends at the next space, which has no escape; write _ or -", quoted(.0))]
+    BehindText(Text),
     #[error("no shape is named {}: a shape is Tag, Int, Vec3, Text or Link", quoted(.0))]
     UnknownShape(Text),
     #[error("no kind is named {}", quoted(.0))]

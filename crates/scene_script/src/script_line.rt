@@ -1,7 +1,7 @@
 //! What a line of a script says, with the values and cells that stand in it, or why it is bad.
 ghost use Rattle.std.specs.Prelude.{◌≡◌, IfOk, map};
-ghost use Rattle.scene_script.specs.Cells.{vec3_said, value_said, kind_said, lone_name, cell_said, shape_said, lone_shape, shaped_value_said};
-ghost use Rattle.scene_script.specs.Reading.{Reads, ended};
+ghost use Rattle.scene_script.specs.Cells.{vec3_said, value_said, is_text, kind_said, lone_name, cell_said, cell_name, next_cell, shape_said, lone_shape, shaped_value_said};
+ghost use Rattle.scene_script.specs.Reading.{Reads, ended, ended_behind};
 ghost use Rattle.scene_script.specs.Forms.{runs_later};
 ghost use Rattle.scene_script.specs.Script.{line_in, line_of_words, unknown_word, named_line, line_of_form, kind_line, limit_said, slots_line, load_line, cells_said, spawn_line, insert_line, despawn_line, remove_line, parent_line, unparent_line, despawnall_line, despawnifalive_line, put_line, drop_line, get_line};
 
@@ -111,6 +111,41 @@ fn cell_word(alloc: Global, schema: &Schema, word: &str) -> Result<(u8, Value), 
     Ok((kind, value(alloc, name, shape, text)?))
 }
 
+/// Whether a value is a text, which ends at the next space.
+fn is_text(value: &Value) -> bool
+    ensures { result ≡ is_text value.now }
+{
+    match value {
+        Value::Text(_) => true,
+        _ => false,
+    }
+}
+
+/// The name that a word has as a cell: what stands before its `=`, or all of it.
+fn cell_name(word: &str) -> &str
+    ensures { result.now ≡ cell_name word.now }
+{
+    match cut(word, '=') {
+        Some((name, _)) => name,
+        None => word,
+    }
+}
+
+/// A cell behind others. Where the last one is a text, a word that names no kind was meant as a further part of it.
+fn next_cell_word(
+    alloc: Global,
+    schema: &Schema,
+    behind_text: bool,
+    word: &str,
+) -> Result<(u8, Value), LineError>
+    ensures { Reads result (next_cell schema.now behind_text word.now) }
+{
+    if behind_text && schema.number_of(cell_name(word)).is_none() {
+        return Err(LineError::Bad(BadLine::BehindText(text_of(alloc, word)?)));
+    }
+    cell_word(alloc, schema, word)
+}
+
 /// The shape of a name.
 fn shape_word(alloc: Global, name: &str) -> Result<Shape, LineError>
     ensures { Reads result (shape_said name.now) }
@@ -152,6 +187,24 @@ fn ended(alloc: Global, form: Form, words: &[&str], line: Line) -> Result<Line, 
     match words {
         [] => Ok(line),
         [word, ..] => Err(LineError::Bad(BadLine::ExtraWord(text_of(alloc, word)?, form))),
+    }
+}
+
+/// A line that ends here, behind a value, says this. Behind a text, a further word was meant as a part of it.
+fn ended_behind(
+    alloc: Global,
+    behind_text: bool,
+    form: Form,
+    words: &[&str],
+    line: Line,
+) -> Result<Line, LineError>
+    ensures { Reads result (ended_behind behind_text form (map (λ w. w.now) words.now) line) }
+{
+    match words {
+        [word, ..] if behind_text => {
+            Err(LineError::Bad(BadLine::BehindText(text_of(alloc, word)?)))
+        }
+        _ => ended(alloc, form, words, line),
     }
 }
 
@@ -203,8 +256,11 @@ fn cell_words(alloc: Global, schema: &Schema, words: &[&str]) -> Result<Componen
     ensures { Reads result (cells_said schema.now (map (λ w. w.now) words.now)) }
 {
     let mut cells = Vec::new(alloc);
+    let mut behind_text = false;
     for word in words {
-        cells.push(cell_word(alloc, schema, word)?)?;
+        let (kind, value) = next_cell_word(alloc, schema, behind_text, word)?;
+        behind_text = is_text(&value);
+        cells.push((kind, value))?;
     }
     Ok(Components::from(cells))
 }
@@ -229,8 +285,10 @@ fn insert_line(alloc: Global, schema: &Schema, words: &[&str]) -> Result<Line, L
         return Err(LineError::Bad(BadLine::MissingWord(Form::Insert)));
     };
     let (kind, value) = cell_word(alloc, schema, cell)?;
-    ended(
+    let behind_text = is_text(&value);
+    ended_behind(
         alloc,
+        behind_text,
         Form::Insert,
         rest,
         Line::Do(Command::Insert(target, kind, value)),
@@ -352,9 +410,11 @@ fn put_line(alloc: Global, words: &[&str]) -> Result<Line, LineError>
         return Err(LineError::Bad(BadLine::MissingWord(Form::Put)));
     };
     let value = shaped_value_word(alloc, value)?;
+    let behind_text = is_text(&value);
     let name = text_of(alloc, name)?;
-    ended(
+    ended_behind(
         alloc,
+        behind_text,
         Form::Put,
         rest,
         Line::Do(Command::PutResource(name, value)),

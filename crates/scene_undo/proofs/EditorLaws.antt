@@ -5,8 +5,9 @@ use Rattle.scene_alloc.proofs.SlotLaws.{push-last}
 use Rattle.scene_model.specs.World.{World}
 use Rattle.scene_world.specs.Room.{Room}
 use Rattle.scene_journal.specs.Records.{Record, raised, redone, undone}
-use Rattle.scene_journal.proofs.Ends.{last_is}
-use Rattle.scene_journal.proofs.Truncated.{each_ready, each_ready_on, fits_back_from, fits_on_from}
+use Rattle.scene_deltas.proofs.Ends.{last_is}
+use Rattle.scene_deltas.proofs.Truncated.{each_ready, each_ready_on}
+use Rattle.scene_journal.proofs.FoundRecords.{fits_back_from, fits_on_from}
 use Rattle.scene_undo.specs.Kept.{CanUndoAll, CanRedoAll}
 use Rattle.scene_undo.proofs.Machines.{reverse_push}
 

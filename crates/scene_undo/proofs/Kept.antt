@@ -4,12 +4,13 @@ use Rattle.scene_model.specs.World.{World}
 use Rattle.scene_model.specs.Raw.{set_tick}
 use Rattle.scene_model.specs.Valid.{IsValid}
 use Rattle.scene_world.specs.Room.{Room, Holds, IsWider}
-use Rattle.scene_journal.specs.Ready.{AreReadyOn}
-use Rattle.scene_journal.specs.Records.{Record, back_all, raised, redone, undone}
+use Rattle.scene_deltas.specs.Ready.{AreReadyOn}
+use Rattle.scene_journal.specs.Records.{Record, raised, redone, undone}
+use Rattle.scene_deltas.specs.Deltas.{back_all}
 use Rattle.scene_journal.proofs.Records.{raised_again, raised_valid, records_come_back}
-use Rattle.scene_journal.proofs.Lists.{may_more}
+use Rattle.scene_deltas.proofs.Lists.{may_more}
 use Rattle.scene_journal.proofs.Recorded.{on_wider, ready_wider}
-use Rattle.scene_journal.proofs.Turns.{ready_turns, ready_returns, start_held, end_held}
+use Rattle.scene_deltas.proofs.Turns.{ready_turns, ready_returns, start_held, end_held}
 use Rattle.scene_undo.specs.Kept.{CanUndo, CanRedo, CanUndoAll, CanRedoAll}
 
 -- ---- wider room

@@ -10,7 +10,7 @@ use Rattle.scene_model.specs.Valid.{IsValid}
 use Rattle.scene_world.specs.Room.{Room, Holds, IsWider}
 use Rattle.scene_journal.specs.Faults.{Names}
 use Rattle.scene_journal.specs.Records.{Record}
-use Rattle.scene_journal.proofs.Lists.{undo_more, undo_parts, IsTakenTo, one_more}
+use Rattle.scene_deltas.proofs.Lists.{undo_more, undo_parts, IsTakenTo, one_more}
 use Rattle.scene_journal.proofs.Records.{records_come_back}
 use Rattle.scene_journal.proofs.SomeDeltas.{faults_are_faults}
 use Rattle.scene_undo.specs.declared.direction.Direction.{Direction}

@@ -9,7 +9,7 @@ use Rattle.scene_kinds.specs.Answers.{refusal_of}
 use Rattle.scene_model.specs.World.{World}
 use Rattle.scene_world.specs.Room.{Room, IsWider}
 use Rattle.scene_journal.specs.Records.{Record, redone, undone}
-use Rattle.scene_journal.proofs.Lists.{may_turned}
+use Rattle.scene_deltas.proofs.Lists.{may_turned}
 use Rattle.scene_undo.specs.declared.direction.Direction.{Direction}
 use Rattle.scene_undo.specs.declared.direction.Direction.TheVariants.{Undo, Redo}
 use Rattle.scene_undo.specs.Direction.{AllFit, CanAll}

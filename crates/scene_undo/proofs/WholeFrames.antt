@@ -1,14 +1,13 @@
 -- A frame that a recorder accepted, as a record: the deltas that it noted, and the way back.
 use Rattle.std.proofs.Common.{◌≡◌, ℕ, ◌+◌, List, [], ◌∷◌, ◌++◌, refl, ap, sym, subst, ◌∙◌, Option, Some, None, Ok}
-use Rattle.std.specs.Prelude.{Err}
+use Rattle.std.specs.Prelude.{Result, Err, IfOk, OnOk}
 use Rattle.scene_kinds.specs.declared.entity.Entity.{Entity}
 use Rattle.scene_kinds.specs.declared.refusal.Refusal.{Refusal}
 use Rattle.scene_kinds.specs.Answers.{Outcome}
 use Rattle.scene_model.specs.World.{World}
 use Rattle.scene_model.specs.Can.{CanSetTick}
 use Rattle.scene_model.specs.Commands.{and_then, raise_tick}
-use Rattle.scene_machine.specs.Frame.{all_or_refused, frame, queues_from}
-use Rattle.scene_model.specs.Perform.{perform}
+use Rattle.scene_machine.specs.Frame.{all_or_refused, queues_from}
 use Rattle.scene_machine.specs.Queue.{Request, play}
 use Rattle.scene_model.specs.Raw.{set_tick}
 use Rattle.scene_model.specs.Valid.{IsValid}
@@ -17,13 +16,16 @@ use Rattle.scene_model.proofs.PartCommands.{raise_sets_tick}
 use Rattle.scene_model.proofs.ResourceBack.{ticks_come_back}
 use Rattle.scene_world.specs.Room.{Room}
 use Rattle.scene_world.specs.Stage.{Staged, Note, act}
-use Rattle.scene_journal.specs.declared.delta.Delta.{Delta}
+use Rattle.scene_deltas.specs.declared.delta.Delta.{Delta}
 use Rattle.scene_journal.specs.Frames.{after_queues, frame_record}
-use Rattle.scene_journal.specs.Notes.{deltas_of}
-use Rattle.scene_journal.specs.Ready.{AreReady}
-use Rattle.scene_journal.specs.Records.{record_of, back_all, raised, undone}
-use Rattle.scene_journal.proofs.Deltas.{back_all_keeps_tick}
-use Rattle.scene_journal.proofs.Turns.{ready_fits_back}
+use Rattle.scene_deltas.specs.Notes.{deltas_of}
+use Rattle.scene_deltas.specs.Ready.{AreReady}
+use Rattle.scene_journal.specs.Records.{Record, record_of, raised, undone}
+use Rattle.scene_deltas.specs.Deltas.{back_all}
+use Rattle.scene_deltas.proofs.Deltas.{back_all_keeps_tick}
+use Rattle.scene_deltas.proofs.Turns.{ready_fits_back}
+use Rattle.scene_undo.specs.declared.made.Made.{Made}
+use Rattle.scene_undo.specs.Editor.{IsRecordOf}
 use Rattle.scene_undo.specs.Kept.{CanUndo}
 
 -- ---- a frame that was accepted is the fold of its queues
@@ -50,12 +52,6 @@ after_whole note q (rs ∷ rss) s t es h =
 
 -- ---- the frame of a world whose tick was raised
 
-pub frame_goes : (queues : List (List Request)) (w u : World) → raise_tick w ≡ Ok (tt, u) → frame queues w ≡ queues_from perform 0 queues u
-frame_goes queues w u is = ap (λ o. and_then o (λ a v. queues_from perform 0 queues v)) is
-
-pub frame_stops : (queues : List (List Request)) (w : World) (r : Refusal) → raise_tick w ≡ Err r → frame queues w ≡ Err r
-frame_stops queues w r is = ap (λ o. and_then o (λ a v. queues_from perform 0 queues v)) is
-
 module _ (w u : World) (valid : IsValid w) (raises : raise_tick w ≡ Ok (tt, u)) where
   is_raised : u ≡ raised w
   is_raised = (raise_sets_tick w u valid raises).1
@@ -70,14 +66,12 @@ module _ (w u : World) (valid : IsValid w) (raises : raise_tick w ≡ Ok (tt, u)
   pub lowered : set_tick u w.tick ≡ w
   lowered = ap (λ x. set_tick x w.tick) is_raised ∙ (ticks_come_back w.tick (w.tick + 1)).comes_back w valid can
 
-  -- the record that was noted on the way is that of the frame
-  pub record_is : (queues : List (List Request)) (es : List Entity) (v : World) (ds : List Delta)
-      → queues_from (act deltas_of) 0 queues (record { world = u; notes = [] }) ≡ Ok (es, record { world = v; notes = ds })
-      → record_of w.tick ds ≡ frame_record queues w
-  record_is queues es v ds whole =
-      ap (record_of w.tick) (sym (ap (λ (s : Staged Delta). s.notes)
-      (ap (λ x. after_queues deltas_of queues (record { world = x; notes = [] })) (sym is_raised)
-      ∙ after_whole deltas_of 0 queues (record { world = u; notes = [] }) (record { world = v; notes = ds }) es whole)))
+  -- what was noted on the way is what its record tells
+  pub record_is : (plays : Staged Delta → Outcome (List Entity) (Staged Delta)) (es : List Entity) (v : World) (ds : List Delta)
+      → plays (record { world = u; notes = [] }) ≡ Ok (es, record { world = v; notes = ds })
+      → IsRecordOf plays w v es (record_of w.tick ds)
+  record_is plays es v ds whole =
+      record { tick = refl; noted = ap (λ x. plays (record { world = x; notes = [] })) (sym is_raised) ∙ whole }
 
   -- and it can be undone, which gives the world from before
   module _ (room : Room) (v : World) (ds : List Delta) (ready : AreReady room ds v) (back : back_all ds v ≡ u) where
@@ -93,3 +87,20 @@ module _ (w u : World) (valid : IsValid w) (raises : raise_tick w ≡ Ok (tt, u)
 
     pub record_undoes : undone (record_of w.tick ds) v ≡ w
     record_undoes = ap (λ x. set_tick x w.tick) back ∙ lowered
+
+-- ---- the record of a frame of queues
+
+pub record_of_queues : (queues : List (List Request)) (w v : World) (es : List Entity) (r : Record)
+    → IsRecordOf (queues_from (act deltas_of) 0 queues) w v es r → r ≡ frame_record queues w
+record_of_queues queues w v es r is =
+    (λ i. record_of (is.tick i) r.deltas)
+    ∙ ap (record_of w.tick) (sym (ap (λ (s : Staged Delta). s.notes)
+    (after_whole deltas_of 0 queues (record { world = raised w; notes = [] }) (record { world = v; notes = r.deltas }) es is.noted)))
+
+-- and where it comes first in the past, so does the frame's
+pub record_kept : (queues : List (List Request)) (w v : World) (new_past old_past new_future : List Record) (result : Result Made Refusal)
+    → IfOk result (λ m. (r : Record) × (IsRecordOf (queues_from (act deltas_of) 0 queues) w v m.entities.items r × ((new_past ≡ r ∷ old_past) × (new_future ≡ []))))
+    → OnOk result ((new_past ≡ frame_record queues w ∷ old_past) × (new_future ≡ []))
+record_kept queues w v new_past old_past new_future (Ok m) h =
+    (h.1.1.0 ∙ ap (λ r. r ∷ old_past) (record_of_queues queues w v m.entities.items h.0 h.1.0), h.1.1.1)
+record_kept queues w v new_past old_past new_future (Err r) h = tt

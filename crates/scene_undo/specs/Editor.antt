@@ -4,7 +4,10 @@ use Rattle.scene_kinds.specs.declared.entity.Entity.{Entity}
 use Rattle.scene_kinds.specs.declared.refusal.Refusal.{Refusal}
 use Rattle.scene_model.specs.World.{World}
 use Rattle.scene_machine.specs.Machine.{Machine}
-use Rattle.scene_journal.specs.Records.{Record, redone, undone}
+use Rattle.scene_kinds.specs.Answers.{Outcome}
+use Rattle.scene_world.specs.Stage.{Staged}
+use Rattle.scene_deltas.specs.declared.delta.Delta.{Delta}
+use Rattle.scene_journal.specs.Records.{Record, raised, redone, undone}
 use Rattle.scene_undo.specs.declared.made.Made.{Made}
 
 -- the world now, the records of the frames before it, the newest first, those of the frames that were undone, the next one first, and
@@ -32,3 +35,8 @@ entities_of (Err r) = Err r
 -- a record goes from the one list to the other
 abbrev pub IsMoved : (from to old_from old_to : List Record) → Type 0
 IsMoved from to old_from old_to = (r : Record) × ((old_from ≡ r ∷ from) × (to ≡ r ∷ old_to))
+
+-- a record tells what was noted where a frame was played on the world with its tick raised, and came to these entities and this world
+pub record IsRecordOf (plays : Staged Delta → Outcome (List Entity) (Staged Delta)) (w v : World) (es : List Entity) (r : Record) : Type 0 where
+  pub tick : r.tick_before ≡ w.tick
+  pub noted : plays (record { world = raised w; notes = [] }) ≡ Ok (es, record { world = v; notes = r.deltas })

@@ -3,7 +3,7 @@ use Rattle.std.specs.Prelude.{List}
 use Rattle.scene_model.specs.World.{World}
 use Rattle.scene_model.specs.RawLists.{MayAll}
 use Rattle.scene_world.specs.Room.{Room}
-use Rattle.scene_journal.specs.Ready.{AreReady, AreReadyOn}
+use Rattle.scene_deltas.specs.Ready.{AreReady, AreReadyOn}
 use Rattle.scene_journal.specs.Records.{Record, raised, redone, undone, RecordFitsOn, RecordFitsBack}
 
 -- a record fits back, and the room holds each world on the way

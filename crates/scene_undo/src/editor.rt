@@ -2,21 +2,20 @@
 ghost use Rattle.std.specs.Prelude.{◌≡◌, ◌≢◌, ◌≤◌, ◌∷◌, [], length, reverse, Ok, Err, IfOk, IfErr, OnOk, OnErr};
 ghost use Rattle.scene_kinds.specs.Answers.{Answers, refusal_of};
 ghost use Rattle.scene_kinds.specs.declared.fault.Fault.TheVariants.{NoMemory};
-ghost use Rattle.scene_machine.specs.Frame.{Submit, call, frame, queues_from};
-ghost use Rattle.scene_machine.specs.Machine.{opening, redo, undo};
-ghost use Rattle.scene_model.specs.Perform.{perform};
+ghost use Rattle.scene_machine.specs.Frame.{Submit, call, framed};
+ghost use Rattle.scene_machine.specs.Machine.{opening, redo, submitted, undo};
 ghost use Rattle.scene_world.specs.Room.{IsWider};
-ghost use Rattle.scene_world.specs.Stage.{act};
 ghost use Rattle.scene_queue.specs.Frames.{frame_of};
 ghost use Rattle.scene_journal.specs.Frames.{frame_record};
-ghost use Rattle.scene_journal.specs.Notes.{deltas_of};
-ghost use Rattle.scene_journal.specs.Ready.{AreReady};
-ghost use Rattle.scene_journal.specs.Records.{back_all, undone};
+ghost use Rattle.scene_deltas.specs.Notes.{deltas_of};
+ghost use Rattle.scene_deltas.specs.Ready.{AreReady};
+ghost use Rattle.scene_journal.specs.Records.{Record, undone};
+ghost use Rattle.scene_deltas.specs.Deltas.{back_all};
 ghost use Rattle.scene_journal.specs.Recorder.{opening_of, staged_of};
 ghost use Rattle.scene_undo.specs.declared.direction.Direction.TheVariants.{Undo, Redo};
 ghost use Rattle.scene_undo.specs.Cursor.{cursor_of, since};
 ghost use Rattle.scene_undo.specs.Direction.{AllFit};
-ghost use Rattle.scene_undo.specs.Editor.{IsMoved, entities_of, machine_of};
+ghost use Rattle.scene_undo.specs.Editor.{IsMoved, IsRecordOf, entities_of, machine_of};
 ghost use Rattle.scene_undo.specs.Kept.{CanUndo};
 ghost use Rattle.scene_undo.specs.Parts.{IsFaultOf, NamesFrame};
 
@@ -25,10 +24,11 @@ use crate::direction::Direction;
 use crate::made::Made;
 use crate::parts::{after_frames, try_stack};
 use crate::records::{redo_record, undo_record};
-use scene_journal::{Delta, FrameRecord, Recorder};
+use scene_deltas::Delta;
+use scene_journal::{FrameRecord, Recorder};
 use scene_kinds::{Fault, Refusal, Schema};
-use scene_queue::{Queue, apply_all};
-use scene_world::{RawChanges, World};
+use scene_queue::{Queue, Queues};
+use scene_world::{Frame, RawChanges, World};
 use std::alloc::Global;
 use std::marker::Model;
 
@@ -68,45 +68,43 @@ struct Framed {
     kept: FrameRecord,
 }
 
-/// Applies the queues of a frame to a recorder, and lists twice what they spawned. After a refusal the recorder can still
-/// go back to where it began.
-fn apply(alloc: Global, queues: &[Queue], recorder: &mut Recorder) -> Result<Made, Refusal>
-    requires { length queues.now ≤ 4294967295 }
-    ensures noted { IfOk result (λ m. queues_from (act deltas_of) 0 (frame_of queues.now) (staged_of recorder.old)
-        ≡ Ok (m.entities.items, staged_of recorder.new)) }
-    ensures world { IfOk result (λ m. queues_from perform 0 (frame_of queues.now) recorder.old.world
-        ≡ Ok (m.entities.items, recorder.new.world)) }
+/// Runs a frame on a recorder, and lists twice what it spawned. After a refusal the recorder can still go back to where
+/// it began.
+fn apply<F: Frame>(alloc: Global, asked: &F, recorder: &mut Recorder) -> Result<Made, Refusal>
+    requires { F.can asked.now }
+    ensures noted { IfOk result (λ m. F.plays deltas_of asked.now (staged_of recorder.old) ≡ Ok (m.entities.items, staged_of recorder.new)) }
+    ensures world { IfOk result (λ m. F.does asked.now recorder.old.world ≡ Ok (m.entities.items, recorder.new.world)) }
     ensures copy { IfOk result (λ m. m.copy.items ≡ m.entities.items) }
-    ensures refused { IfErr result (λ r. r ≢ refusal_of NoMemory → queues_from perform 0 (frame_of queues.now) recorder.old.world ≡ Err r) }
+    ensures refused { IfErr result (λ r. r ≢ refusal_of NoMemory → F.does asked.now recorder.old.world ≡ Err r) }
     ensures opening { opening_of recorder.new ≡ opening_of recorder.old }
     ensures wide { IsWider recorder.old.room recorder.new.room }
 {
-    let entities = apply_all(alloc, queues, recorder)?;
+    let entities = asked.run(alloc, recorder)?;
     let copy = entities.clone()?;
     Ok(Made { entities, copy })
 }
 
-/// Applies the queues of a frame to a world, and gives what they made and the deltas. The world comes back, as the queues
-/// leave it or, after a refusal, as it was.
-fn recorded(
+/// Runs a frame on a world, and gives what it made and the deltas. The world comes back, as the frame leaves it or, after
+/// a refusal, as it was.
+fn recorded<F: Frame>(
     alloc: Global,
     world: World,
-    queues: &[Queue],
+    asked: &F,
 ) -> (World, Result<(Made, Vec<Delta>), Refusal>)
-    requires { length queues.now ≤ 4294967295 }
-    ensures noted { IfOk result.1 (λ p. queues_from (act deltas_of) 0 (frame_of queues.now) (record { world = world.world; notes = [] })
+    requires { F.can asked.now }
+    ensures noted { IfOk result.1 (λ p. F.plays deltas_of asked.now (record { world = world.world; notes = [] })
         ≡ Ok (p.0.entities.items, record { world = result.0.world; notes = p.1.items })) }
-    ensures done { IfOk result.1 (λ p. queues_from perform 0 (frame_of queues.now) world.world ≡ Ok (p.0.entities.items, result.0.world)) }
+    ensures done { IfOk result.1 (λ p. F.does asked.now world.world ≡ Ok (p.0.entities.items, result.0.world)) }
     ensures copy { IfOk result.1 (λ p. p.0.copy.items ≡ p.0.entities.items) }
     ensures ready { IfOk result.1 (λ p. AreReady result.0.room p.1.items result.0.world) }
     ensures back { IfOk result.1 (λ p. back_all p.1.items result.0.world ≡ world.world) }
-    ensures refused { IfErr result.1 (λ r. r ≢ refusal_of NoMemory → queues_from perform 0 (frame_of queues.now) world.world ≡ Err r) }
+    ensures refused { IfErr result.1 (λ r. r ≢ refusal_of NoMemory → F.does asked.now world.world ≡ Err r) }
     ensures same { OnErr result.1 (result.0.world ≡ world.world) }
     ensures wide { IsWider world.room result.0.room }
 {
     let nothing = FrameRecord::new(0, Vec::new(alloc));
     let mut recorder = Recorder::new(alloc, world, nothing);
-    match apply(alloc, queues, &mut recorder) {
+    match apply(alloc, asked, &mut recorder) {
         Ok(made) => {
             let (after, noted) = recorder.into_parts();
             let (_, mut deltas) = noted.into_parts();
@@ -118,16 +116,16 @@ fn recorded(
     }
 }
 
-/// Does a frame on a world, all or nothing: it raises the tick and applies the queues. The world comes back, as the
-/// frame leaves it or, after a refusal, as it was.
-fn frame(alloc: Global, world: World, queues: &[Queue]) -> (World, Result<Framed, Refusal>)
-    requires { length queues.now ≤ 4294967295 }
-    ensures done { IfOk result.1 (λ f. frame (frame_of queues.now) world.world ≡ Ok (f.made.entities.items, result.0.world)) }
+/// Does a frame on a world, all or nothing: it raises the tick and runs the frame. The world comes back, as the frame
+/// leaves it or, after a refusal, as it was.
+fn frame<F: Frame>(alloc: Global, world: World, asked: &F) -> (World, Result<Framed, Refusal>)
+    requires { F.can asked.now }
+    ensures done { IfOk result.1 (λ f. framed (F.does asked.now) world.world ≡ Ok (f.made.entities.items, result.0.world)) }
     ensures copy { IfOk result.1 (λ f. f.made.copy.items ≡ f.made.entities.items) }
-    ensures noted { IfOk result.1 (λ f. f.kept ≡ frame_record (frame_of queues.now) world.world) }
+    ensures noted { IfOk result.1 (λ f. IsRecordOf (F.plays deltas_of asked.now) world.world result.0.world f.made.entities.items f.kept) }
     ensures can { IfOk result.1 (λ f. CanUndo result.0.room f.kept result.0.world) }
     ensures back { IfOk result.1 (λ f. undone f.kept result.0.world ≡ world.world) }
-    ensures refused { IfErr result.1 (λ r. r ≢ refusal_of NoMemory → frame (frame_of queues.now) world.world ≡ Err r) }
+    ensures refused { IfErr result.1 (λ r. r ≢ refusal_of NoMemory → framed (F.does asked.now) world.world ≡ Err r) }
     ensures same { OnErr result.1 (result.0.world ≡ world.world) }
     ensures wide { IsWider world.room result.0.room }
 {
@@ -136,7 +134,7 @@ fn frame(alloc: Global, world: World, queues: &[Queue]) -> (World, Result<Framed
     if let Err(refusal) = raised.raise_tick() {
         return (raised, Err(refusal));
     }
-    let (after, outcome) = recorded(alloc, raised, queues);
+    let (after, outcome) = recorded(alloc, raised, asked);
     match outcome {
         Ok(done) => {
             let (made, deltas) = done;
@@ -278,10 +276,28 @@ impl Editor {
             × (self.new.future ≡ [])) }
         ensures same { OnErr result (self.new ≡ self.old) }
     {
+        self.run(&Queues(queues))
+    }
+
+    /// Does a frame of any kind, all or nothing: it raises the world's tick by one and runs the frame
+    /// (docs/MODEL.md, "The rule of frames"). What was undone is forgotten. It costs what the frame does, refused or not,
+    /// and the records that are forgotten. `submit` is this for queues; a kind of its own, outside of this crate, comes in by
+    /// an `impl Frame`, and its frames are undone and redone as those of queues are.
+    ///
+    /// Refused, in this order, and then the editor is as it was: `TickFull`; the frame's first refusal; `NoMemory`.
+    pub fn run<F: Frame>(&mut self, asked: &F) -> Result<Made, Refusal>
+        requires { F.can asked.now }
+        ensures machine { Answers (entities_of result) (machine_of self.old) (machine_of self.new)
+            (submitted (machine_of self.old) (framed (F.does asked.now) self.old.world)) }
+        ensures copy { IfOk result (λ m. m.copy.items ≡ m.entities.items) }
+        ensures records { IfOk result (λ m. (r : Record) × (IsRecordOf (F.plays deltas_of asked.now) self.old.world self.new.world m.entities.items r
+            × ((self.new.past ≡ r ∷ self.old.past) × (self.new.future ≡ [])))) }
+        ensures same { OnErr result (self.new ≡ self.old) }
+    {
         self.past.reserve(1)?;
         let nothing = World::new(self.alloc, Schema::new(self.alloc), 1);
         let world = std::mem::replace(&mut self.world, nothing);
-        let (world, framed) = frame(self.alloc, world, queues);
+        let (world, framed) = frame(self.alloc, world, asked);
         self.world = world;
         match framed {
             Ok(done) => {

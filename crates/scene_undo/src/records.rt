@@ -3,7 +3,8 @@ ghost use Rattle.std.specs.Prelude.{◌≡◌, OnOk, OnErr};
 ghost use Rattle.scene_journal.specs.Records.{redone, undone};
 ghost use Rattle.scene_undo.specs.Kept.{CanRedo, CanUndo};
 
-use scene_journal::{FrameRecord, make_all_again, take_all_back};
+use scene_deltas::{make_all_again, take_all_back};
+use scene_journal::FrameRecord;
 use scene_world::{RawChanges, World};
 use std::alloc::AllocError;
 

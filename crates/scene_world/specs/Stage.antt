@@ -1,5 +1,5 @@
 -- What a stage is seen as: a world that commands change, and notes of what was done.
-use Rattle.std.specs.Prelude.{List, ◌++◌, Option, Some, None, Result, Ok, Err, if◌then◌else◌}
+use Rattle.std.specs.Prelude.{ℕ, List, ◌++◌, Option, Some, None, Result, Ok, Err, if◌then◌else◌}
 use Rattle.scene_kinds.specs.declared.refusal.Refusal.{Refusal}
 use Rattle.scene_kinds.specs.Answers.{Outcome, Answers}
 use Rattle.scene_kinds.specs.declared.entity.Entity.{Entity}
@@ -11,6 +11,11 @@ use Rattle.scene_model.specs.Perform.{Command, Spawn, Despawn, DespawnRecursive,
 pub record Staged (N : Type 0) : Type 0 where
   pub world : World
   pub notes : List N
+
+-- where a stage began: the world to which it can be taken back, and the tick that its record keeps
+pub record Opening : Type 0 where
+  pub world : World
+  pub tick : ℕ
 
 -- what a stage notes of an accepted command on a world
 abbrev pub Note : Type 0 → Type 0

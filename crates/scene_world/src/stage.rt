@@ -1,10 +1,9 @@
 //! What commands can be applied to: a world, or whatever keeps notes of what is done to one.
 ghost use Rattle.std.specs.Prelude.{◌≡◌, List, [], Option, None};
-ghost use Rattle.scene_model.specs.World.{World as Whole};
 ghost use Rattle.scene_model.specs.Commands.{spawn, despawn, despawn_recursive, insert, remove, set_parent, remove_parent, put_resource, remove_resource};
 ghost use Rattle.scene_model.specs.Perform.{Spawn, Despawn, DespawnRecursive, Insert, Remove, SetParent, RemoveParent, PutResource, RemoveResource};
 ghost use Rattle.scene_world.specs.Room.{IsWider, Room};
-ghost use Rattle.scene_world.specs.Stage.{Staged, Note as NoteOf, AnswersNoted};
+ghost use Rattle.scene_world.specs.Stage.{Opening, Staged, Note as NoteOf, AnswersNoted};
 
 use crate::world::World;
 use scene_kinds::{Entity, Refusal, Value};
@@ -14,8 +13,8 @@ use std::convert::Infallible;
 ///
 /// Each command answers what it answers on the world itself, refusals included, and want of memory. An accepted one
 /// appends the notes that the world before it and the command fix; after a refusal world and notes are as they were.
-/// The world to which the stage can be taken back, if it keeps a way back, is the same after every command, and no room is
-/// lost (docs/MODEL.md, "Raw changes").
+/// The world to which the stage can be taken back, if it keeps a way back, and the tick of its record are the same after
+/// every command, accepted or refused, and no room is lost (docs/MODEL.md, "Raw changes").
 pub trait Stage {
     /// What is noted of a command. A `World` notes nothing.
     type Note;
@@ -26,8 +25,8 @@ pub trait Stage {
     // What it notes of a command that is accepted on a world.
     ghost note: { NoteOf Self.Note };
 
-    // The world to which it can be taken back. A `World` keeps no way back.
-    ghost opening: { Self → Option Whole };
+    // The world to which it can be taken back, and the tick of its record. A `World` keeps no way back.
+    ghost opening: { Self → Option Opening };
 
     // The room of its world, which no command loses.
     ghost room: { Self → Room };

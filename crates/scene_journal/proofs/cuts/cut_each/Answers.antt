@@ -1,8 +1,8 @@
 use Rattle.std.proofs.Common.{◌++◌, ap, subst, sym, ◌∙◌}
 use Rattle.scene_world.specs.Room.{Holds}
-use Rattle.scene_journal.specs.Notes.{listed_delta}
-use Rattle.scene_journal.specs.Ready.{AreReady}
-use Rattle.scene_journal.specs.Records.{back_all}
+use Rattle.scene_deltas.specs.Notes.{listed_delta}
+use Rattle.scene_deltas.specs.Ready.{AreReady}
+use Rattle.scene_deltas.specs.Deltas.{back_all}
 use Rattle.scene_journal.proofs.CutRows.{all_cut, next_cut}
 use Rattle.scene_journal.proofs.cuts.cut_each.Goals as goal
 

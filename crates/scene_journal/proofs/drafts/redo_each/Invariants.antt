@@ -1,6 +1,6 @@
 use Rattle.std.proofs.Common.{◌≡◌, take}
 use Rattle.scene_world.specs.Room.{IsWider}
-use Rattle.scene_journal.specs.Records.{fwd_all}
+use Rattle.scene_deltas.specs.Deltas.{fwd_all}
 use Rattle.scene_journal.proofs.drafts.redo_each.Given as goal
 
 abbrev pub invariant-loop-delta : goal.invariant-loop-delta

@@ -1,6 +1,6 @@
 use Rattle.std.proofs.Common.{List, length}
 use Rattle.scene_world.specs.Room.{IsWider}
-use Rattle.scene_journal.specs.declared.delta.Delta.{Delta}
+use Rattle.scene_deltas.specs.declared.delta.Delta.{Delta}
 use Rattle.scene_journal.proofs.SomeDeltas.{IsTakenTo}
 use Rattle.scene_journal.proofs.drafts.undo_each.Given as goal
 

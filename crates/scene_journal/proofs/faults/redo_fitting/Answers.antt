@@ -1,7 +1,7 @@
 use Rattle.std.proofs.Common.{◌≡◌, true, false, rules, sym, take, ◌∙◌}
 use Rattle.scene_world.proofs.Room.{wider_wider}
 use Rattle.scene_journal.proofs.SomeDeltas.{made_next, ready_next, some_made, unfit_here}
-use Rattle.scene_journal.proofs.Turns.{ready_fits_on}
+use Rattle.scene_deltas.proofs.Turns.{ready_fits_on}
 use Rattle.scene_journal.proofs.faults.redo_fitting.Goals as goal
 
 pub returns-then-not-fits_on-clause-refused : goal.returns-then-not-fits_on-clause-refused

@@ -1,7 +1,7 @@
 use Rattle.std.proofs.Common.{◌≡◌, take}
 use Rattle.scene_world.specs.Room.{IsWider}
-use Rattle.scene_journal.specs.Ready.{AreReadyOn}
-use Rattle.scene_journal.specs.Records.{fwd_all}
+use Rattle.scene_deltas.specs.Ready.{AreReadyOn}
+use Rattle.scene_deltas.specs.Deltas.{fwd_all}
 use Rattle.scene_journal.proofs.faults.redo_fitting.Given as goal
 
 abbrev pub invariant-loop-number : goal.invariant-loop-number

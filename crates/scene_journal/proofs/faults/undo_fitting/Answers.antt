@@ -1,7 +1,7 @@
 use Rattle.std.proofs.Common.{◌≡◌, ◌∷◌, ◌∙◌, false, true, length, sym}
 use Rattle.scene_world.proofs.Room.{wider_wider}
 use Rattle.scene_journal.proofs.SomeDeltas.{ready_taken, taken_next, unfit_next}
-use Rattle.scene_journal.proofs.Turns.{ready_fits_back}
+use Rattle.scene_deltas.proofs.Turns.{ready_fits_back}
 use Rattle.scene_journal.proofs.faults.undo_fitting.Goals as goal
 
 pub returns-then-not-fits_back-clause-refused : goal.returns-then-not-fits_back-clause-refused

@@ -3,7 +3,7 @@ use Rattle.std.proofs.lemmas.List.{take_all, take_more}
 use Rattle.std.proofs.lemmas.Option.{get_or_from_slice_get, slice_get_within}
 use Rattle.scene_kinds.specs.declared.cell.Cell.{Cell}
 use Rattle.scene_kinds.specs.Cells.{shown}
-use Rattle.scene_journal.proofs.RowCells.{counted}
+use Rattle.scene_deltas.proofs.RowCells.{counted}
 use Rattle.scene_journal.proofs.notes.copy_cells.Goals as goal
 
 pub loop-i-preserved : goal.loop-i-preserved

@@ -1,5 +1,5 @@
 use Rattle.std.proofs.Common.{subst, sym, ◌∙◌}
-use Rattle.scene_journal.proofs.Lists.{made_next, may_next}
+use Rattle.scene_deltas.proofs.Lists.{made_next, may_next}
 use Rattle.scene_undo.specs.Direction.{Can, step}
 use Rattle.scene_undo.proofs.parts.go_home.Goals as goal
 

@@ -1,7 +1,7 @@
 use Rattle.std.proofs.Common.{◌≡◌, ◌∷◌, OnOk, IfErr, refl, subst}
 use Rattle.scene_world.proofs.Room.{wider_wider}
 use Rattle.scene_journal.specs.Faults.{Names}
-use Rattle.scene_journal.proofs.Lists.{taken_next}
+use Rattle.scene_deltas.proofs.Lists.{taken_next}
 use Rattle.scene_undo.specs.Direction.{Can, IsFault, step}
 use Rattle.scene_undo.proofs.Stacks.{all_wider, fault_here}
 use Rattle.scene_undo.proofs.parts.go_through.Goals as goal

@@ -1,7 +1,7 @@
 use Rattle.std.proofs.Common.{List, length}
 use Rattle.scene_world.specs.Room.{IsWider}
 use Rattle.scene_journal.specs.Records.{Record}
-use Rattle.scene_journal.proofs.Lists.{IsTakenTo}
+use Rattle.scene_deltas.proofs.Lists.{IsTakenTo}
 use Rattle.scene_undo.specs.Direction.{CanAll, step}
 use Rattle.scene_undo.proofs.parts.go_through.Given as goal
 

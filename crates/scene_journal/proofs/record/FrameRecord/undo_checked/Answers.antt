@@ -1,9 +1,9 @@
 use Rattle.std.proofs.Common.{◌≡◌, ◌+◌, ◌∙◌, ap, arith, rules, subst}
 use Rattle.std.proofs.lemmas.Bool.Decides.{nat_tests}
 use Rattle.scene_model.specs.Can.{CanSetTick}
-use Rattle.scene_journal.specs.Ready.{AreReady}
-use Rattle.scene_journal.specs.Records.{back_all}
-use Rattle.scene_journal.proofs.Turns.{ready_fits_back}
+use Rattle.scene_deltas.specs.Ready.{AreReady}
+use Rattle.scene_deltas.specs.Deltas.{back_all}
+use Rattle.scene_deltas.proofs.Turns.{ready_fits_back}
 use Rattle.scene_journal.specs.Faults.{IsLastUnfit, Names}
 use Rattle.scene_journal.proofs.SomeDeltas.{fault_of_delta}
 use Rattle.scene_journal.proofs.record.FrameRecord.undo_checked.Goals as goal

@@ -1,7 +1,7 @@
 use Rattle.std.proofs.Common.{ap, subst, sym}
-use Rattle.scene_journal.specs.Ready.{AreReady}
+use Rattle.scene_deltas.specs.Ready.{AreReady}
 use Rattle.scene_journal.specs.Records.{Record}
-use Rattle.scene_journal.proofs.Truncated.{found_ready}
+use Rattle.scene_deltas.proofs.Truncated.{found_ready}
 use Rattle.scene_journal.proofs.recorder.Recorder.into_parts.Goals as goal
 
 pub returns-clause-ready : goal.returns-clause-ready

@@ -1,4 +1,4 @@
-use Rattle.scene_journal.proofs.Truncated.{found_ready}
+use Rattle.scene_deltas.proofs.Truncated.{found_ready}
 use Rattle.scene_journal.proofs.recorder.Recorder.revert.Goals as goal
 
 pub take_all_back-requires : goal.take_all_back-requires

@@ -3,14 +3,15 @@ use Rattle.scene_links.specs.Forest.{post}
 use Rattle.scene_model.specs.Commands.{despawn_recursive}
 use Rattle.scene_model.specs.Perform.{DespawnRecursive}
 use Rattle.scene_world.specs.Stage.{noting}
-use Rattle.scene_journal.specs.Notes.{deltas_of, despawned_each, cut_each, CanCutEach}
-use Rattle.scene_journal.specs.Ready.{AreReady}
-use Rattle.scene_journal.specs.Records.{back_all, record_of}
-use Rattle.scene_journal.specs.Recorder.{Recording, opening_of, staged_of}
+use Rattle.scene_deltas.specs.Notes.{deltas_of, despawned_each, cut_each, CanCutEach}
+use Rattle.scene_deltas.specs.Ready.{AreReady}
+use Rattle.scene_deltas.specs.Deltas.{back_all}
+use Rattle.scene_journal.specs.Records.{record_of}
+use Rattle.scene_journal.specs.Recorder.{Recording, began, began_with, staged_of}
 use Rattle.scene_journal.proofs.CutRows.{recursive_each}
-use Rattle.scene_journal.proofs.Ready.{back_appended, ready_appended}
+use Rattle.scene_deltas.proofs.Ready.{back_appended, ready_appended}
 use Rattle.scene_journal.proofs.Recorded.{noted_ok}
-use Rattle.scene_journal.proofs.Truncated.{found_ready}
+use Rattle.scene_deltas.proofs.Truncated.{found_ready}
 use Rattle.scene_journal.proofs.recorder.RecorderStage.despawn_recursive.Goals as goal
 
 pub cut_each-requires : goal.cut_each-requires
@@ -52,5 +53,5 @@ returns-clause-opening c =
     let ds = c.self.inside.deltas.items in
     let es = c.in_ok-made.made.items in
     let kept = c.append.ensures.items ∙ ap (λ b. cond b (ds ++ es) ds) c.if-is_err.ensures.negation in
-    ap (λ u. Some u) (ap (λ xs. back_all xs v) kept ∙ back_appended ds es v ∙ ap (back_all ds) c.in_ok-made.ensures.opening)
-    ∙ ap (λ (r : Recording). Some (opening_of r)) c.self.view_is
+    ap (λ u. Some (began_with c.self.inside.tick_before u)) (ap (λ xs. back_all xs v) kept ∙ back_appended ds es v ∙ ap (back_all ds) c.in_ok-made.ensures.opening)
+    ∙ ap (λ (r : Recording). Some (began r)) c.self.view_is

@@ -1,8 +1,8 @@
 use Rattle.std.proofs.Common.{◌++◌, ap, ◌∙◌, Some}
 use Rattle.scene_model.specs.Perform.{Insert}
-use Rattle.scene_journal.specs.Notes.{listed_delta}
-use Rattle.scene_journal.specs.Recorder.{Recording, opening_of}
-use Rattle.scene_journal.proofs.Commands.{insert_leads}
+use Rattle.scene_deltas.specs.Notes.{listed_delta}
+use Rattle.scene_journal.specs.Recorder.{Recording, began, began_with}
+use Rattle.scene_deltas.proofs.Commands.{insert_leads}
 use Rattle.scene_journal.proofs.Recorded.{stays_ready, goes_ready, goes_back}
 use Rattle.scene_journal.proofs.recorder.RecorderStage.insert.Goals as goal
 
@@ -23,7 +23,7 @@ pub returns-clause-opening : goal.returns-clause-opening
 returns-clause-opening c =
     let w = c.self.inside.world in
     let v = c.insert.new.world in
-    ap (λ u. Some u) (goes_back w.room v.room c.self.inside.deltas.items c.keep.new.deltas.items w.world v.world (Insert c.args.entity c.args.kind c.args.value) c.in_ok-delta.delta
+    ap (λ u. Some (began_with c.self.inside.tick_before u)) (goes_back w.room v.room c.self.inside.deltas.items c.keep.new.deltas.items w.world v.world (Insert c.args.entity c.args.kind c.args.value) c.in_ok-delta.delta
     c.is_sound.ensures.valid c.in_ok-delta.ensures.noted (insert_leads w.world v.world c.args.entity c.args.kind c.args.value c.is_sound.ensures.valid c.in_ok-delta.ensures.made)
     (c.keep.ensures ∙ ap (λ xs. xs ++ listed_delta c.in_ok-delta.delta) c.reserve.ensures.items))
-    ∙ ap (λ (r : Recording). Some (opening_of r)) c.self.view_is
+    ∙ ap (λ (r : Recording). Some (began r)) c.self.view_is

@@ -1,8 +1,8 @@
 use Rattle.std.proofs.Common.{◌++◌, ◌∷◌, [], ap, ◌∙◌, None, Some}
 use Rattle.scene_model.specs.Perform.{RemoveParent}
-use Rattle.scene_journal.specs.declared.delta.Delta.TheVariants.{Linked}
-use Rattle.scene_journal.specs.Recorder.{Recording, opening_of}
-use Rattle.scene_journal.proofs.Commands.{remove_parent_leads}
+use Rattle.scene_deltas.specs.declared.delta.Delta.TheVariants.{Linked}
+use Rattle.scene_journal.specs.Recorder.{Recording, began, began_with}
+use Rattle.scene_deltas.proofs.Commands.{remove_parent_leads}
 use Rattle.scene_journal.proofs.Recorded.{stays_ready, goes_ready, goes_back}
 use Rattle.scene_journal.proofs.recorder.RecorderStage.remove_parent.Goals as goal
 
@@ -23,7 +23,7 @@ pub returns-clause-opening : goal.returns-clause-opening
 returns-clause-opening c =
     let w = c.self.inside.world in
     let v = c.remove_parent.new.self in
-    ap (λ u. Some u) (goes_back w.room v.room c.self.inside.deltas.items c.push_reserved.new.self.items w.world v.world (RemoveParent c.args.child) (Some (Linked c.args.child c.link_of-lost.result None))
+    ap (λ u. Some (began_with c.self.inside.tick_before u)) (goes_back w.room v.room c.self.inside.deltas.items c.push_reserved.new.self.items w.world v.world (RemoveParent c.args.child) (Some (Linked c.args.child c.link_of-lost.result None))
     c.is_sound.ensures.valid (λ i. Linked c.args.child (c.link_of-lost.ensures i) None ∷ []) (remove_parent_leads w.world v.world c.args.child c.is_sound.ensures.valid c.in_ok-remove_parent.ensures.answer)
     (c.push_reserved.ensures.items ∙ ap (λ xs. xs ++ Linked c.args.child c.link_of-lost.result None ∷ []) c.reserve.ensures.items))
-    ∙ ap (λ (r : Recording). Some (opening_of r)) c.self.view_is
+    ∙ ap (λ (r : Recording). Some (began r)) c.self.view_is

@@ -1,7 +1,7 @@
 use Rattle.std.proofs.Common.{◌++◌, ◌∷◌, [], ap, ◌∙◌, Some}
 use Rattle.scene_model.specs.Perform.{RemoveResource}
-use Rattle.scene_journal.specs.Recorder.{Recording, opening_of}
-use Rattle.scene_journal.proofs.Commands.{remove_resource_leads}
+use Rattle.scene_journal.specs.Recorder.{Recording, began, began_with}
+use Rattle.scene_deltas.proofs.Commands.{remove_resource_leads}
 use Rattle.scene_journal.proofs.Recorded.{stays_ready, goes_ready, goes_back}
 use Rattle.scene_journal.proofs.recorder.RecorderStage.remove_resource.Goals as goal
 
@@ -22,7 +22,7 @@ pub returns-clause-opening : goal.returns-clause-opening
 returns-clause-opening c =
     let w = c.self.inside.world in
     let v = c.remove_resource.new.self in
-    ap (λ u. Some u) (goes_back w.room v.room c.self.inside.deltas.items c.push_reserved.new.self.items w.world v.world (RemoveResource c.args.name.now) (Some c.in_ok-delta.delta)
+    ap (λ u. Some (began_with c.self.inside.tick_before u)) (goes_back w.room v.room c.self.inside.deltas.items c.push_reserved.new.self.items w.world v.world (RemoveResource c.args.name.now) (Some c.in_ok-delta.delta)
     c.is_sound.ensures.valid c.in_ok-delta.ensures (remove_resource_leads w.world v.world c.args.name.now c.is_sound.ensures.valid c.in_ok-remove_resource.ensures.answer)
     (c.push_reserved.ensures.items ∙ ap (λ xs. xs ++ c.in_ok-delta.delta ∷ []) c.reserve.ensures.items))
-    ∙ ap (λ (r : Recording). Some (opening_of r)) c.self.view_is
+    ∙ ap (λ (r : Recording). Some (began r)) c.self.view_is

@@ -1,7 +1,7 @@
 use Rattle.std.proofs.Common.{◌++◌, ◌∷◌, [], ap, ◌∙◌, Some}
 use Rattle.scene_model.specs.Perform.{Spawn}
-use Rattle.scene_journal.specs.Recorder.{Recording, opening_of}
-use Rattle.scene_journal.proofs.Commands.{spawn_leads}
+use Rattle.scene_journal.specs.Recorder.{Recording, began, began_with}
+use Rattle.scene_deltas.proofs.Commands.{spawn_leads}
 use Rattle.scene_journal.proofs.Recorded.{stays_ready, goes_ready, goes_back}
 use Rattle.scene_journal.proofs.recorder.RecorderStage.spawn.Goals as goal
 
@@ -22,7 +22,7 @@ pub returns-clause-opening : goal.returns-clause-opening
 returns-clause-opening c =
     let w = c.self.inside.world in
     let v = c.spawn.new.world in
-    ap (λ u. Some u) (goes_back w.room v.room c.self.inside.deltas.items c.push_reserved.new.self.items w.world v.world (Spawn c.args.cells.items) (Some c.in_ok-entity.delta)
+    ap (λ u. Some (began_with c.self.inside.tick_before u)) (goes_back w.room v.room c.self.inside.deltas.items c.push_reserved.new.self.items w.world v.world (Spawn c.args.cells.items) (Some c.in_ok-entity.delta)
     c.is_sound.ensures.valid c.in_ok-entity.ensures.noted (spawn_leads w.world v.world c.args.cells.items c.in_ok-entity.entity c.is_sound.ensures.valid c.in_ok-entity.ensures.made)
     (c.push_reserved.ensures.items ∙ ap (λ xs. xs ++ c.in_ok-entity.delta ∷ []) c.reserve.ensures.items))
-    ∙ ap (λ (r : Recording). Some (opening_of r)) c.self.view_is
+    ∙ ap (λ (r : Recording). Some (began r)) c.self.view_is

@@ -1,0 +1,16 @@
+pub mod Ascending
+pub mod Commands
+pub mod CountWithout
+pub mod Counts
+pub mod Deltas
+pub mod Ends
+pub mod LastRow
+pub mod Lists
+pub mod NextEntity
+pub mod Ready
+pub mod RowCells
+pub mod ShiftedKinds
+pub mod StandingRows
+pub mod TimelyCells
+pub mod Truncated
+pub mod Turns

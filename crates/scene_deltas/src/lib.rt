@@ -1,0 +1,31 @@
+//! One change of a world, which can be made again and taken back.
+//!
+//! A `Delta` is a change of one entity's row and link, of one cell, of one link or of one resource. It holds what the
+//! change brings and what it took away, so the world after it has all that is needed to go back, and the world before
+//! it all that is needed to go on (docs/JOURNAL.md).
+//!
+//! `specs/Deltas.antt` says what each delta does to a world and where it fits, which `Delta::fits_on` and `fits_back`
+//! test, and `specs/Notes.antt` which deltas a command makes. `laws` says that each takes the other direction back
+//! exactly. `make_again` and `take_back` do a delta to a `World` that has room for it; `redo_delta` and `undo_delta` make
+//! the room, and copy the cells.
+#![tactic(auto)]
+
+mod delta;
+mod fits;
+mod fits_back;
+mod laws;
+mod redo;
+mod resource_cell;
+mod same;
+mod sound;
+mod steps;
+mod timely;
+
+pub use delta::Delta;
+pub use fits::{count_without, standing};
+pub use laws::{commands_are_deltas, deltas_come_back};
+pub use redo::{redo_delta, undo_delta};
+pub use resource_cell::ResourceCell;
+pub use sound::is_sound;
+pub use steps::{make_again, make_all_again, take_all_back, take_back};
+pub use timely::can_set_tick;

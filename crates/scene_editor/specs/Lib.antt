@@ -1,0 +1,21 @@
+-- what a call may answer
+pub use Rattle.scene_kinds.specs.Answers
+-- kinds, and which values fit them
+pub use Rattle.scene_kinds.specs.Schema
+-- worlds, the machine of saved worlds, and its calls
+pub use Rattle.scene_model.specs.World
+pub use Rattle.scene_machine.specs.Machine
+pub use Rattle.scene_machine.specs.Frame
+-- queues, and what the queues of a frame ask of a world
+pub use Rattle.scene_queue.specs.Queue
+pub use Rattle.scene_queue.specs.Frames
+-- editors and their cursors
+pub use Rattle.scene_undo.specs.Cursor
+pub use Rattle.scene_undo.specs.Editor
+-- filters, and what passes list
+pub use Rattle.scene_pass.specs.Filter
+pub use Rattle.scene_pass.specs.Pass
+-- the text of a world, and the world of a text
+pub use Rattle.scene_file.specs.Outcome
+pub use Rattle.scene_file.specs.Saving
+pub use Rattle.scene_file.specs.Scene

@@ -1,0 +1,33 @@
+//! The one door for tools: an editor, what it takes, what it gives, and why it refuses.
+//!
+//! A tool lists this crate alone, and names nothing below it. The crate has no code: a type comes with its methods and their
+//! contracts, and `specs/` passes on the definitions that a tool's own clauses may lean on (docs/LIBRARY.md).
+//!
+//! A tool makes a `Schema` of its kinds and an `Editor` of a `World`; or it loads the world. A change is a `Queue` of
+//! `Command`s, in which a `Target` is an entity or the k-th that the queue spawns; `Editor::submit` does queues as one frame
+//! and gives `Made`, the new entities. `undo` and `redo` are the editor's. `Editor::world` is read by `World::get`, which
+//! lends a `CellRef`, and by the passes, whose `Filter` says which entities they look at. What was written since a `Cursor`
+//! comes as `CellName`s. A `Refusal` says by a `Fault` why, and by a `Place` at which command; `Returned` hands back what a
+//! queue didn't take. A scene text goes through a `Source` or a `Sink`, and is refused by a `FileFault`.
+#![tactic(auto)]
+
+// Editors: frames, undo and redo.
+pub use scene_undo::{Cursor, Editor, Made};
+
+// Changes: lists of commands.
+pub use scene_commands::{Command, Components, Target};
+pub use scene_queue::{Queue, Returned};
+
+// What a scene is made of: kinds with shapes, entities, values and cells.
+pub use scene_kinds::{Cell, CellRef, Entity, KindSet, Row, Schema, Shape, Text, Value};
+
+// Reading: the world, and passes over it.
+pub use scene_pass::{CellName, Filter, added_since, changed_since, matching};
+pub use scene_world::World;
+
+// Why a call was refused.
+pub use scene_kinds::{Fault, Place, Refusal};
+
+// Scene texts: loading and saving.
+pub use scene_file::{FileFault, load, load_text, save, save_text};
+pub use scene_streams::{Sink, Source};

@@ -1,5 +1,0 @@
-use Rattle.scene_journal.proofs.ShiftedKinds.{kinds_low}
-use Rattle.scene_journal.proofs.fits_back.count_beside.Goals as goal
-
-pub mask-requires-clause-below : goal.mask-requires-clause-below
-mask-requires-clause-below c = kinds_low c.args.world.now.world c.args.cells.now c.tick-tick.ensures.valid c.requires

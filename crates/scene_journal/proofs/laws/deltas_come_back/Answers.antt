@@ -1,5 +1,0 @@
-use Rattle.scene_journal.proofs.Deltas.{deltas_come_back, delta_lists_come_back}
-use Rattle.scene_journal.proofs.laws.deltas_come_back.Goals as goal
-
-pub returns : goal.returns
-returns c = record { each = deltas_come_back; lists = delta_lists_come_back }

@@ -1,6 +1,0 @@
-use Rattle.std.proofs.Common.{◌≡◌, drop}
-use Rattle.scene_journal.specs.Timely.{rows_are_timely}
-use Rattle.scene_journal.proofs.timely.rows_are_timely.Given as goal
-
-abbrev pub invariant-loop-at : goal.invariant-loop-at
-invariant-loop-at l = rows_are_timely l.tick (drop l.at l.table.rows) ≡ rows_are_timely l.tick l.table.rows
