@@ -2,6 +2,7 @@
 use Rattle.std.specs.Prelude.{◌≡◌, ℕ, ◌<◌, ◌≤◌, List, Option, Some, None, length, slice_get, slice_set}
 use Rattle.scene_kinds.specs.declared.entity.Entity.{Entity}
 use Rattle.scene_kinds.specs.declared.cells.Row.{Row}
+use Rattle.scene_kinds.specs.KindSet.{KindSet}
 use Rattle.scene_table.specs.declared.home.Home.{Home}
 use Rattle.scene_table.specs.Tables.{Tables, EachRow, rows_at, row_at}
 use Rattle.scene_archetypes.specs.KindTables.{Rooms, HoldRows, capacity_at}
@@ -13,7 +14,7 @@ pub record ArchetypesState : Type 0 where
   pub homes : ℕ
 
 -- room for one more row of a kind set, and for the homes of this many indices
-pub record HasRoomOf (a : ArchetypesState) (mask indices : ℕ) : Type 0 where
+pub record HasRoomOf (a : ArchetypesState) (mask : KindSet) (indices : ℕ) : Type 0 where
   pub row : length (rows_at a.tables mask) < capacity_at a.rooms mask
   pub homes : indices ≤ a.homes
 

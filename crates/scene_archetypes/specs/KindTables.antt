@@ -4,6 +4,7 @@ use Rattle.std.specs.Option.{unwrap_or}
 use Rattle.std.specs.Ordering.{nat_cmp}
 use Rattle.std.specs.Cmp.{nat_cmp_total}
 use Rattle.scene_kinds.specs.Map as map
+use Rattle.scene_kinds.specs.KindSet.{KindSet}
 use Rattle.scene_table.specs.Table.{TableState}
 use Rattle.scene_table.specs.declared.home.Home.{Home}
 use Rattle.scene_table.specs.Tables.{Tables, rows_at, with_rows}
@@ -20,15 +21,15 @@ pub record TablesState : Type 0 where
 -- ---- room
 
 -- a kind set has a table, though it may have no rows
-abbrev pub IsKnown : Rooms → ℕ → Type 0
+abbrev pub IsKnown : Rooms → KindSet → Type 0
 IsKnown rooms mask = is_some (map.get rooms mask) ≡ true
 
 -- for how many rows of a kind set there is memory
-abbrev pub capacity_at : Rooms → ℕ → ℕ
+abbrev pub capacity_at : Rooms → KindSet → ℕ
 capacity_at rooms mask = unwrap_or (map.get rooms mask) 0
 
 -- there is memory for one more row of a kind set
-abbrev pub HasRoomFor : TablesState → ℕ → Type 0
+abbrev pub HasRoomFor : TablesState → KindSet → Type 0
 HasRoomFor t mask = length (rows_at t.tables mask) < capacity_at t.rooms mask
 
 -- no kind set has memory for fewer rows than before
@@ -56,18 +57,18 @@ rooms_of [] = map.empty
 rooms_of (t ∷ ts) = map.insert nat_cmp_total (rooms_of ts) t.mask t.capacity
 
 -- i is the index of the first table of a kind set
-abbrev pub IsFirstOf : List TableState → ℕ → ℕ → Type 0
+abbrev pub IsFirstOf : List TableState → KindSet → ℕ → Type 0
 IsFirstOf [] mask i = ⊥
 IsFirstOf (t ∷ ts) mask zero = t.mask ≡ mask
 IsFirstOf (t ∷ ts) mask (suc i) = (t.mask ≢ mask) × IsFirstOf ts mask i
 
 -- the table of a kind set stands at an index
-pub record StandsAt (ts : List TableState) (mask i : ℕ) : Type 0 where
+pub record StandsAt (ts : List TableState) (mask : KindSet) (i : ℕ) : Type 0 where
   pub within : i < length ts
   pub first : IsFirstOf ts mask i
 
 -- no table has a kind set
-abbrev pub NoneHas : ℕ → List TableState → Type 0
+abbrev pub NoneHas : KindSet → List TableState → Type 0
 NoneHas mask [] = Unit {0}
 NoneHas mask (t ∷ ts) = (mask ≢ t.mask) × NoneHas mask ts
 
@@ -77,15 +78,15 @@ AreApart [] = Unit {0}
 AreApart (t ∷ ts) = NoneHas t.mask ts × AreApart ts
 
 -- the kind sets of tables
-abbrev pub masks_in : List TableState → List ℕ
+abbrev pub masks_in : List TableState → List KindSet
 masks_in ts = each (λ t. t.mask) ts
 
 -- the tables' kind sets are listed in their order, and are distinct
-pub record AreListed (masks : List ℕ) (ts : List TableState) : Type 0 where
+pub record AreListed (masks : List KindSet) (ts : List TableState) : Type 0 where
   pub listed : masks ≡ masks_in ts
   pub apart : AreApart ts
 
 -- what always holds of them: they are listed, and each has memory for its rows
-pub record AreSound (masks : List ℕ) (ts : List TableState) : Type 0 where
+pub record AreSound (masks : List KindSet) (ts : List TableState) : Type 0 where
   pub listed : AreListed masks ts
   pub room : HoldRows (rooms_of ts) (tables_of ts)

@@ -3,6 +3,7 @@ ghost use Rattle.std.specs.Prelude.{◌≡◌, IfOk, map as each};
 ghost use Rattle.scene_table.specs.Tables.{rows_at, masks_of};
 ghost use Rattle.scene_archetypes.specs.KindTables.{tables_of, AreApart};
 
+use scene_kinds::KindSet;
 use scene_table::Table;
 use std::alloc::{AllocError, Global};
 
@@ -25,7 +26,7 @@ pub(crate) fn tables_by_kind_set(alloc: Global, tables: &[Table]) -> Result<Vec<
 }
 
 /// Their kind sets, at the same cost.
-pub(crate) fn kind_sets_of(alloc: Global, tables: &[Table]) -> Result<Vec<u64>, AllocError>
+pub(crate) fn kind_sets_of(alloc: Global, tables: &[Table]) -> Result<Vec<KindSet>, AllocError>
     requires { AreApart tables.now }
     ensures { IfOk result (λ sets. sets.items ≡ masks_of (tables_of tables.now)) }
 {

@@ -19,7 +19,9 @@ pub use scene_commands::{Command, Components, Target};
 pub use scene_queue::{Queue, Returned};
 
 // What a scene is made of: kinds with shapes, entities, values and cells.
-pub use scene_kinds::{Cell, CellRef, Entity, KindSet, Row, Schema, Shape, Text, Value};
+pub use scene_kinds::{
+    Cell, CellRef, Entity, KindSet, KindSetMethods, Row, Schema, Shape, Text, Value,
+};
 
 // Reading: the world, and passes over it.
 pub use scene_pass::{CellName, Filter, added_since, changed_since, matching};

@@ -1,11 +1,10 @@
 -- What the printers of a scene text write one by one. What a save writes doesn't rest on these words.
-use Rattle.std.specs.Prelude.{ℕ, ◌-◌, List, [], ◌∷◌, ◌++◌, filter, Bool, Option, Some, None, codes, decimal, map as each}
-use Rattle.std.specs.List.{range_with_len}
+use Rattle.std.specs.Prelude.{ℕ, List, [], ◌∷◌, ◌++◌, Bool, Option, Some, None, codes, decimal, map as each}
 use Rattle.serde_json.specs.Data.{Data}
 use Rattle.serde_json.specs.Written.{compact_text, items_text}
 use Rattle.scene_kinds.specs.declared.cell.Cell.{Cell}
 use Rattle.scene_kinds.specs.declared.cells.Row.{Row}
-use Rattle.scene_kinds.specs.KindSet.{has_kind}
+use Rattle.scene_kinds.specs.KindSet.{KindSet}
 use Rattle.scene_resources.specs.Resources.{NamedCells, cell_of}
 use Rattle.scene_model.specs.World.{World}
 use Rattle.scene_parts.specs.Parts.{lists_of}
@@ -15,16 +14,12 @@ use Rattle.scene_file.specs.Text.{items_of, list_text, count_text, kinds_of, kin
 abbrev pub rest_text : {A : Type 0} → Bool → (A → Data) → List A → List ℕ
 rest_text later text xs = items_text later (items_of (each text xs))
 
--- the kinds of a set. This word and the next stay folded, since they compute long
-unfoldable pub kinds_json : ℕ → Data
+-- the kinds of a set. This word stays folded, since it computes long
+unfoldable pub kinds_json : KindSet → Data
 kinds_json mask = list_text count_text (kinds_of mask)
 
--- of the kinds of a set, those from a kind on, as the elements that are still to come
-unfoldable pub kinds_rest : Bool → ℕ → ℕ → List ℕ
-kinds_rest later mask kind = rest_text later count_text (filter (has_kind mask) (range_with_len kind (64 - kind)))
-
 -- a table, kept folded too
-unfoldable pub table_json : ℕ × List Row → Data
+unfoldable pub table_json : KindSet × List Row → Data
 table_json t = table_text t
 
 -- a name with its cell, where it has one

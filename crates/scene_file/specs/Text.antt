@@ -11,7 +11,7 @@ use Rattle.scene_kinds.specs.declared.shape.Shape.{Shape}
 use Rattle.scene_kinds.specs.declared.value.Value.{Value}
 use Rattle.scene_kinds.specs.declared.value.Value.TheVariants as value
 use Rattle.scene_kinds.specs.Entity.{entity_text}
-use Rattle.scene_kinds.specs.KindSet.{has_kind}
+use Rattle.scene_kinds.specs.KindSet.{KindSet, has_kind}
 use Rattle.scene_kinds.specs.Shape.{shape_name, shape_of_value}
 use Rattle.scene_model.specs.World.{World}
 use Rattle.scene_parts.specs.Parts.{Parts, parts_of}
@@ -79,7 +79,7 @@ abbrev pub row_text : Row → Data
 row_text r = object_of ((codes "cells", list_text (λ c. cell_text c.1) r.cells) ∷ (codes "entity", entity_json r.entity) ∷ [])
 
 -- the kinds of a set, ascending
-abbrev pub kinds_of : ℕ → List ℕ
+abbrev pub kinds_of : KindSet → List ℕ
 kinds_of mask = filter (has_kind mask) (range_with_len 0 64)
 
 -- ---- the elements of the lists of a world
@@ -89,7 +89,7 @@ abbrev pub kind_text : List ℕ × Shape → Data
 kind_text kind = array_of (string kind.0 ∷ shape_text kind.1 ∷ [])
 
 -- a table: its kinds and its rows
-abbrev pub table_text : ℕ × List Row → Data
+abbrev pub table_text : KindSet × List Row → Data
 table_text t = object_of ((codes "kinds", list_text count_text (kinds_of t.0)) ∷ (codes "rows", list_text row_text t.1) ∷ [])
 
 -- a parent with its list of children

@@ -12,6 +12,7 @@ use Rattle.scene_kinds.specs.declared.shape.Shape.{Shape}
 use Rattle.scene_kinds.specs.declared.shape.Shape.TheVariants as shape
 use Rattle.scene_kinds.specs.declared.value.Value.{Value}
 use Rattle.scene_kinds.specs.declared.value.Value.TheVariants as value
+use Rattle.scene_kinds.specs.KindSet.{KindSet}
 use Rattle.scene_kinds.specs.Schema.{Kinds, is_good_name, shape_of, with_kind}
 use Rattle.scene_kinds.specs.Shape.{shape_named}
 use Rattle.scene_alloc.specs.Slots.{most_slots}
@@ -148,7 +149,7 @@ row_at kinds shapes path d =
     >>= λ cells. key_of entity_at path (codes "entity") ms >>= λ entity. Ok (record { entity = entity; cells = zip kinds cells })
 
 -- a table: its kinds, which rise, and its rows
-abbrev pub table_at : Kinds → List ℕ → Data → Result (ℕ × List Row) FileFault
+abbrev pub table_at : Kinds → List ℕ → Data → Result (KindSet × List Row) FileFault
 table_at schema path d =
     object_at (codes "kinds" ∷ codes "rows" ∷ []) path d
     >>= λ ms. key_of (rising_of (below (length schema)) nat_lt) path (codes "kinds") ms
@@ -175,7 +176,7 @@ abbrev pub name_follows : List ℕ × Cell → List ℕ × Cell → Bool
 name_follows a b = is_lt (name_cmp a.0 b.0)
 
 -- tables rise by their kind sets, as numbers
-abbrev pub table_follows : ℕ × List Row → ℕ × List Row → Bool
+abbrev pub table_follows : KindSet × List Row → KindSet × List Row → Bool
 table_follows a b = nat_lt a.0 b.0
 
 -- the keys of the object in their order

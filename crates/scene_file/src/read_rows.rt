@@ -131,7 +131,7 @@ fn set_of(kinds: &[u8]) -> KindSet
     requires { AreRising 64 None kinds.now }
     ensures { result ≡ set_of kinds.now }
 {
-    let mut set: u64 = 0;
+    let mut set: KindSet = 0;
     for kind in kinds {
         set += 1u64 << *kind;
     }

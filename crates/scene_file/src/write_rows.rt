@@ -6,7 +6,7 @@ ghost use Rattle.scene_file.specs.Text.{list_text, cell_text, row_text};
 ghost use Rattle.scene_file.specs.Printing.{kinds_json, table_json};
 
 use crate::write_values::{write_cell, write_comma, write_entity};
-use scene_kinds::{KindSet, has_kind};
+use scene_kinds::{KindSet, KindSetMethods};
 use scene_table::Table;
 use std::alloc::{AllocError, Global};
 
@@ -60,12 +60,10 @@ fn write_kind_set(out: &mut String, mask: KindSet) -> Result<(), AllocError>
 {
     let mut later = false;
     out.push_str("[")?;
-    'kinds: for kind in 0..64 {
-        if has_kind(mask, kind) {
-            write_comma(out, later)?;
-            write!(out, "{kind}")?;
-            later = true;
-        }
+    'numbers: for kind in mask.kinds() {
+        write_comma(out, later)?;
+        write!(out, "{kind}")?;
+        later = true;
     }
     out.push_str("]")
 }

@@ -1,7 +1,7 @@
 //! Worlds that are saved and loaded.
 use crate::texts::MOVED;
 use scene_file::{load, save, save_text};
-use scene_kinds::{Entity, Refusal, Schema, Shape, Value};
+use scene_kinds::{Entity, KindSet, Refusal, Schema, Shape, Value};
 use scene_lower_tests::{Pieces, Taker};
 use scene_streams::{Sink, Source};
 use scene_world::World;
@@ -16,7 +16,7 @@ const A: u8 = 0;
 const T: u8 = 1;
 
 /// The kind set of just A.
-const JUST_A: u64 = 1;
+const JUST_A: KindSet = 1;
 
 /// The first entity of an index.
 fn first(index: u32) -> Entity {

@@ -6,15 +6,15 @@ use crate::steps::Step::{
     CannotGo, CannotReturn, Children, Goes, Resource, Returns, Rows, Slots, Tick,
 };
 use crate::steps::{Step, first_wrong};
-use scene_kinds::Refusal;
+use scene_kinds::{KindSet, Refusal};
 use std::alloc::Global;
 use std::test::Fail;
 
 /// The kind set of A alone.
-const JUST_A: u64 = 1;
+const JUST_A: KindSet = 1;
 
 /// That of A and T.
-const BOTH: u64 = 3;
+const BOTH: KindSet = 3;
 
 /// Three entities come, one at each tick.
 const THREE_COME: [Step; 8] = [

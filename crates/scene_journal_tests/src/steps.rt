@@ -2,7 +2,7 @@
 use crate::changes::Change;
 use crate::scenes::first;
 use scene_deltas::{redo_delta, undo_delta};
-use scene_kinds::Entity;
+use scene_kinds::{Entity, KindSet};
 use scene_table::Home;
 use scene_world::World;
 use std::alloc::Global;
@@ -21,7 +21,7 @@ pub enum Step<'a> {
     /// A change doesn't fit back.
     CannotReturn(Change),
     /// The rows of a kind set are those of these entities, and each is at home where it stands.
-    Rows(u64, &'a [u32]),
+    Rows(KindSet, &'a [u32]),
     /// The slots have these generations and these free indices; all others are at home somewhere.
     Slots(&'a [u32], &'a [u32]),
     /// The children of an entity are these.
@@ -55,7 +55,7 @@ fn stands(world: &World, home: Home, entity: Entity, index: u32) -> bool {
         && world.mask_of(entity) == Some(home.mask)
 }
 
-fn has_rows(world: &World, mask: u64, indices: &[u32]) -> bool {
+fn has_rows(world: &World, mask: KindSet, indices: &[u32]) -> bool {
     let Some(table) = world.rows_of(mask) else {
         return indices.is_empty();
     };

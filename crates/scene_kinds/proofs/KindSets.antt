@@ -9,7 +9,8 @@ use Rattle.std.proofs.lemmas.Nat.Bits.{bit_at-zero, bit_at-lt, bit_at-pow_same, 
 use Rattle.std.proofs.lemmas.Bool.Decides.{nat_tests}
 use Rattle.scene_kinds.specs.declared.cell.Cell.{Cell}
 use Rattle.scene_kinds.specs.Cells.{IsAscending, cell_of, with_cell, without_cell, mask_of}
-use Rattle.scene_kinds.specs.KindSet.{has_kind, set_with, set_without, KindSetsHaveTheirKinds, CellsBringTheirKinds, CellsTakeTheirKinds}
+use Rattle.scene_kinds.specs.KindLaws.{KindSetsHaveTheirKinds, CellsBringTheirKinds, CellsTakeTheirKinds}
+use Rattle.scene_kinds.specs.KindSet.{has_kind, set_with, set_without}
 use Rattle.scene_kinds.proofs.CellLaws.{ascending-with_cell, ascending-without_cell, first_below, rest_ascends, below_first, below_rest, before_none, cell_of-with_cell, cell_of-without_cell}
 use Rattle.scene_kinds.proofs.Masks.{mask-cons, mask-below}
 

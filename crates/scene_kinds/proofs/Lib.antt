@@ -12,4 +12,5 @@ pub mod Places
 pub mod Positions
 pub mod Ranges
 pub mod Schemas
+pub mod Subsets
 pub mod Taken

@@ -7,6 +7,7 @@ use Rattle.scene_kinds.specs.declared.cell.Cell.{Cell}
 use Rattle.scene_kinds.specs.declared.cell.CellRef.{CellRef}
 use Rattle.scene_kinds.specs.declared.cells.Row.{Row}
 use Rattle.scene_kinds.specs.declared.value.Value.{Value}
+use Rattle.scene_kinds.specs.KindSet.{KindSet}
 
 -- a cell that is added at a tick
 abbrev pub new_cell : ℕ → Value → Cell
@@ -34,7 +35,7 @@ abbrev pub without_cell : List (ℕ × Cell) → ℕ → List (ℕ × Cell)
 without_cell cells kind = where_key nat_cmp (λ k. not (eq_by_cmp nat_cmp kind k)) cells
 
 -- the kind set of a list of cells: kind k is bit k
-abbrev pub mask_of : List (ℕ × Cell) → ℕ
+abbrev pub mask_of : List (ℕ × Cell) → KindSet
 mask_of cells = sum_by (λ c. 2 ^ c.0) cells
 
 -- each kind is below a bound, as the number of kinds of a schema
@@ -42,7 +43,7 @@ abbrev pub AreKindsBelow : ℕ → List (ℕ × Cell) → Type 0
 AreKindsBelow bound cells = list_all (λ c. nat_lt c.0 bound) cells ≡ true
 
 -- a row has just the kinds of a set, ascending
-pub record HasKinds (mask : ℕ) (row : Row) : Type 0 where
+pub record HasKinds (mask : KindSet) (row : Row) : Type 0 where
   pub ascending : IsAscending row.cells
   pub kinds : mask_of row.cells ≡ mask
 

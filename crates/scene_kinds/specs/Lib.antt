@@ -2,6 +2,7 @@ pub mod Answers
 pub mod Cells
 pub mod Entity
 pub mod Fault
+pub mod KindLaws
 pub mod KindSet
 pub mod Lists
 pub mod Map

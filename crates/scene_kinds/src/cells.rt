@@ -6,6 +6,7 @@ ghost use Rattle.scene_kinds.specs.Cells.{cell_of, with_cell, without_cell, mask
 
 use crate::cell::{Cell, CellRef};
 use crate::entity::Entity;
+use crate::kind_set::KindSet;
 use std::alloc::{AllocError, Global};
 use std::marker::Model;
 
@@ -123,7 +124,7 @@ impl Cells {
     }
 
     /// The set of the kinds, in which kind k is bit k. It costs a walk over the cells.
-    pub fn mask(&self) -> u64
+    pub fn mask(&self) -> KindSet
         requires ascending { IsAscending self.now }
         requires below { AreKindsBelow 64 self.now }
         ensures { result ≡ mask_of self.now }
@@ -207,12 +208,12 @@ fn put_cell(items: &mut Vec<(u8, Cell)>, kind: u8, cell: Cell) -> Result<(), All
 }
 
 /// The sum of the bits of the kinds.
-fn mask_of_kinds(items: &[(u8, Cell)]) -> u64
+fn mask_of_kinds(items: &[(u8, Cell)]) -> KindSet
     requires ascending { IsAscending items.now }
     requires below { AreKindsBelow 64 items.now }
     ensures { result ≡ mask_of items.now }
 {
-    let mut mask: u64 = 0;
+    let mut mask: KindSet = 0;
     for item in items {
         mask += 1u64 << item.0;
     }

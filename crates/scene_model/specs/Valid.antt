@@ -9,6 +9,7 @@ use Rattle.scene_kinds.specs.Cells.{HasKinds}
 use Rattle.scene_kinds.specs.Map as map
 use Rattle.scene_kinds.specs.Ranges.{is_in_range}
 use Rattle.scene_kinds.specs.Schema.{Kinds, IsSchema, fits_kind, is_good_name}
+use Rattle.scene_kinds.specs.KindSet.{KindSet}
 use Rattle.scene_alloc.specs.Slots.{SlotState, IsSlots, is_free, highest}
 use Rattle.scene_links.specs.Forest.{Forest, IsForest, IsLink}
 use Rattle.scene_resources.specs.Resources.{NamedCells}
@@ -20,7 +21,7 @@ abbrev pub IsCurrent : SlotState → Entity → Type 0
 IsCurrent slots e = slice_get slots.generations e.index ≡ Some e.generation
 
 -- a row has just its kind set's kinds, ascending, all in the schema, each cell with a value of its kind's shape
-pub record IsRowOf (schema : Kinds) (mask : ℕ) (row : Row) : Type 0 where
+pub record IsRowOf (schema : Kinds) (mask : KindSet) (row : Row) : Type 0 where
   pub kinds : HasKinds mask row
   pub shapes : list_all (λ c. fits_kind schema c.1.value c.0) row.cells ≡ true
 
@@ -30,7 +31,7 @@ is_timely tick c = nat_le c.added c.changed && nat_le c.changed tick
 
 -- rules 3, 5, 7 and 10 of a row: its entity has its slot's generation and an index that isn't free, its cells fit its table and the schema, and
 -- their ticks are in order
-pub record IsSoundRow (schema : Kinds) (slots : SlotState) (tick mask : ℕ) (row : Row) : Type 0 where
+pub record IsSoundRow (schema : Kinds) (slots : SlotState) (tick : ℕ) (mask : KindSet) (row : Row) : Type 0 where
   pub current : IsCurrent slots row.entity
   pub busy : is_free slots row.entity.index ≡ false
   pub fits : IsRowOf schema mask row

@@ -10,6 +10,7 @@ use Rattle.scene_kinds.specs.Cells.{cell_of}
 use Rattle.scene_kinds.specs.Lists.{whole}
 use Rattle.scene_kinds.specs.Map as map
 use Rattle.scene_kinds.specs.Schema.{Kinds}
+use Rattle.scene_kinds.specs.KindSet.{KindSet}
 use Rattle.scene_table.specs.Tables.{Tables, rows_at, row_at, home_in, lives, masks_of}
 use Rattle.scene_alloc.specs.Slots.{SlotState}
 use Rattle.scene_links.specs.Forest.{Forest}
@@ -34,7 +35,7 @@ abbrev pub is_live : World → Entity → Bool
 is_live w e = lives w.tables e
 
 -- the kind set of a live entity
-abbrev pub mask_at : World → Entity → Option ℕ
+abbrev pub mask_at : World → Entity → Option KindSet
 mask_at w e = option_map (λ h. h.mask) (home_of w e)
 
 -- the place of a live entity's row in the list of its kind set
@@ -42,11 +43,11 @@ abbrev pub place_at : World → Entity → Option ℕ
 place_at w e = option_map (λ h. h.place) (home_of w e)
 
 -- the rows of a kind set that has rows
-abbrev pub rows_of : World → ℕ → Option (List Row)
+abbrev pub rows_of : World → KindSet → Option (List Row)
 rows_of w mask = option_map whole (map.get w.tables mask)
 
 -- the kind sets that have rows, ascending
-abbrev pub kind_sets : World → List ℕ
+abbrev pub kind_sets : World → List KindSet
 kind_sets w = masks_of w.tables
 
 -- the home and the row of a live entity

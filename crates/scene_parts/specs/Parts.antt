@@ -8,6 +8,7 @@ use Rattle.scene_kinds.specs.declared.entity.Entity.{Entity}
 use Rattle.scene_kinds.specs.declared.cell.Cell.{Cell}
 use Rattle.scene_kinds.specs.declared.cells.Row.{Row}
 use Rattle.scene_kinds.specs.Entity.{entity_cmp_total}
+use Rattle.scene_kinds.specs.KindSet.{KindSet}
 use Rattle.scene_kinds.specs.Lists.{whole, with_list}
 use Rattle.scene_kinds.specs.Map as map
 use Rattle.scene_kinds.specs.Ranges.{is_in_range}
@@ -25,7 +26,7 @@ pub record Parts : Type 0 where
   pub tick : ℕ
   pub generations : List ℕ
   pub free : List ℕ
-  pub tables : List (ℕ × List Row)
+  pub tables : List (KindSet × List Row)
   pub children : List (Entity × List Entity)
   pub resources : List (List ℕ × Cell)
 
@@ -55,7 +56,7 @@ module _ {K X : Type 0} {R : K → K → Ordering} where
   lists_of m = each (λ e. (e.0, whole e.1)) m.entries
 
 -- listed tables as the map from kind sets to rows
-abbrev pub tables_of : List (ℕ × List Row) → Tables
+abbrev pub tables_of : List (KindSet × List Row) → Tables
 tables_of ts = map_of nat_cmp_total ts
 
 -- listed children as the map from parents to children

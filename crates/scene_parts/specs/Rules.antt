@@ -8,6 +8,7 @@ use Rattle.scene_kinds.specs.declared.cells.Row.{Row}
 use Rattle.scene_kinds.specs.Cells.{mask_of}
 use Rattle.scene_kinds.specs.Entity.{is_same}
 use Rattle.scene_kinds.specs.Schema.{Kinds, fits_kind, is_good_name}
+use Rattle.scene_kinds.specs.KindSet.{KindSet}
 use Rattle.scene_alloc.specs.Slots.{is_free, most_slots}
 use Rattle.scene_links.specs.Forest.{Forest, parent_of, parents}
 use Rattle.scene_resources.specs.Resources.{name_cmp}
@@ -73,7 +74,7 @@ abbrev pub indices_are_accounted : Parts → Bool
 indices_are_accounted p = list_all (is_accounted p) (range_with_len 0 (length p.generations))
 
 -- a row has just the kinds of a set, ascending, and each cell fits its kind
-abbrev pub is_row_of : Kinds → ℕ → Row → Bool
+abbrev pub is_row_of : Kinds → KindSet → Row → Bool
 is_row_of schema mask r =
     is_sorted nat_cmp r.cells && nat_eq (mask_of r.cells) mask && list_all (λ c. fits_kind schema c.1.value c.0) r.cells
 

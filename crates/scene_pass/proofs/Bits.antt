@@ -1,12 +1,11 @@
--- What the tests of kind sets by their bits say of each kind.
-use Rattle.std.proofs.Common.{◌≡◌, ◌<◌, ℕ, true, ◌&&◌, nat_eq, min, ap, sym, ◌∙◌, arith}
+-- What the match of a filter says of each kind.
+use Rattle.std.proofs.Common.{◌≡◌, ℕ, Bool, true, false, ◌&&◌, nat_eq, refl, ap, sym, ◌∙◌}
 use Rattle.std.specs.Prelude.{IsTrue, ◌↔◌, bit_and}
-use Rattle.std.specs.Int.{bit_at}
 use Rattle.std.specs.Int.Bits.{and_zero_r}
-use Rattle.std.proofs.lemmas.Bool.{and_parts, and_from, eq-eqb, eqb-true}
-use Rattle.std.proofs.lemmas.Nat.Bits.{bit_at_and, bit_at-zero, bit_at-lt, same_from_bits}
+use Rattle.std.proofs.lemmas.Bool.{and_parts, and_from, eq-eqb}
+use Rattle.scene_kinds.specs.KindSet.{has_kind, is_subset, is_disjoint}
+use Rattle.scene_kinds.proofs.Subsets.{subset_by_kinds, disjoint_by_kinds}
 use Rattle.scene_pass.specs.declared.filter.Filter.{Filter}
-use Rattle.scene_kinds.specs.KindSet.{has_kind}
 use Rattle.scene_pass.specs.Filter.{is_match, SaysEachKind}
 
 -- two tests of numbers that hold
@@ -18,25 +17,13 @@ pub nothing_asked : (f : Filter) → f.need ≡ 0 → f.without ≡ 0 → (mask 
 nothing_asked f need without mask =
     both_equal _ _ _ _ (ap (bit_and mask) need ∙ (and_zero_r mask ∙ sym need)) (ap (bit_and mask) without ∙ and_zero_r mask)
 
--- a kind that a set has is a bit that is set
-bit : (mask kind : ℕ) → has_kind mask kind ≡ true → bit_at mask kind ≡ 1
-bit mask kind h = eqb-true (bit_at mask kind) 1 h
+-- what is false isn't true, and the other way round
+not_both : (b : Bool) → b ≡ false → b ≡ true → ⊥
+not_both b p q = absurd (let e : false ≡ true = sym p ∙ q in cc)
 
-has : (n : ℕ) → n ≡ 1 → nat_eq n 1 ≡ true
-has n e = eq-eqb n 1 e
-
--- a bit that is in both is in each, and one that is in each is in both
-all_bits : (mask need kind : ℕ) → bit_and mask need ≡ need → has_kind need kind ≡ true → has_kind mask kind ≡ true
-all_bits mask need kind e h = has (bit_at mask kind) (omega (arith, bit_at_and mask need kind, ap (λ n. bit_at n kind) e, bit_at-lt mask kind, bit need kind h))
-
-no_bits : (mask without kind : ℕ) → bit_and mask without ≡ 0 → has_kind without kind ≡ true → has_kind mask kind ≡ true → ⊥
-no_bits mask without kind e h g = omega (arith, bit_at_and mask without kind, ap (λ n. bit_at n kind) e, bit_at-zero kind, bit without kind h, bit mask kind g)
-
-bits_in : (a b : ℕ) → a < 2 → b < 2 → (b ≡ 1 → a ≡ 1) → min a b ≡ b
-bits_in a b p q h = grind arith
-
-bits_apart : (a b : ℕ) → a < 2 → b < 2 → (b ≡ 1 → a ≡ 1 → ⊥) → min a b ≡ 0
-bits_apart a b p q h = grind arith
+not_true : (b : Bool) → (b ≡ true → ⊥) → b ≡ false
+not_true true h = absurd (h refl)
+not_true false h = refl
 
 -- a filter matches just where it says so of each kind
 pub each_kind : (f : Filter) (mask : ℕ) → IsTrue (is_match f mask) ↔ SaysEachKind f mask
@@ -45,9 +32,9 @@ each_kind f mask = (says, holds)
     says : IsTrue (is_match f mask) → SaysEachKind f mask
     says t kind =
         let parts = and_parts _ _ t in
-        (all_bits mask f.need kind (eqb-true _ _ parts.0), no_bits mask f.without kind (eqb-true _ _ parts.1))
+        ((subset_by_kinds f.need mask).0 parts.0 kind, λ h g. not_both (has_kind f.without kind) ((disjoint_by_kinds mask f.without).0 parts.1 kind g) h)
 
     holds : SaysEachKind f mask → IsTrue (is_match f mask)
-    holds s = both_equal _ _ _ _
-        (same_from_bits (bit_and mask f.need) f.need (λ k. bit_at_and mask f.need k ∙ bits_in _ _ (bit_at-lt mask k) (bit_at-lt f.need k) (λ e. bit mask k ((s k).0 (has _ e)))))
-        (same_from_bits (bit_and mask f.without) 0 (λ k. bit_at_and mask f.without k ∙ (bits_apart _ _ (bit_at-lt mask k) (bit_at-lt f.without k) (λ e g. (s k).1 (has _ e) (has _ g)) ∙ sym (bit_at-zero k))))
+    holds s = and_from (is_subset f.need mask) (is_disjoint mask f.without)
+        ((subset_by_kinds f.need mask).1 (λ k. (s k).0))
+        ((disjoint_by_kinds mask f.without).1 (λ k g. not_true (has_kind f.without k) (λ h. (s k).1 h g)))

@@ -5,6 +5,7 @@ use Rattle.scene_kinds.specs.declared.cell.Cell.{Cell}
 use Rattle.scene_kinds.specs.declared.shape.Shape.TheVariants as shape
 use Rattle.scene_kinds.specs.declared.value.Value.TheVariants as value
 use Rattle.scene_kinds.specs.Map as map
+use Rattle.scene_kinds.specs.KindSet.{KindSet}
 use Rattle.scene_model.specs.World.{World}
 use Rattle.scene_pass.specs.declared.filter.Filter.{Filter}
 use Rattle.scene_pass.specs.declared.cell_name.CellName.{CellName}
@@ -43,7 +44,7 @@ three_tables = record {
 }
 
 -- a filter, by its two kind sets
-abbrev pub filter : ℕ → ℕ → Filter
+abbrev pub filter : KindSet → KindSet → Filter
 filter need without = record { need = need; without = without }
 
 -- the name of a cell, by the index of its entity and its kind

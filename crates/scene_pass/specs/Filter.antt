@@ -1,21 +1,13 @@
--- What a filter matches. A kind set is a number in which kind k is bit k.
-use Rattle.std.specs.Prelude.{◌≡◌, ℕ, Bool, true, ◌&&◌, nat_eq, bit_and}
-use Rattle.scene_kinds.specs.KindSet.{has_kind}
+-- What a filter matches.
+use Rattle.std.specs.Prelude.{◌≡◌, ℕ, Bool, true, ◌&&◌}
+use Rattle.scene_kinds.specs.KindSet.{KindSet, has_kind, is_subset, is_disjoint}
 use Rattle.scene_pass.specs.declared.filter.Filter.{Filter}
 
--- a kind set has every kind of another one
-abbrev pub has_all : ℕ → ℕ → Bool
-has_all mask need = nat_eq (bit_and mask need) need
-
--- a kind set has no kind of another one
-abbrev pub has_none : ℕ → ℕ → Bool
-has_none mask without = nat_eq (bit_and mask without) 0
-
 -- a filter matches the kind sets that have every kind of `need` and none of `without`
-abbrev pub is_match : Filter → ℕ → Bool
-is_match filter mask = has_all mask filter.need && has_none mask filter.without
+abbrev pub is_match : Filter → KindSet → Bool
+is_match filter mask = is_subset filter.need mask && is_disjoint mask filter.without
 
 -- what that says of each kind
-abbrev pub SaysEachKind : Filter → ℕ → Type 0
+abbrev pub SaysEachKind : Filter → KindSet → Type 0
 SaysEachKind filter mask = (kind : ℕ)
     → (has_kind filter.need kind ≡ true → has_kind mask kind ≡ true) × (has_kind filter.without kind ≡ true → has_kind mask kind ≡ true → ⊥)

@@ -4,6 +4,7 @@ use Rattle.std.specs.List.{filter, flat_map}
 use Rattle.scene_kinds.specs.declared.entity.Entity.{Entity}
 use Rattle.scene_kinds.specs.declared.cell.Cell.{Cell}
 use Rattle.scene_kinds.specs.declared.cells.Row.{Row}
+use Rattle.scene_kinds.specs.KindSet.{KindSet}
 use Rattle.scene_model.specs.World.{World, kind_sets}
 use Rattle.scene_table.specs.Tables.{rows_at}
 use Rattle.scene_pass.specs.declared.filter.Filter.{Filter}
@@ -11,7 +12,7 @@ use Rattle.scene_pass.specs.declared.cell_name.CellName.{CellName}
 use Rattle.scene_pass.specs.Filter.{is_match}
 
 -- the rows of a kind set where the filter matches it
-abbrev pub rows_in : World → Filter → ℕ → List Row
+abbrev pub rows_in : World → Filter → KindSet → List Row
 rows_in w f mask = if is_match f mask then rows_at w.tables mask else []
 
 -- the rows of the matching kind sets: by ascending kind set, then by place

@@ -2,12 +2,14 @@
 ghost use Rattle.std.specs.Prelude.{◌≡◌, ℕ, true};
 ghost use Rattle.scene_pass.specs.Filter.{is_match};
 
+use scene_kinds::{KindSet, KindSetMethods};
+
 /// Which kind sets a pass reads: those that have every kind of `need` and none of `without` (docs/MODEL.md, "The
-/// rule of queries"). Both are kind sets, in which kind k is bit k.
+/// rule of queries").
 #[derive(Clone, Copy, Debug, PartialEq, Eq)]
 pub struct Filter {
-    pub need: u64,
-    pub without: u64,
+    pub need: KindSet,
+    pub without: KindSet,
 }
 
 impl Filter {
@@ -26,9 +28,9 @@ impl Filter {
 
     /// Whether a kind set has every kind of `need` and none of `without`. A filter that asks for a kind in both
     /// matches none.
-    pub fn matches(self, mask: u64) -> bool
+    pub fn matches(self, mask: KindSet) -> bool
         ensures { result ≡ is_match self mask }
     {
-        mask & self.need == self.need && mask & self.without == 0
+        self.need.is_subset(mask) && mask.is_disjoint(self.without)
     }
 }

@@ -1,13 +1,13 @@
 -- What the bodies below `show` find one by one. How a world prints doesn't rest on these words.
 use Rattle.std.specs.Prelude.{ℕ, List, [], ◌∷◌, ◌++◌, Option, Some, None, if◌then◌else◌}
 use Rattle.scene_kinds.specs.declared.cell.Cell.{Cell}
-use Rattle.scene_kinds.specs.KindSet.{has_kind}
+use Rattle.scene_kinds.specs.KindSet.{KindSet, has_kind}
 use Rattle.scene_kinds.specs.Schema.{Kinds, name_of}
 use Rattle.scene_resources.specs.Resources.{NamedCells, cell_of}
 use Rattle.scene_show.specs.Shown.{resource_text}
 
 -- the name of a kind that a kind set has
-abbrev pub name_in : Kinds → ℕ → ℕ → Option (List ℕ)
+abbrev pub name_in : Kinds → KindSet → ℕ → Option (List ℕ)
 name_in kinds mask k = if has_kind mask k then name_of kinds k else None
 
 -- a name that may be there, as a list

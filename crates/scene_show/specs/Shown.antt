@@ -4,7 +4,7 @@ use Rattle.scene_kinds.specs.declared.cells.Row.{Row}
 use Rattle.scene_kinds.specs.declared.cell.Cell.{Cell}
 use Rattle.scene_kinds.specs.declared.entity.Entity.{Entity}
 use Rattle.scene_kinds.specs.Entity.{entity_text}
-use Rattle.scene_kinds.specs.KindSet.{has_kind}
+use Rattle.scene_kinds.specs.KindSet.{KindSet, has_kind}
 use Rattle.scene_kinds.specs.Schema.{Kinds}
 use Rattle.scene_kinds.specs.Shape.{shape_name, shape_of_value}
 use Rattle.scene_links.specs.Forest.{Forest, children_of, parents}
@@ -18,7 +18,7 @@ numbers_text [] = []
 numbers_text (n ∷ ns) = 32 ∷ (decimal n ++ numbers_text ns)
 
 -- the names of the kinds from number k on that a kind set has
-abbrev pub names_from : Kinds → ℕ → ℕ → List (List ℕ)
+abbrev pub names_from : Kinds → ℕ → KindSet → List (List ℕ)
 names_from [] k mask = []
 names_from (s ∷ ss) k mask = if has_kind mask k then s.0 ∷ names_from ss (k + 1) mask else names_from ss (k + 1) mask
 
@@ -38,11 +38,11 @@ rows_text kinds [] = []
 rows_text kinds (r ∷ rs) = row_text kinds r ++ (10 ∷ rows_text kinds rs)
 
 -- a kind set by its names, and its rows
-abbrev pub table_text : Kinds → ℕ → List Row → List ℕ
+abbrev pub table_text : Kinds → KindSet → List Row → List ℕ
 table_text kinds mask rows = codes "table " ++ (names_text (names_from kinds 0 mask) ++ (10 ∷ rows_text kinds rows))
 
 -- the tables of kind sets
-abbrev pub tables_text : World → List ℕ → List ℕ
+abbrev pub tables_text : World → List KindSet → List ℕ
 tables_text w [] = []
 tables_text w (mask ∷ masks) = table_text w.schema mask (rows_at w.tables mask) ++ tables_text w masks
 

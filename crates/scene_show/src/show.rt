@@ -9,7 +9,7 @@ ghost use Rattle.scene_script.specs.Printed.{cells_text, row_text};
 ghost use Rattle.scene_show.specs.Shown.{numbers_text, names_from, more_names, names_text, rows_text, table_text, tables_text, entities_text, link_text, links_text, resource_text, resources_text, head_text, show_text};
 ghost use Rattle.scene_show.specs.ShowSteps.{name_in, one_name, one_resource, named_text};
 
-use scene_kinds::{Cell, Entity, Schema, has_kind};
+use scene_kinds::{Cell, Entity, KindSet, KindSetMethods, Schema};
 use scene_links::Links;
 use scene_resources::Resources;
 use scene_script::{write_cell, write_row_cell, write_row_head};
@@ -28,11 +28,10 @@ fn write_numbers(out: &mut String, numbers: &[u32]) -> Result<(), AllocError>
 }
 
 /// The name of a kind that a kind set has.
-fn name_in(schema: &Schema, mask: u64, kind: u8) -> Option<&str>
-    requires { kind < 64 }
+fn name_in(schema: &Schema, mask: KindSet, kind: u8) -> Option<&str>
     ensures { option_map (λ n. n.now) result ≡ name_in schema.now mask kind }
 {
-    if has_kind(mask, kind) {
+    if mask.contains(kind) {
         schema.name_of(kind)
     } else {
         None
@@ -50,7 +49,11 @@ fn push_some<'s>(names: &mut Vec<&'s str>, name: Option<&'s str>) -> Result<(), 
 }
 
 /// The names of the kinds that a kind set has, by their numbers.
-fn names_of<'s>(alloc: Global, schema: &'s Schema, mask: u64) -> Result<Vec<&'s str>, AllocError>
+fn names_of<'s>(
+    alloc: Global,
+    schema: &'s Schema,
+    mask: KindSet,
+) -> Result<Vec<&'s str>, AllocError>
     ensures { IfOk result (λ names. map (λ n. n.now) names.items ≡ names_from schema.now 0 mask) }
 {
     let mut names = Vec::new(alloc);
@@ -144,7 +147,7 @@ fn write_rows_of(
     alloc: Global,
     out: &mut String,
     world: &World,
-    mask: u64,
+    mask: KindSet,
 ) -> Result<(), AllocError>
     ensures { OnOk result (string_bytes out.new ≡ string_bytes out.old ++ rows_text world.now.world.schema (rows_at world.now.world.tables mask)) }
 {
@@ -155,7 +158,12 @@ fn write_rows_of(
 }
 
 /// Adds a table: the names of its kind set, and its rows.
-fn write_table(alloc: Global, out: &mut String, world: &World, mask: u64) -> Result<(), AllocError>
+fn write_table(
+    alloc: Global,
+    out: &mut String,
+    world: &World,
+    mask: KindSet,
+) -> Result<(), AllocError>
     ensures { OnOk result (string_bytes out.new ≡ string_bytes out.old ++ table_text world.now.world.schema mask
         (rows_at world.now.world.tables mask)) }
 {
@@ -171,7 +179,7 @@ fn write_tables(
     alloc: Global,
     out: &mut String,
     world: &World,
-    masks: &[u64],
+    masks: &[KindSet],
 ) -> Result<(), AllocError>
     ensures { OnOk result (string_bytes out.new ≡ string_bytes out.old ++ tables_text world.now.world masks.now) }
 {

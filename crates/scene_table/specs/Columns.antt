@@ -6,6 +6,7 @@ use Rattle.scene_kinds.specs.declared.cell.Cell.{Cell}
 use Rattle.scene_kinds.specs.declared.cells.Row.{Row}
 use Rattle.scene_kinds.specs.declared.entity.Entity.{Entity}
 use Rattle.scene_kinds.specs.declared.value.Value.{Value}
+use Rattle.scene_kinds.specs.KindSet.{KindSet}
 use Rattle.scene_table.specs.Rows.{swap_out, put_back}
 
 -- two lists, made one element by element
@@ -98,11 +99,11 @@ least capacity [] = capacity
 least capacity (column ∷ columns) = min column.capacity (least capacity columns)
 
 -- a row with just the kinds of these columns, in order, has just the kinds of a set
-abbrev pub AreColumnsOf : ℕ → List ColumnState → Type 0
+abbrev pub AreColumnsOf : KindSet → List ColumnState → Type 0
 AreColumnsOf mask columns = (row : Row) → kinds_in row.cells ≡ kinds_of columns → HasKinds mask row
 
 -- what holds in a table: its columns are as long as its entities, once it has memory they are those of its kinds, and its rows fit
-pub record IsTable (mask : ℕ) (entities : List Entity) (capacity : ℕ) (columns : List ColumnState) : Type 0 where
+pub record IsTable (mask : KindSet) (entities : List Entity) (capacity : ℕ) (columns : List ColumnState) : Type 0 where
   pub long : AreLong (length entities) columns
   pub kinds : 0 < capacity → AreColumnsOf mask columns
   pub fits : length entities ≤ least capacity columns

@@ -4,10 +4,11 @@ use Rattle.std.specs.Option.{option_map, option_flatten, unwrap_or}
 use Rattle.scene_kinds.specs.Cells.{HasKinds, cell_of, with_cell, without_cell}
 use Rattle.scene_kinds.specs.declared.cell.Cell.{Cell}
 use Rattle.scene_kinds.specs.declared.cells.Row.{Row}
+use Rattle.scene_kinds.specs.KindSet.{KindSet}
 
 -- the table's kind set, its rows, and for how many rows it has memory: the least over the entities and all columns
 pub record TableState : Type 0 where
-  pub mask : ℕ
+  pub mask : KindSet
   pub rows : List Row
   pub capacity : ℕ
 
@@ -16,7 +17,7 @@ abbrev pub HasRoom : TableState → Type 0
 HasRoom t = length t.rows < t.capacity
 
 -- each row has just the kinds of a set
-abbrev pub AllHave : ℕ → List Row → Type 0
+abbrev pub AllHave : KindSet → List Row → Type 0
 AllHave mask rows = All (HasKinds mask) rows
 
 -- the cell of a kind in the row at a place, if that row is there and has the kind

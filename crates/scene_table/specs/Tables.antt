@@ -11,6 +11,7 @@ use Rattle.scene_kinds.specs.Cells.{mask_of}
 use Rattle.scene_kinds.specs.Entity.{is_same}
 use Rattle.scene_kinds.specs.Lists.{whole, list_at, with_list}
 use Rattle.scene_kinds.specs.Map as map
+use Rattle.scene_kinds.specs.KindSet.{KindSet}
 use Rattle.scene_table.specs.declared.home.Home.{Home}
 use Rattle.scene_table.specs.Rows.{swap_out, put_back}
 
@@ -19,11 +20,11 @@ abbrev pub Tables : Type 0
 Tables = map.Map nat_cmp (Row × List Row)
 
 -- the rows of a kind set, none where it has no table
-abbrev pub rows_at : Tables → ℕ → List Row
+abbrev pub rows_at : Tables → KindSet → List Row
 rows_at tables mask = list_at tables mask
 
 -- the tables with these rows at a kind set; no kind set stands with no rows
-abbrev pub with_rows : Tables → ℕ → List Row → Tables
+abbrev pub with_rows : Tables → KindSet → List Row → Tables
 with_rows tables mask rows = with_list nat_cmp_total tables mask rows
 
 -- the row at a home
@@ -47,7 +48,7 @@ abbrev pub row_place : Entity → List Row → Option ℕ
 row_place e rows = position_from (λ r. is_same r.entity e) 0 rows
 
 -- the first home of an entity over kind sets with rows
-abbrev pub home_in : Entity → List (ℕ × (Row × List Row)) → Option Home
+abbrev pub home_in : Entity → List (KindSet × (Row × List Row)) → Option Home
 home_in e [] = None
 home_in e (t ∷ ts) = option_or (option_map (λ p. record { mask = t.0; place = p }) (row_place e (whole t.1))) (home_in e ts)
 
@@ -56,13 +57,13 @@ abbrev pub lives : Tables → Entity → Bool
 lives tables e = is_some (home_in e tables.entries)
 
 -- the kind sets with rows, ascending
-abbrev pub masks_of : Tables → List ℕ
+abbrev pub masks_of : Tables → List KindSet
 masks_of tables = each (λ t. t.0) tables.entries
 
 -- ---- facts of all rows
 
 -- a fact of each row, with the kind set under which it stands
-abbrev pub EachRow : (ℕ → Row → Type 0) → Tables → Type 0
+abbrev pub EachRow : (KindSet → Row → Type 0) → Tables → Type 0
 EachRow P tables = (h : Home) (row : Row) → row_at tables h ≡ Some row → P h.mask row
 
 -- no two rows are one entity's

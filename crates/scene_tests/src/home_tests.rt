@@ -1,5 +1,5 @@
 //! Where each entity's row stands, after each step of moves that were worked out by hand.
-use scene_kinds::{Entity, Refusal, Schema, Shape, Value};
+use scene_kinds::{Entity, KindSet, Refusal, Schema, Shape, Value};
 use scene_table::Home;
 use scene_world::World;
 use std::alloc::Global;
@@ -11,9 +11,9 @@ const A: u8 = 0;
 const B: u8 = 1;
 
 /// All sets of them. Just A is the second.
-const KIND_SETS: [u64; 4] = [0, 1, 2, 3];
+const KIND_SETS: [KindSet; 4] = [0, 1, 2, 3];
 
-const JUST_A: u64 = 1;
+const JUST_A: KindSet = 1;
 
 /// A call that moves rows. An entity is the first one of an index.
 #[derive(Clone, Copy)]
@@ -87,7 +87,7 @@ fn is_done(alloc: Global, world: &mut World, step: Step) -> bool {
 }
 
 /// The entities of a kind set, in the order of their rows.
-fn entities_of(world: &World, mask: u64) -> &[Entity] {
+fn entities_of(world: &World, mask: KindSet) -> &[Entity] {
     match world.rows_of(mask) {
         Some(table) => table.entities(),
         None => &[],
@@ -95,7 +95,7 @@ fn entities_of(world: &World, mask: u64) -> &[Entity] {
 }
 
 /// Whether the entities of a kind set have these indices, in the order of their rows.
-fn has_rows(world: &World, mask: u64, indices: &[u32]) -> bool {
+fn has_rows(world: &World, mask: KindSet, indices: &[u32]) -> bool {
     let entities = entities_of(world, mask);
     entities.len() == indices.len()
         && entities
@@ -105,7 +105,7 @@ fn has_rows(world: &World, mask: u64, indices: &[u32]) -> bool {
 }
 
 /// Whether each row of a kind set stands where the readers of a world say of its entity.
-fn rows_have_homes(world: &World, mask: u64) -> bool {
+fn rows_have_homes(world: &World, mask: KindSet) -> bool {
     let entities = entities_of(world, mask);
     for place in 0..entities.len() {
         let entity = entities[place];

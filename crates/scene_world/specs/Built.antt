@@ -12,6 +12,7 @@ use Rattle.scene_links.specs.Room.{IsAlone}
 use Rattle.scene_kinds.specs.Answers.{refusal_of}
 use Rattle.scene_kinds.specs.declared.fault.Fault.TheVariants.{BadWorld}
 use Rattle.scene_kinds.specs.declared.refusal.Refusal.{Refusal}
+use Rattle.scene_kinds.specs.KindSet.{KindSet}
 use Rattle.scene_model.specs.World.{World}
 use Rattle.scene_parts.specs.Parts.{Parts, keys, forest_of, world_of}
 use Rattle.scene_parts.specs.Rules.{flat, are_distinct, first_broken}
@@ -19,13 +20,13 @@ use Rattle.scene_parts.specs.Rules.{flat, are_distinct, first_broken}
 -- ---- rows
 
 -- a row may be added: it is of a kind set, its index is below a count, and no row has that index
-pub record IsTakable (tables : Tables) (mask count : ℕ) (row : Row) : Type 0 where
+pub record IsTakable (tables : Tables) (mask : KindSet) (count : ℕ) (row : Row) : Type 0 where
   pub kinds : HasKinds mask row
   pub low : row.entity.index < count
   pub unused : NoneOf row.entity.index tables
 
 -- rows may be added one after another
-abbrev pub CanTake : Tables → ℕ → ℕ → List Row → Type 0
+abbrev pub CanTake : Tables → KindSet → ℕ → List Row → Type 0
 CanTake tables mask count [] = Unit {0}
 CanTake tables mask count (r ∷ rs) = IsTakable tables mask count r × CanTake (with_row tables r) mask count rs
 
@@ -35,7 +36,7 @@ taken tables [] = tables
 taken tables (r ∷ rs) = taken (with_row tables r) rs
 
 -- tables of distinct kind sets, each row of its own, and each of another index below a count
-pub record AreStorable (count : ℕ) (ts : List (ℕ × List Row)) : Type 0 where
+pub record AreStorable (count : ℕ) (ts : List (KindSet × List Row)) : Type 0 where
   pub apart : IsDistinct (eq_by_cmp nat_cmp) (keys ts)
   pub kinds : AllByRecursion (λ t. AllByRecursion (HasKinds t.0) t.1) ts
   pub low : list_all (λ r. nat_lt r.entity.index count) (flat ts) ≡ true

@@ -3,7 +3,7 @@ use Rattle.std.specs.Prelude.{◌≡◌, ℕ, ◌<◌, ◌≤◌, List, Bool, tr
 use Rattle.scene_kinds.specs.declared.cell.Cell.{Cell}
 use Rattle.scene_kinds.specs.declared.cells.Row.{Row}
 use Rattle.scene_kinds.specs.Cells.{HasKinds, AreKindsBelow, cell_of, mask_of}
-use Rattle.scene_kinds.specs.KindSet.{set_with, set_without}
+use Rattle.scene_kinds.specs.KindSet.{KindSet, set_with, set_without}
 use Rattle.scene_table.specs.declared.home.Home.{Home}
 use Rattle.scene_table.specs.Tables.{rows_at}
 use Rattle.scene_archetypes.specs.KindTables.{capacity_at}
@@ -16,7 +16,7 @@ IsCellToMove cells kind cell true = cell_of cells kind ≡ None
 IsCellToMove cells kind cell false = cell_of cells kind ≡ Some cell
 
 -- the kind set with one kind more, or less
-abbrev pub moved_mask : ℕ → ℕ → Bool → ℕ
+abbrev pub moved_mask : KindSet → ℕ → Bool → KindSet
 moved_mask mask kind true = set_with mask kind
 moved_mask mask kind false = set_without mask kind
 

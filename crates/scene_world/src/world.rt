@@ -26,7 +26,7 @@ mod spawn;
 use crate::given::is_unknown;
 use scene_alloc::Slots;
 use scene_archetypes::Archetypes;
-use scene_kinds::{CellRef, Entity, Fault, Refusal, Schema};
+use scene_kinds::{CellRef, Entity, Fault, KindSet, Refusal, Schema};
 use scene_links::Links;
 use scene_resources::Resources;
 use scene_table::{Home, Table};
@@ -175,7 +175,7 @@ impl World {
     }
 
     /// The kind set of a live entity, in which kind k is bit k; else `None`.
-    pub fn mask_of(&self, entity: Entity) -> Option<u64>
+    pub fn mask_of(&self, entity: Entity) -> Option<KindSet>
         ensures { result ≡ mask_at self.now.world entity }
     {
         let home = self.home_of(entity)?;
@@ -233,7 +233,7 @@ impl World {
     }
 
     /// The table of a kind set, in which kind k is bit k, or `None` where it has no rows.
-    pub fn rows_of(&self, mask: u64) -> Option<&Table>
+    pub fn rows_of(&self, mask: KindSet) -> Option<&Table>
         ensures rows { option_map (λ table. table.now.rows) result ≡ rows_of self.now.world mask }
         ensures mask { IfSome result (λ table. table.now.mask ≡ mask) }
     {
@@ -242,7 +242,7 @@ impl World {
 
     /// The kind sets that have rows, ascending, or an error where no memory was found. It costs the number of
     /// kind sets times its logarithm.
-    pub fn tables(&self) -> Result<Vec<u64>, AllocError>
+    pub fn tables(&self) -> Result<Vec<KindSet>, AllocError>
         ensures { IfOk result (λ sets. sets.items ≡ kind_sets self.now.world) }
     {
         self.tables.kind_sets()
