@@ -17,7 +17,7 @@ use Rattle.scene_app.specs.OpenFrame.{Opened, new_frame, with_command, with_queu
 use Rattle.scene_kinds.specs.declared.cells.Row.{Row}
 use Rattle.scene_pass.specs.Pass.{changed_since, added_since}
 use Rattle.scene_pass.specs.declared.cell_name.CellName.{CellName}
-use Rattle.scene_pass.specs.declared.filter.Filter.{Filter}
+use Rattle.scene_rules.specs.declared.filter.Filter.{Filter}
 use Rattle.scene_undo.specs.declared.cursor.Cursor.{Cursor}
 use Rattle.scene_undo.specs.Cursor.{cursor_of, since}
 use Rattle.scene_app.specs.declared.play_state.PlayState.{PlayState}

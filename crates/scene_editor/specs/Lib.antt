@@ -13,7 +13,7 @@ pub use Rattle.scene_queue.specs.Frames
 pub use Rattle.scene_undo.specs.Cursor
 pub use Rattle.scene_undo.specs.Editor
 -- filters, and what passes list
-pub use Rattle.scene_pass.specs.Filter
+pub use Rattle.scene_rules.specs.Filter
 pub use Rattle.scene_pass.specs.Pass
 -- the text of a world, and the world of a text
 pub use Rattle.scene_file.specs.Outcome

@@ -1,4 +1,3 @@
-pub mod Bits
 pub mod KeptTables
 pub mod Listed
 pub mod Members

@@ -7,7 +7,7 @@ use Rattle.scene_kinds.specs.declared.value.Value.TheVariants as value
 use Rattle.scene_kinds.specs.Map as map
 use Rattle.scene_kinds.specs.KindSet.{KindSet}
 use Rattle.scene_model.specs.World.{World}
-use Rattle.scene_pass.specs.declared.filter.Filter.{Filter}
+use Rattle.scene_rules.specs.declared.filter.Filter.{Filter}
 use Rattle.scene_pass.specs.declared.cell_name.CellName.{CellName}
 
 -- the first entity of an index

@@ -3,7 +3,7 @@ ghost use Rattle.std.specs.Prelude.{◌≡◌, IfOk, map};
 ghost use Rattle.std.specs.List.{flat_map};
 ghost use Rattle.scene_pass.specs.Pass.{matching};
 
-use crate::filter::Filter;
+use scene_rules::Filter;
 use crate::tables::matching_tables;
 use scene_kinds::Entity;
 use scene_table::Table;

@@ -1,21 +1,14 @@
 //! What users of passes rely on, as contracts of functions without a body.
-ghost use Rattle.std.specs.Prelude.{◌≡◌, ◌↔◌, IsTrue, ℕ, ◌<◌, [], ◌∷◌};
+ghost use Rattle.std.specs.Prelude.{◌≡◌, ◌↔◌, ℕ, ◌<◌, [], ◌∷◌};
 ghost use Rattle.std.specs.List.{Contains};
 ghost use Rattle.scene_kinds.specs.declared.entity.Entity.{Entity};
 ghost use Rattle.scene_model.specs.World.{World};
 ghost use Rattle.scene_model.specs.Valid.{IsValid};
 ghost use Rattle.scene_pass.specs.declared.cell_name.CellName.{CellName};
-ghost use Rattle.scene_pass.specs.declared.filter.Filter.{Filter};
-ghost use Rattle.scene_pass.specs.Filter.{is_match, SaysEachKind};
+ghost use Rattle.scene_rules.specs.declared.filter.Filter.{Filter};
 ghost use Rattle.scene_pass.specs.Listed.{Matches, IsCellWhere};
 ghost use Rattle.scene_pass.specs.Pass.{matching, changed_since, added_since};
 ghost use Rattle.scene_pass.specs.Examples.{three_tables, ent, name, filter};
-
-/// A law: a filter matches a kind set just where the set has each kind of `need` and no kind of `without`.
-#[tactic(auto, using(crate::proofs::Bits::each_kind))]
-pub fn filters_say_each_kind()
-    ensures { (f : Filter) (mask : ℕ) → IsTrue (is_match f mask) ↔ SaysEachKind f mask }
-{}
 
 /// A law: in a valid world the passes list just what they are for. An entity is listed where it is alive and its kind set
 /// matches, and a cell where its entity is listed and the cell's tick is above the given one.

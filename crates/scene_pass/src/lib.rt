@@ -13,12 +13,11 @@
 mod cell_name;
 mod cells;
 mod entities;
-mod filter;
 mod laws;
 mod tables;
 
 pub use cell_name::CellName;
 pub use cells::{added_since, changed_since};
 pub use entities::matching;
-pub use filter::Filter;
-pub use laws::{filters_say_each_kind, passes_list_just_what_matches, worked_passes};
+pub use scene_rules::{Filter, RowStep};
+pub use laws::{passes_list_just_what_matches, worked_passes};

@@ -1,6 +1,6 @@
 //! Filters, which match kind sets.
 ghost use Rattle.std.specs.Prelude.{◌≡◌, ℕ, true};
-ghost use Rattle.scene_pass.specs.Filter.{is_match};
+ghost use Rattle.scene_rules.specs.Filter.{is_match};
 
 use scene_kinds::{KindSet, KindSetMethods};
 

@@ -5,8 +5,8 @@ use Rattle.std.specs.Int.Bits.{and_zero_r}
 use Rattle.std.proofs.lemmas.Bool.{and_parts, and_from, eq-eqb}
 use Rattle.scene_kinds.specs.KindSet.{has_kind, is_subset, is_disjoint}
 use Rattle.scene_kinds.proofs.Subsets.{subset_by_kinds, disjoint_by_kinds}
-use Rattle.scene_pass.specs.declared.filter.Filter.{Filter}
-use Rattle.scene_pass.specs.Filter.{is_match, SaysEachKind}
+use Rattle.scene_rules.specs.declared.filter.Filter.{Filter}
+use Rattle.scene_rules.specs.Filter.{is_match, SaysEachKind}
 
 -- two tests of numbers that hold
 both_equal : (a b c d : ℕ) → a ≡ b → c ≡ d → (nat_eq a b && nat_eq c d) ≡ true

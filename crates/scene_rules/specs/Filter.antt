@@ -1,7 +1,7 @@
 -- What a filter matches.
 use Rattle.std.specs.Prelude.{◌≡◌, ℕ, Bool, true, ◌&&◌}
 use Rattle.scene_kinds.specs.KindSet.{KindSet, has_kind, is_subset, is_disjoint}
-use Rattle.scene_pass.specs.declared.filter.Filter.{Filter}
+use Rattle.scene_rules.specs.declared.filter.Filter.{Filter}
 
 -- a filter matches the kind sets that have every kind of `need` and none of `without`
 abbrev pub is_match : Filter → KindSet → Bool
