@@ -14,10 +14,12 @@ mod cell_name;
 mod cells;
 mod entities;
 mod laws;
+mod row_change;
 mod tables;
 
 pub use cell_name::CellName;
 pub use cells::{added_since, changed_since};
 pub use entities::matching;
 pub use scene_rules::{Filter, RowStep};
+pub use row_change::{Outcome, RowChange};
 pub use laws::{passes_list_just_what_matches, worked_passes};

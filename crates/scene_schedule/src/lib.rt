@@ -1,0 +1,5 @@
+//! Schedules: phases of systems, what is refused of them, and how a phase is run.
+//!
+//! `specs/Schedule.antt` says which lists of phases are schedules, and `specs/Systems.antt` what systems, phases and schedules do
+//! to a world.
+#![tactic(auto)]
