@@ -1,24 +1,22 @@
 -- What systems, phases and schedules do: to a world, or to whatever else commands can be performed on.
-use Rattle.std.specs.Prelude.{ℕ, ◌+◌, List, [], ◌∷◌, ◌++◌, Bool, Option, Some, None, Result, Ok, Err, pos, length, map, if◌then◌else◌}
+use Rattle.std.specs.Prelude.{ℕ, ◌+◌, List, [], ◌∷◌, ◌++◌, Bool, false, nat_eq, Option, Some, None, Ok, Err, pos, length, map}
 use Rattle.std.specs.List.{filter, flat_map}
 use Rattle.scene_kinds.specs.declared.entity.Entity.{Entity}
 use Rattle.scene_kinds.specs.declared.cell.Cell.{Cell}
 use Rattle.scene_kinds.specs.declared.cells.Row.{Row as TableRow}
-use Rattle.scene_kinds.specs.declared.fault.Fault.{Fault}
-use Rattle.scene_kinds.specs.declared.fault.Fault.TheVariants.{Overflow, OtherSchema}
+use Rattle.scene_kinds.specs.declared.fault.Fault.TheVariants.{Overflow}
 use Rattle.scene_kinds.specs.declared.refusal.Refusal.{Refusal}
 use Rattle.scene_kinds.specs.declared.refusal.Place.{Place}
 use Rattle.scene_kinds.specs.declared.value.Value.{Value}
 use Rattle.scene_kinds.specs.declared.value.Value.TheVariants.{Int}
-use Rattle.scene_kinds.specs.Answers.{Outcome, refuse}
+use Rattle.scene_kinds.specs.Answers.{Outcome}
 use Rattle.scene_kinds.specs.Cells.{cell_of}
-use Rattle.scene_kinds.specs.Schema.{Kinds}
 use Rattle.scene_commands.specs.declared.command.Command.{Command}
 use Rattle.scene_commands.specs.declared.command.Command.TheVariants.{Spawn, DespawnAllIfAlive, SetParent, PutResource}
 use Rattle.scene_commands.specs.declared.target.Target.TheVariants.{Id, New}
 use Rattle.scene_model.specs.World.{World}
 use Rattle.scene_model.specs.Commands.{and_then}
-use Rattle.scene_model.specs.Perform.{Act, Insert, perform}
+use Rattle.scene_model.specs.Perform.{Act, Insert}
 use Rattle.scene_machine.specs.Queue.{Request, known}
 use Rattle.scene_machine.specs.Frame.{queue, queues_from}
 use Rattle.scene_queue.specs.Requests.{requests}
@@ -46,9 +44,12 @@ changes_of w rule = changes w rule.filter (row_steps rule.steps)
 
 -- a written cell is an insert of a kind that is there: the value is written, the cell is changed at the world's tick, and the
 -- tick at which it was added stays
+abbrev pub writes_of_outcome : Entity → RowOutcome → List Request
+writes_of_outcome e (Changed cells) = map (λ c. known (Insert e c.0 c.1)) cells
+writes_of_outcome e (SumsOver at) = []
+
 abbrev pub writes_of_row : RowChange → List Request
-writes_of_row (record { entity = e; outcome = Changed cells }) = map (λ c. known (Insert e c.0 c.1)) cells
-writes_of_row (record { entity = e; outcome = SumsOver at }) = []
+writes_of_row change = writes_of_outcome change.entity change.outcome
 
 -- the cells of all rows, row by row, and in a row by kind
 abbrev pub writes_of : List RowChange → List Request
@@ -62,7 +63,7 @@ is_zero None = false
 is_zero (Some cell) = is_zero_value cell.value
   where
     is_zero_value : Value → Bool
-    is_zero_value (Int (pos 0)) = true
+    is_zero_value (Int (pos n)) = nat_eq n 0
     is_zero_value v = false
 
 -- the rows whose number is 0, and all below them, are despawned
@@ -108,8 +109,8 @@ module _ {S : Type 0} (act : Act S) (seen : S → World) where
   abbrev pub system : ℕ → SystemRule → S → Outcome SystemOutput S
   system at rule s =
       unless_over at (first_fault (changes_of (seen s) rule))
-          (and_then (queue act at (writes_of (changes_of (seen s) rule)) s)
-              (λ es t. Ok (record { rows = changes_of (seen s) rule; commands = queued_by (seen t) rule }, t)))
+      (and_then (queue act at (writes_of (changes_of (seen s) rule)) s)
+      (λ es t. Ok (record { rows = changes_of (seen s) rule; commands = queued_by (seen t) rule }, t)))
 
   -- the systems one after another, counted from a place: each sees what those before wrote
   abbrev pub systems_from : ℕ → List SystemRule → S → Outcome (List SystemOutput) S

@@ -3,3 +3,10 @@
 //! `specs/Schedule.antt` says which lists of phases are schedules, and `specs/Systems.antt` what systems, phases and schedules do
 //! to a world.
 #![tactic(auto)]
+
+mod cells;
+mod conflict;
+mod rule;
+mod schedule;
+
+pub use schedule::{Schedule, same_schema};
