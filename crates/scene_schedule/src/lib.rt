@@ -6,7 +6,11 @@
 
 mod cells;
 mod conflict;
+mod laws;
 mod rule;
 mod schedule;
+#[cfg(test)]
+mod tests;
 
+pub use laws::worked_schedules;
 pub use schedule::{Schedule, same_schema};

@@ -1,0 +1,25 @@
+//! What users of schedules rely on, as contracts of functions without a body.
+ghost use Rattle.std.specs.Prelude.{◌≡◌, [], ◌∷◌, None, Some, pos};
+ghost use Rattle.scene_kinds.specs.declared.fault.Fault.TheVariants.{BadRule, Conflict};
+ghost use Rattle.scene_rules.specs.declared.row_step.RowStep.TheVariants.{AddVec, AddInt};
+ghost use Rattle.scene_rules.specs.declared.step.Step.TheVariants.{Row, DespawnAtZero};
+ghost use Rattle.scene_schedule.specs.Examples.{three_kinds, doing, move, count_down, end_at_zero, idle, empty_phases};
+ghost use Rattle.scene_schedule.specs.Schedule.{schedule_fault};
+
+/// Worked examples, over the vectors P and V and the number N. `move` writes P and reads V, `count_down` writes N,
+/// `end_at_zero` reads N, and `idle` has no step.
+#[tactic(auto, unfolding(scene_kinds::specs::KindSet::kinds_from))]
+pub fn worked_schedules()
+    ensures no_phase { schedule_fault three_kinds [] ≡ None }
+    ensures one_phase { schedule_fault three_kinds ((move ∷ count_down ∷ []) ∷ []) ≡ None }
+    ensures two_phases { schedule_fault three_kinds ((count_down ∷ []) ∷ (end_at_zero ∷ end_at_zero ∷ []) ∷ []) ≡ None }
+    ensures unknown_kind { schedule_fault [] ((move ∷ []) ∷ []) ≡ Some (BadRule 0 0) }
+    ensures no_step { schedule_fault three_kinds ((move ∷ idle ∷ []) ∷ []) ≡ Some (BadRule 0 1) }
+    ensures unneeded { schedule_fault three_kinds ([] ∷ (doing 1 (Row (AddVec 0 1) ∷ []) ∷ []) ∷ []) ≡ Some (BadRule 1 0) }
+    ensures wrong_shape { schedule_fault three_kinds ((doing 7 (Row (AddInt 1 (pos 0)) ∷ []) ∷ []) ∷ []) ≡ Some (BadRule 0 0) }
+    ensures late_write { schedule_fault three_kinds ((doing 7 (DespawnAtZero 2 ∷ Row (AddVec 0 1) ∷ []) ∷ []) ∷ []) ≡ Some (BadRule 0 0) }
+    ensures many_phases { schedule_fault three_kinds (empty_phases 65) ≡ Some (BadRule 64 0) }
+    ensures both_write { schedule_fault three_kinds ((move ∷ count_down ∷ move ∷ []) ∷ []) ≡ Some (Conflict 0 0 2) }
+    ensures one_reads { schedule_fault three_kinds ((move ∷ []) ∷ (end_at_zero ∷ count_down ∷ []) ∷ []) ≡ Some (Conflict 1 0 1) }
+    ensures bad_first { schedule_fault three_kinds ((move ∷ move ∷ []) ∷ (idle ∷ []) ∷ []) ≡ Some (BadRule 1 0) }
+{}
