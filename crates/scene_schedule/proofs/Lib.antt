@@ -1,2 +1,4 @@
-pub mod Walks
+pub mod Apart
+pub mod Sounds
 pub mod Stages
+pub mod Walks

@@ -69,16 +69,16 @@ phase_past schema i phases h past =
     above i h = grind (arith, nat_tests)
 
 -- a choice that is nothing where the test fails
-chosen : {A : Type 0} (b : Bool) (r : Option A) (x : A) → cond b r (Some x) ≡ None → (b ≡ true) × (r ≡ None)
+pub chosen : {A : Type 0} (b : Bool) (r : Option A) (x : A) → cond b r (Some x) ≡ None → (b ≡ true) × (r ≡ None)
 chosen true r x h = (refl, h)
 chosen false r x h = absurd (cc)
 
-neither : {A : Type 0} (a b : Option A) → option_or a b ≡ None → (a ≡ None) × (b ≡ None)
+pub neither : {A : Type 0} (a b : Option A) → option_or a b ≡ None → (a ≡ None) × (b ≡ None)
 neither None b h = (refl, h)
 neither (Some x) b h = absurd (cc)
 
 -- a phase without a bad system has at most 64 systems
-few_in_phase : (schema : Kinds) (phase i : ℕ) (rules : List SystemRule) → i ≤ 64 → bad_in_phase schema phase i rules ≡ None → i + length rules ≤ 64
+pub few_in_phase : (schema : Kinds) (phase i : ℕ) (rules : List SystemRule) → i ≤ 64 → bad_in_phase schema phase i rules ≡ None → i + length rules ≤ 64
 few_in_phase schema phase i [] few h = omega (arith, few)
 few_in_phase schema phase i (rule ∷ rules) few h =
     let c = chosen (nat_lt i 64 && is_good_rule schema rule) (bad_in_phase schema phase (i + 1) rules) (BadRule phase i) h in

@@ -1,7 +1,6 @@
 -- Three kinds and systems over them for the worked examples.
-use Rattle.std.specs.Prelude.{ℕ, List, [], ◌∷◌, codes, map, pos, negsuc}
+use Rattle.std.specs.Prelude.{ℕ, List, [], ◌∷◌, codes, map, negsuc}
 use Rattle.std.specs.List.{range_with_len}
-use Rattle.scene_kinds.specs.declared.fault.Fault.{Fault}
 use Rattle.scene_kinds.specs.declared.shape.Shape.TheVariants as shape
 use Rattle.scene_kinds.specs.KindSet.{KindSet}
 use Rattle.scene_kinds.specs.Schema.{Kinds}

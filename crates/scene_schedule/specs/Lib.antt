@@ -1,3 +1,4 @@
 pub mod Schedule
 pub mod Systems
 pub mod Examples
+pub mod Sound

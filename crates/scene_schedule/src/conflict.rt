@@ -94,9 +94,9 @@ pub(crate) fn first_clash(phases: &[Phase]) -> Option<Fault>
     ensures { result ≡ clash_from 0 phases.now }
 {
     'places: for at in 0..phases.len() {
-        let fault = clash_in_phase(at as u32, phases[at].systems());
-        if fault.is_some() {
-            return fault;
+        let conflict = clash_in_phase(at as u32, phases[at].systems());
+        if conflict.is_some() {
+            return conflict;
         }
     }
     None

@@ -1,10 +1,17 @@
 //! What users of schedules rely on, as contracts of functions without a body.
-ghost use Rattle.std.specs.Prelude.{◌≡◌, [], ◌∷◌, None, Some, pos};
+ghost use Rattle.std.specs.Prelude.{◌≡◌, ◌↔◌, [], ◌∷◌, None, Some, pos};
 ghost use Rattle.scene_kinds.specs.declared.fault.Fault.TheVariants.{BadRule, Conflict};
 ghost use Rattle.scene_rules.specs.declared.row_step.RowStep.TheVariants.{AddVec, AddInt};
 ghost use Rattle.scene_rules.specs.declared.step.Step.TheVariants.{Row, DespawnAtZero};
 ghost use Rattle.scene_schedule.specs.Examples.{three_kinds, doing, move, count_down, end_at_zero, idle, empty_phases};
-ghost use Rattle.scene_schedule.specs.Schedule.{schedule_fault};
+ghost use Rattle.scene_schedule.specs.Schedule.{ScheduleState, IsSchedule, schedule_fault};
+ghost use Rattle.scene_schedule.specs.Sound.{IsSound};
+
+/// A law: schedules are just the lists of at most 64 phases of at most 64 systems that break no rule and of which no two in a
+/// phase are in each other's way: neither writes a kind that the other reads or writes.
+pub fn schedules_are_just_what_is_sound()
+    ensures { (s : ScheduleState) → IsSchedule s ↔ IsSound s.schema s.phases }
+{}
 
 /// Worked examples, over the vectors P and V and the number N. `move` writes P and reads V, `count_down` writes N,
 /// `end_at_zero` reads N, and `idle` has no step.

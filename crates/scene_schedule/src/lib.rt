@@ -12,5 +12,5 @@ mod schedule;
 #[cfg(test)]
 mod tests;
 
-pub use laws::worked_schedules;
+pub use laws::{schedules_are_just_what_is_sound, worked_schedules};
 pub use schedule::{Schedule, same_schema};
