@@ -7,9 +7,9 @@ ghost use Rattle.scene_pass.specs.Pass.{names_in, cells_where, changed_since, ad
 ghost use Rattle.scene_pass.specs.Since.{is_since};
 
 use crate::cell_name::CellName;
-use scene_rules::Filter;
 use crate::tables::matching_tables;
 use scene_kinds::CellRef;
+use scene_rules::Filter;
 use scene_table::Table;
 use scene_world::World;
 use std::alloc::{AllocError, Global};

@@ -3,9 +3,9 @@ ghost use Rattle.std.specs.Prelude.{◌≡◌, IfOk, map};
 ghost use Rattle.std.specs.List.{flat_map};
 ghost use Rattle.scene_pass.specs.Pass.{matching};
 
-use scene_rules::Filter;
 use crate::tables::matching_tables;
 use scene_kinds::Entity;
+use scene_rules::Filter;
 use scene_table::Table;
 use scene_world::World;
 use std::alloc::{AllocError, Global};

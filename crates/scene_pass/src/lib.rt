@@ -20,6 +20,6 @@ mod tables;
 pub use cell_name::CellName;
 pub use cells::{added_since, changed_since};
 pub use entities::matching;
-pub use scene_rules::{Filter, RowStep};
-pub use row_change::{Outcome, RowChange};
 pub use laws::{passes_list_just_what_matches, worked_passes};
+pub use row_change::{Outcome, RowChange};
+pub use scene_rules::{Filter, RowStep};
