@@ -21,6 +21,13 @@ impl Model for Components {
 }
 
 impl Components {
+    /// The components as a slice. It takes no memory.
+    pub fn as_slice(&self) -> &[(u8, Value)]
+        ensures { result.now ≡ self.now }
+    {
+        self.cells.as_slice()
+    }
+
     /// The components as a list. It takes no memory.
     pub fn into_vec(self) -> Vec<(u8, Value)>
         ensures { result.items ≡ self }

@@ -2,3 +2,4 @@ pub mod Schedule
 pub mod Systems
 pub mod Examples
 pub mod Sound
+pub mod Output

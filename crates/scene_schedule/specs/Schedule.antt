@@ -2,6 +2,7 @@
 use Rattle.std.specs.Prelude.{◌≡◌, ℕ, ◌+◌, List, [], ◌∷◌, Bool, true, false, not, ◌||◌, ◌&&◌, Option, Some, None, is_some, nat_lt, nat_eq, length, if◌then◌else◌}
 use Rattle.std.specs.Option.{option_or}
 use Rattle.std.specs.List.{list_all, list_any}
+use Rattle.std.specs.Str.{bytes_eq}
 use Rattle.scene_kinds.specs.declared.fault.Fault.{Fault}
 use Rattle.scene_kinds.specs.declared.fault.Fault.TheVariants.{BadRule, Conflict}
 use Rattle.scene_kinds.specs.declared.shape.Shape.{Shape}
@@ -138,3 +139,9 @@ pub record ScheduleState : Type 0 where
 -- it breaks no rule and has no conflict
 abbrev pub IsSchedule : ScheduleState → Type 0
 IsSchedule s = schedule_fault s.schema s.phases ≡ None
+
+-- two schemas have the same kinds under the same numbers
+abbrev pub same_kinds : Kinds → Kinds → Bool
+same_kinds [] [] = true
+same_kinds (a ∷ as) (b ∷ bs) = bytes_eq a.0 b.0 && (same_shape a.1 b.1 && same_kinds as bs)
+same_kinds as bs = false

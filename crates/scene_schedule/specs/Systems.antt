@@ -1,15 +1,15 @@
 -- What systems, phases and schedules do: to a world, or to whatever else commands can be performed on.
-use Rattle.std.specs.Prelude.{ℕ, ◌+◌, List, [], ◌∷◌, ◌++◌, Bool, false, nat_eq, Option, Some, None, Ok, Err, pos, length, map}
+use Rattle.std.specs.Prelude.{ℕ, ◌+◌, List, [], ◌∷◌, ◌++◌, Bool, true, false, nat_eq, Option, Some, None, Ok, Err, pos, length, map}
 use Rattle.std.specs.List.{filter, flat_map}
 use Rattle.scene_kinds.specs.declared.entity.Entity.{Entity}
 use Rattle.scene_kinds.specs.declared.cell.Cell.{Cell}
 use Rattle.scene_kinds.specs.declared.cells.Row.{Row as TableRow}
-use Rattle.scene_kinds.specs.declared.fault.Fault.TheVariants.{Overflow}
+use Rattle.scene_kinds.specs.declared.fault.Fault.TheVariants.{Overflow, OtherSchema}
 use Rattle.scene_kinds.specs.declared.refusal.Refusal.{Refusal}
 use Rattle.scene_kinds.specs.declared.refusal.Place.{Place}
 use Rattle.scene_kinds.specs.declared.value.Value.{Value}
 use Rattle.scene_kinds.specs.declared.value.Value.TheVariants.{Int}
-use Rattle.scene_kinds.specs.Answers.{Outcome}
+use Rattle.scene_kinds.specs.Answers.{Outcome, refuse}
 use Rattle.scene_kinds.specs.Cells.{cell_of}
 use Rattle.scene_commands.specs.declared.command.Command.{Command}
 use Rattle.scene_commands.specs.declared.command.Command.TheVariants.{Spawn, DespawnAllIfAlive, SetParent, PutResource}
@@ -29,6 +29,7 @@ use Rattle.scene_pass.specs.declared.row_change.Outcome.{Outcome as RowOutcome}
 use Rattle.scene_pass.specs.declared.row_change.Outcome.TheVariants.{Changed, Overflow as SumsOver}
 use Rattle.scene_pass.specs.Pass.{matching_rows}
 use Rattle.scene_pass.specs.Changes.{changes, first_fault}
+use Rattle.scene_schedule.specs.Schedule.{ScheduleState, same_kinds}
 
 -- ---- what a system writes
 
@@ -44,8 +45,11 @@ changes_of w rule = changes w rule.filter (row_steps rule.steps)
 
 -- a written cell is an insert of a kind that is there: the value is written, the cell is changed at the world's tick, and the
 -- tick at which it was added stays
+abbrev pub writes_of_cells : Entity → List (ℕ × Value) → List Request
+writes_of_cells e cells = map (λ c. known (Insert e c.0 c.1)) cells
+
 abbrev pub writes_of_outcome : Entity → RowOutcome → List Request
-writes_of_outcome e (Changed cells) = map (λ c. known (Insert e c.0 c.1)) cells
+writes_of_outcome e (Changed cells) = writes_of_cells e cells
 writes_of_outcome e (SumsOver at) = []
 
 abbrev pub writes_of_row : RowChange → List Request
@@ -137,3 +141,12 @@ module _ {S : Type 0} (act : Act S) (seen : S → World) where
   phases_from at [] s = Ok ([], s)
   phases_from at (rules ∷ phases) s =
       and_then (in_phase at (phase act seen rules s)) (λ es t. and_then (phases_from (at + 1) phases t) (λ fs u. Ok (es ++ fs, u)))
+
+-- a schedule for a world with other kinds is refused
+abbrev pub if_for : {A S : Type 0} → Bool → Outcome A S → Outcome A S
+if_for true o = o
+if_for false o = refuse OtherSchema
+
+-- a schedule: its phases, on a world with its kinds
+abbrev pub advance_of : {S : Type 0} → Act S → (S → World) → ScheduleState → S → Outcome (List Entity) S
+advance_of act seen schedule s = if_for (same_kinds schedule.schema (seen s).schema) (phases_from act seen 0 schedule.phases s)

@@ -1,7 +1,7 @@
 //! Whether a spawn takes the cells of a child.
 //!
 //! The three walks here are those of scene_world, which keeps them to itself; once it makes them public, these go.
-ghost use Rattle.std.specs.Prelude.{◌≡◌, IfOk, is_some, nat_eq, not};
+ghost use Rattle.std.specs.Prelude.{◌≡◌, is_some, nat_eq, not};
 ghost use Rattle.std.specs.List.{list_any};
 ghost use Rattle.scene_kinds.specs.Schema.{fits_kind};
 ghost use Rattle.scene_model.specs.World.{is_unknown};
@@ -9,7 +9,6 @@ ghost use Rattle.scene_model.specs.Commands.{any_twice, spawn_fault};
 
 use scene_commands::Components;
 use scene_kinds::{Schema, Value};
-use std::alloc::AllocError;
 
 fn any_unknown(schema: &Schema, cells: &[(u8, Value)]) -> bool
     ensures { result ≡ list_any (λ c. is_unknown schema.now c.0) cells.now }
@@ -40,11 +39,10 @@ fn any_misfit(schema: &Schema, cells: &[(u8, Value)]) -> bool
     cells.iter().any(|cell| !schema.fits(&cell.1, cell.0))
 }
 
-/// Whether a spawn takes these cells, or an error where no memory was found for the copy of them that is looked at.
-pub(crate) fn can_spawn(schema: &Schema, cells: &Components) -> Result<bool, AllocError>
-    ensures { IfOk result (λ good. good ≡ not (is_some (spawn_fault schema.now cells.now))) }
+/// Whether a spawn takes these cells.
+pub(crate) fn can_spawn(schema: &Schema, cells: &Components) -> bool
+    ensures { result ≡ not (is_some (spawn_fault schema.now cells.now)) }
 {
-    let cells = cells.try_clone()?.into_vec();
     let cells = cells.as_slice();
-    Ok(!any_unknown(schema, cells) && !any_repeated(cells) && !any_misfit(schema, cells))
+    !any_unknown(schema, cells) && !any_repeated(cells) && !any_misfit(schema, cells)
 }

@@ -7,10 +7,12 @@
 mod cells;
 mod conflict;
 mod laws;
+mod output;
 mod rule;
 mod schedule;
 #[cfg(test)]
 mod tests;
 
 pub use laws::{schedules_are_just_what_is_sound, worked_schedules};
+pub use output::{PhaseOutput, RowChanges};
 pub use schedule::{Schedule, same_schema};

@@ -1,12 +1,11 @@
 //! Which systems a schedule may have, and the first that it may not.
-ghost use Rattle.std.specs.Prelude.{◌≡◌, ◌≤◌, ◌&&◌, IfOk, nat_lt, length, None, All};
+ghost use Rattle.std.specs.Prelude.{◌≡◌, ◌≤◌, ◌&&◌, nat_lt, length, None, All};
 ghost use Rattle.std.specs.List.{list_all, list_any};
 ghost use Rattle.scene_schedule.specs.Schedule.{knows, is_ready, is_good_step, is_row, writes_first, is_step_count, is_good_rule, bad_in_phase, bad_from};
 
 use crate::cells::can_spawn;
 use scene_kinds::{Fault, KindSet, KindSetMethods, Schema, Shape, good_name};
 use scene_rules::{Phase, RowStep, Step, SystemRule};
-use std::alloc::AllocError;
 
 /// How many steps a system may have.
 const MOST_STEPS: usize = 16;
@@ -37,29 +36,24 @@ fn is_ready(schema: &Schema, need: KindSet, shape: Shape, kind: u8) -> bool
 }
 
 /// Whether a system that needs these kinds may have a step.
-fn is_good_step(schema: &Schema, need: KindSet, step: &Step) -> Result<bool, AllocError>
-    ensures { IfOk result (λ good. good ≡ is_good_step schema.now need step.now) }
+fn is_good_step(schema: &Schema, need: KindSet, step: &Step) -> bool
+    ensures { result ≡ is_good_step schema.now need step.now }
 {
     match step {
         Step::Row(RowStep::AddVec { to, by }) => {
-            Ok(is_ready(schema, need, Shape::Vec3, *to) && is_ready(schema, need, Shape::Vec3, *by))
+            is_ready(schema, need, Shape::Vec3, *to) && is_ready(schema, need, Shape::Vec3, *by)
         }
-        Step::Row(RowStep::AddInt { to, .. }) => Ok(is_ready(schema, need, Shape::Int, *to)),
-        Step::DespawnAtZero { kind } => Ok(is_ready(schema, need, Shape::Int, *kind)),
+        Step::Row(RowStep::AddInt { to, .. }) => is_ready(schema, need, Shape::Int, *to),
+        Step::DespawnAtZero { kind } => is_ready(schema, need, Shape::Int, *kind),
         Step::SpawnChild { cells } => can_spawn(schema, cells),
-        Step::CountInto { name } => Ok(good_name(name.as_str())),
+        Step::CountInto { name } => good_name(name.as_str()),
     }
 }
 
-fn are_good_steps(schema: &Schema, need: KindSet, steps: &[Step]) -> Result<bool, AllocError>
-    ensures { IfOk result (λ good. good ≡ list_all (is_good_step schema.now need) steps.now) }
+fn are_good_steps(schema: &Schema, need: KindSet, steps: &[Step]) -> bool
+    ensures { result ≡ list_all (is_good_step schema.now need) steps.now }
 {
-    'steps: for step in steps {
-        if !is_good_step(schema, need, step)? {
-            return Ok(false);
-        }
-    }
-    Ok(true)
+    steps.iter().all(|step| is_good_step(schema, need, step))
 }
 
 /// Whether a step writes.
@@ -93,62 +87,55 @@ fn is_step_count(count: usize) -> bool
     0 < count && count <= MOST_STEPS
 }
 
-/// Whether a schedule over these kinds may have a system, or an error where no memory was found.
-fn is_good_rule(schema: &Schema, rule: &SystemRule) -> Result<bool, AllocError>
-    ensures { IfOk result (λ good. good ≡ is_good_rule schema.now rule.now) }
+/// Whether a schedule over these kinds may have a system.
+fn is_good_rule(schema: &Schema, rule: &SystemRule) -> bool
+    ensures { result ≡ is_good_rule schema.now rule.now }
 {
     let need = rule.filter.need;
     let steps = rule.steps.as_slice();
     let is_named = good_name(rule.name.as_str());
     let is_known = knows(schema, need) && knows(schema, rule.filter.without);
     let in_order = is_step_count(steps.len()) && writes_first(steps);
-    Ok(is_named && is_known && in_order && are_good_steps(schema, need, steps)?)
+    is_named && is_known && in_order && are_good_steps(schema, need, steps)
 }
 
 /// Whether a phase may have a system at a place.
-fn may_stand(schema: &Schema, at: usize, rule: &SystemRule) -> Result<bool, AllocError>
-    ensures { IfOk result (λ good. good ≡ (nat_lt at 64 && is_good_rule schema.now rule.now)) }
+fn may_stand(schema: &Schema, at: usize, rule: &SystemRule) -> bool
+    ensures { result ≡ (nat_lt at 64 && is_good_rule schema.now rule.now) }
 {
-    if at >= MOST {
-        return Ok(false);
-    }
-    is_good_rule(schema, rule)
+    at < MOST && is_good_rule(schema, rule)
 }
 
 /// The first bad system of a phase.
-fn bad_in_phase(
-    schema: &Schema,
-    phase: u32,
-    rules: &[SystemRule],
-) -> Result<Option<Fault>, AllocError>
-    ensures { IfOk result (λ fault. fault ≡ bad_in_phase schema.now phase 0 rules.now) }
+fn bad_in_phase(schema: &Schema, phase: u32, rules: &[SystemRule]) -> Option<Fault>
+    ensures { result ≡ bad_in_phase schema.now phase 0 rules.now }
 {
     'places: for at in 0..rules.len() {
-        if !may_stand(schema, at, &rules[at])? {
+        if !may_stand(schema, at, &rules[at]) {
             let system = at as u32;
-            return Ok(Some(Fault::BadRule { phase, system }));
+            return Some(Fault::BadRule { phase, system });
         }
     }
-    Ok(None)
+    None
 }
 
-/// The first bad system of a list of phases, or an error where no memory was found.
-pub(crate) fn first_bad(schema: &Schema, phases: &[Phase]) -> Result<Option<Fault>, AllocError>
-    ensures fault { IfOk result (λ fault. fault ≡ bad_from schema.now 0 phases.now) }
-    ensures few { IfOk result (λ fault. fault ≡ None → All (λ rules. length rules ≤ 64) phases.now) }
-    ensures few_phases { IfOk result (λ fault. fault ≡ None → length phases.now ≤ 64) }
+/// The first bad system of a list of phases.
+pub(crate) fn first_bad(schema: &Schema, phases: &[Phase]) -> Option<Fault>
+    ensures fault { result ≡ bad_from schema.now 0 phases.now }
+    ensures few { result ≡ None → All (λ rules. length rules ≤ 64) phases.now }
+    ensures few_phases { result ≡ None → length phases.now ≤ 64 }
 {
     'places: for at in 0..phases.len() {
         if at >= MOST {
-            return Ok(Some(Fault::BadRule {
+            return Some(Fault::BadRule {
                 phase: 64,
                 system: 0,
-            }));
+            });
         }
-        let fault = bad_in_phase(schema, at as u32, phases[at].systems())?;
+        let fault = bad_in_phase(schema, at as u32, phases[at].systems());
         if fault.is_some() {
-            return Ok(fault);
+            return fault;
         }
     }
-    Ok(None)
+    None
 }

@@ -55,15 +55,15 @@ pub fn same_schema(a: &Schema, b: &Schema) -> bool
     true
 }
 
-/// The first fault of a list of phases, or an error where no memory was found.
-fn schedule_fault(schema: &Schema, phases: &[Phase]) -> Result<Option<Fault>, AllocError>
-    ensures { IfOk result (λ fault. fault ≡ schedule_fault schema.now phases.now) }
+/// The first fault of a list of phases.
+fn schedule_fault(schema: &Schema, phases: &[Phase]) -> Option<Fault>
+    ensures { result ≡ schedule_fault schema.now phases.now }
 {
-    let fault = first_bad(schema, phases)?;
+    let fault = first_bad(schema, phases);
     if fault.is_some() {
-        return Ok(fault);
+        return fault;
     }
-    Ok(first_clash(phases))
+    first_clash(phases)
 }
 
 /// Equal phases in the same order, or an error where no memory was found.
@@ -90,7 +90,7 @@ impl Schedule {
         ensures refused { IfErr result (λ r. r ≢ refusal_of NoMemory
             → (schedule_fault schema.now phases.items ≡ Some r.fault) × (r ≡ refusal_of r.fault)) }
     {
-        match schedule_fault(schema, phases.as_slice())? {
+        match schedule_fault(schema, phases.as_slice()) {
             Some(fault) => Err(Refusal::from(fault)),
             None => Ok(Schedule {
                 alloc,
