@@ -2,3 +2,7 @@ pub mod Apart
 pub mod Sounds
 pub mod Stages
 pub mod Walks
+pub mod Schemas
+pub mod SameKinds
+pub mod Writes
+pub mod Phases

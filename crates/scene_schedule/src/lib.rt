@@ -4,6 +4,7 @@
 //! to a world.
 #![tactic(auto)]
 
+mod advance;
 mod cells;
 mod conflict;
 mod laws;
@@ -12,7 +13,9 @@ mod rule;
 mod schedule;
 #[cfg(test)]
 mod tests;
+mod write;
 
+pub use advance::{Advance, PhaseRunner};
 pub use laws::{schedules_are_just_what_is_sound, worked_schedules};
 pub use output::{PhaseOutput, RowChanges};
 pub use schedule::{Schedule, same_schema};
