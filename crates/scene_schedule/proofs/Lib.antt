@@ -4,5 +4,5 @@ pub mod Stages
 pub mod Walks
 pub mod Schemas
 pub mod SameKinds
-pub mod Writes
+pub mod StagedSystems
 pub mod Phases

@@ -28,7 +28,7 @@ use Rattle.scene_schedule.specs.Output.{IsOutputOf, AreWritten}
 use Rattle.scene_schedule.proofs.Schemas.{phase_keeps, Keeps}
 use Rattle.scene_schedule.proofs.Sounds.{schedules_sound}
 use Rattle.scene_schedule.proofs.Stages.{then_world, systems_world, phase_world, phases_world}
-use Rattle.scene_schedule.proofs.Writes.{same_answer, then_ok, staged_systems}
+use Rattle.scene_schedule.proofs.StagedSystems.{same_answer, then_ok, staged_systems}
 
 -- ---- counts
 
