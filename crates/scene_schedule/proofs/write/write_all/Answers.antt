@@ -1,5 +1,6 @@
 use Rattle.std.proofs.Common.{[], ap, sym, ◌∙◌, map, take}
 use Rattle.std.proofs.lemmas.List.{take_all}
+use Rattle.scene_machine.specs.Queue.{play}
 use Rattle.scene_machine.specs.Frame.{queues_from}
 use Rattle.scene_queue.proofs.Frames.{whole_one}
 use Rattle.scene_world.proofs.Room.{wider_wider}
@@ -10,7 +11,8 @@ use Rattle.scene_schedule.proofs.write.write_all.Goals as goal
 pub loop-changes-preserved : goal.loop-changes-preserved
 loop-changes-preserved g c = (
   whole_one (act g.S.Stage.note) writes_of c.args.rows.now c.loop-changes.changes-index c.changes-item.result _ _ _ [] []
-      c.loop-changes-test.true c.changes-item.is c.loop-changes.invariant.0 c.in-Ok.ensures.written,
+      c.loop-changes-test.true c.changes-item.is c.loop-changes.invariant.0
+      (ap (λ rows. play (act g.S.Stage.note) (writes_of rows) (g.S.Stage.seen c.loop-changes.stage)) (sym c.as_slice.ensures) ∙ c.in-Ok.ensures.written),
   (
     c.in-Ok.ensures.opening ∙ c.loop-changes.invariant.1.0,
     wider_wider (g.S.Stage.room c.args.stage.now) (g.S.Stage.room c.loop-changes.stage) (g.S.Stage.room c.write_rows.new.stage) c.loop-changes.invariant.1.1 c.in-Ok.ensures.wide,
