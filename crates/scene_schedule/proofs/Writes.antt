@@ -41,7 +41,7 @@ module _ {S : Type 0} (act : Act S) where
       → play act (flat_map f (take (i + 1) xs)) s ≡ whole (reached u [])
   one_more f xs i x s t u lt here so is =
       let last : flat_map f (take (i + 1) xs) ≡ flat_map f (take i xs) ++ f x =
-          ap (flat_map f) (take_more xs i x lt) ∙ flat_map-append f (take i xs) (get_or xs i x ∷ [])
-          ∙ ap (λ rs. flat_map f (take i xs) ++ rs) (append-nil (f (get_or xs i x)))
-          ∙ ap (λ y. flat_map f (take i xs) ++ f y) (sym here) in
+      ap (flat_map f) (take_more xs i x lt) ∙ flat_map-append f (take i xs) (get_or xs i x ∷ [])
+      ∙ ap (λ rs. flat_map f (take i xs) ++ rs) (append-nil (f (get_or xs i x)))
+      ∙ ap (λ y. flat_map f (take i xs) ++ f y) (sym here) in
       ap (λ rs. play act rs s) last ∙ one_then_other (flat_map f (take i xs)) (f x) 0 0 (reached s []) (reached t []) (reached u []) so is

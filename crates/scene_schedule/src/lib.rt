@@ -6,12 +6,16 @@
 
 mod cells;
 mod conflict;
+mod count;
 mod laws;
 mod output;
 mod rule;
 mod schedule;
 #[cfg(test)]
 mod tests;
+mod write;
+#[cfg(test)]
+mod write_tests;
 
 pub use laws::{schedules_are_just_what_is_sound, worked_schedules};
 pub use output::{PhaseOutput, RowChanges};

@@ -9,6 +9,7 @@ ghost use Rattle.scene_world.specs.Stage.{act};
 ghost use Rattle.scene_schedule.specs.Output.{AreWritten};
 ghost use Rattle.scene_schedule.specs.Systems.{writes_of, writes_of_cells, writes_of_row};
 
+use crate::count::count_cells;
 use crate::output::RowChanges;
 use scene_kinds::{Entity, Fault, Refusal, Value};
 use scene_pass::{Outcome, RowChange};
@@ -82,13 +83,8 @@ fn write_rows<S: Stage>(rows: &[RowChange], stage: &mut S) -> Result<(), Refusal
     Ok(())
 }
 
-/// Writes on a stage what the systems of a phase made of their rows: system by system, in a system row by row, and in a row by
-/// kind (docs/MODEL.md, "The rule of phases"). It costs what the inserts cost, and a copy of each value.
-///
-/// Refused: `NoMemory`, and then the cells before the refused one are written. No cell is refused for another reason where the
-/// rows were made of the stage's own world. The world to which the stage can be taken back, if it keeps a way back, stays, and
-/// no room is lost.
-pub(crate) fn write_all<S: Stage>(rows: &[RowChanges], stage: &mut S) -> Result<(), Refusal>
+/// Writes the rows of the systems one after another.
+fn write_systems<S: Stage>(rows: &[RowChanges], stage: &mut S) -> Result<(), Refusal>
     ensures written { OnOk result (AreWritten S.note rows.now (S.seen stage.old) (S.seen stage.new)) }
     ensures refused { IfErr result (λ r. r ≡ refusal_of NoMemory) }
     ensures opening { S.opening stage.new ≡ S.opening stage.old }
@@ -101,4 +97,22 @@ pub(crate) fn write_all<S: Stage>(rows: &[RowChanges], stage: &mut S) -> Result<
         }
     }
     Ok(())
+}
+
+/// Writes on a stage what the systems of a phase made of their rows: system by system, in a system row by row, and in a row by
+/// kind (docs/MODEL.md, "The rule of phases"). It costs what the inserts cost, and a copy of each value.
+///
+/// Refused: `NoMemory`, and then the cells before the refused one are written; the room for the notes of all cells is made
+/// before the first. No cell is refused for another reason where the rows were made of the stage's own world. The world to
+/// which the stage can be taken back, if it keeps a way back, stays, and no room is lost.
+pub(crate) fn write_all<S: Stage>(rows: &[RowChanges], stage: &mut S) -> Result<(), Refusal>
+    ensures written { OnOk result (AreWritten S.note rows.now (S.seen stage.old) (S.seen stage.new)) }
+    ensures refused { IfErr result (λ r. r ≡ refusal_of NoMemory) }
+    ensures opening { S.opening stage.new ≡ S.opening stage.old }
+    ensures wide { IsWider (S.room stage.old) (S.room stage.new) }
+{
+    match stage.make_room(count_cells(rows)) {
+        Ok(()) => write_systems(rows, stage),
+        Err(error) => Err(Refusal::from(error)),
+    }
 }

@@ -3,7 +3,7 @@ use Rattle.scene_machine.specs.Frame.{queues_from}
 use Rattle.scene_world.specs.Room.{IsWider}
 use Rattle.scene_world.specs.Stage.{act}
 use Rattle.scene_schedule.specs.Systems.{writes_of}
-use Rattle.scene_schedule.proofs.write.write_all.Given as goal
+use Rattle.scene_schedule.proofs.write.write_systems.Given as goal
 
 -- the rows of the systems so far were written
 abbrev pub invariant-loop-changes : goal.invariant-loop-changes
