@@ -1,4 +1,5 @@
 pub mod Apart
+pub mod Counts
 pub mod Sounds
 pub mod Stages
 pub mod Walks
@@ -6,3 +7,4 @@ pub mod Schemas
 pub mod SameKinds
 pub mod StagedSystems
 pub mod Phases
+pub mod Writes

@@ -7,6 +7,7 @@
 mod advance;
 mod cells;
 mod conflict;
+mod count;
 mod laws;
 mod output;
 mod rule;
@@ -14,6 +15,8 @@ mod schedule;
 #[cfg(test)]
 mod tests;
 mod write;
+#[cfg(test)]
+mod write_tests;
 
 pub use advance::{Advance, PhaseRunner};
 pub use laws::{schedules_are_just_what_is_sound, worked_schedules};
