@@ -2,3 +2,11 @@ pub mod Apart
 pub mod Sounds
 pub mod Stages
 pub mod Walks
+pub mod Entries
+pub mod Zips
+pub mod SameValues
+pub mod GoodChanges
+pub mod WrittenCells
+pub mod WrittenRows
+pub mod SystemWrites
+pub mod InTurn

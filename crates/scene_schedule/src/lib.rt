@@ -5,14 +5,18 @@
 #![tactic(auto)]
 
 mod cells;
+mod commands;
 mod conflict;
 mod laws;
 mod output;
 mod rule;
+mod run_phase;
 mod schedule;
 #[cfg(test)]
 mod tests;
+mod zero;
 
-pub use laws::{schedules_are_just_what_is_sound, worked_schedules};
+pub use laws::{schedules_are_just_what_is_sound, systems_see_the_opening_world, worked_schedules};
 pub use output::{PhaseOutput, RowChanges};
+pub use run_phase::run_phase_alone;
 pub use schedule::{Schedule, same_schema};
