@@ -1,6 +1,6 @@
 -- What steps make of a row of a valid world: the values that they write fit their kinds, which the row has.
-use Rattle.std.proofs.Common.{◌≡◌, ℕ, ◌+◌, ℤ, ◌+ℤ◌, suc, Bool, true, false, cond, ◌&&◌, T, List, [], ◌∷◌, length, map, refl, ap, subst, sym, ◌∙◌, arith, nat_eq, Option, Some, None, Ok, ⊤, if◌then◌else◌}
-use Rattle.std.specs.Prelude.{Result, Err, IfSome, IfOk, option_map, filter, is_some}
+use Rattle.std.proofs.Common.{◌≡◌, ℕ, ◌+◌, ℤ, ◌+ℤ◌, suc, Bool, true, false, cond, ◌&&◌, T, List, [], ◌∷◌, length, map, refl, ap, subst, sym, ◌∙◌, arith, nat_eq, Option, Some, None, Ok, if◌then◌else◌}
+use Rattle.std.specs.Prelude.{⊤, Result, Err, IfSome, IfOk, option_map, filter, is_some}
 use Rattle.std.specs.Option.{option_and_then}
 use Rattle.std.specs.List.{list_all}
 use Rattle.std.specs.Ordering.{nat_cmp, is_lt}

@@ -1,6 +1,6 @@
 -- The systems of a phase in their turn make what each of them makes of the opening world.
-use Rattle.std.proofs.Common.{◌≡◌, ◌<◌, ◌+◌, ℕ, zero, suc, Bool, true, false, List, [], ◌∷◌, map, refl, ap, sym, ◌∙◌, arith, Option, Some, None, Ok, Err, ⊤}
-use Rattle.std.specs.Prelude.{slice_get}
+use Rattle.std.proofs.Common.{◌≡◌, ◌<◌, ◌+◌, ℕ, zero, suc, Bool, true, false, List, [], ◌∷◌, map, refl, ap, sym, ◌∙◌, arith, Option, Some, None, Ok, Err}
+use Rattle.std.specs.Prelude.{⊤, slice_get}
 use Rattle.scene_kinds.specs.declared.entity.Entity.{Entity}
 use Rattle.scene_kinds.specs.declared.refusal.Refusal.{Refusal}
 use Rattle.scene_kinds.specs.Answers.{Outcome}
@@ -68,7 +68,7 @@ still_agrees u w rule valid opening a (o ∷ others) apart agrees = (
 -- ---- in their turn
 
 -- what follows an answer that may have been a refusal
-rest_of : {A B : Type 0} (r : Option Refusal) (outs : List A) (v : World) (out : A) → and_then (refused_or r outs v) (λ outs z. Ok (out ∷ outs, z)) ≡ refused_or r (out ∷ outs) v
+rest_of : {A : Type 0} (r : Option Refusal) (outs : List A) (v : World) (out : A) → and_then (refused_or r outs v) (λ outs z. Ok (out ∷ outs, z)) ≡ refused_or r (out ∷ outs) v
 rest_of None outs v out = refl
 rest_of (Some r) outs v out = refl
 

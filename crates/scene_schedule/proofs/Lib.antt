@@ -10,3 +10,4 @@ pub mod WrittenCells
 pub mod WrittenRows
 pub mod SystemWrites
 pub mod InTurn
+pub mod Queued

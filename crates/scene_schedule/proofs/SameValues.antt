@@ -1,6 +1,6 @@
 -- Rows with the same kinds, and with the same values of some of them: steps that read and write those alone make the same of both.
-use Rattle.std.proofs.Common.{◌≡◌, ℕ, ◌+◌, Bool, true, false, cond, ◌||◌, List, [], ◌∷◌, map, refl, ap, subst, sym, ◌∙◌, nat_eq, Option, Some, None, Ok, ⊤}
-use Rattle.std.specs.Prelude.{Result, Err, option_map, filter, is_some}
+use Rattle.std.proofs.Common.{◌≡◌, ℕ, ◌+◌, Bool, true, false, cond, ◌||◌, List, [], ◌∷◌, map, refl, ap, subst, sym, ◌∙◌, nat_eq, Option, Some, None, Ok}
+use Rattle.std.specs.Prelude.{⊤, Result, Err, option_map, filter, is_some}
 use Rattle.std.specs.List.{AllZip, list_any}
 use Rattle.std.specs.Ordering.{nat_cmp, eq_by_cmp}
 use Rattle.std.specs.declared.cmp.Ordering.TheVariants.{Less, Equal, Greater}
@@ -240,7 +240,7 @@ value_found (c ∷ cs) kind =
 pub values_put : (cells : List (ℕ × Cell)) (kind : ℕ) (cell : Cell) → map (λ (c : ℕ × Cell). (c.0, c.1.value)) (with_cell cells kind cell) ≡ put nat_cmp kind cell.value (map (λ (c : ℕ × Cell). (c.0, c.1.value)) cells)
 values_put [] kind cell = refl
 values_put (c ∷ cs) kind cell =
-    let f = λ (c : ℕ × Cell). (c.0, c.1.value) in
+    let f : ℕ × Cell → ℕ × Value = λ c. (c.0, c.1.value) in
     elim (nat_cmp kind c.0) as (λ o. map f (by_order o ((kind, cell) ∷ c ∷ cs) ((c.0, cell) ∷ cs) (c ∷ with_cell cs kind cell)) ≡ by_order o ((kind, cell.value) ∷ f c ∷ map f cs) ((c.0, cell.value) ∷ map f cs) (f c ∷ put nat_cmp kind cell.value (map f cs))) [
       | Less ↦ refl
       | Equal ↦ refl

@@ -70,10 +70,10 @@ abbrev pub output_of : World → SystemRule → SystemOutput
 output_of w rule = record { rows = changes_of w rule; commands = commands_after w 0 rule.steps (changes_of w rule) }
 
 -- these are the changes and the commands that a system makes of the opening world, and no sum of them overflows
-pub record IsMadeOf (w : World) (rule : SystemRule) (rows : List RowChange) (commands : List Command) : Type 0 where
+pub record IsMadeOf (w : World) (rule : SystemRule) (changes : List RowChange) (queue : List Command) : Type 0 where
   pub fit : first_fault (changes_of w rule) ≡ None
-  pub rows : rows ≡ changes_of w rule
-  pub commands : commands ≡ commands_after w 0 rule.steps (changes_of w rule)
+  pub rows : changes ≡ changes_of w rule
+  pub commands : queue ≡ commands_after w 0 rule.steps (changes_of w rule)
 
 -- a system overflows on the opening world, and this is the refusal, by its place in the phase
 pub record Overflows (w : World) (system : ℕ) (rule : SystemRule) (r : Refusal) : Type 0 where

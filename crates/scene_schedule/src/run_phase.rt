@@ -1,5 +1,5 @@
 //! What the systems of a phase make of the opening world.
-ghost use Rattle.std.specs.Prelude.{◌≡◌, ◌≢◌, ◌≤◌, Err, IfOk, IfErr, length};
+ghost use Rattle.std.specs.Prelude.{◌≡◌, ◌≢◌, ◌≤◌, ◌++◌, [], ◌∷◌, Err, IfOk, IfErr, OnOk, length};
 ghost use Rattle.scene_kinds.specs.Answers.{refusal_of};
 ghost use Rattle.scene_kinds.specs.declared.fault.Fault.TheVariants.{NoMemory};
 ghost use Rattle.scene_model.specs.Perform.{perform};
@@ -17,6 +17,16 @@ use scene_rules::{RowStep, Step, SystemRule};
 use scene_world::World;
 use std::alloc::{AllocError, Global};
 
+/// Adds a step, if it writes.
+fn push_row(list: &mut Vec<RowStep>, step: &Step) -> Result<(), AllocError>
+    ensures { OnOk result (list.new.items ≡ list.old.items ++ row_steps (step.now ∷ [])) }
+{
+    if let Step::Row(row_step) = step {
+        list.push(*row_step)?;
+    }
+    Ok(())
+}
+
 /// The steps that write, first to last, or an error where no memory was found.
 fn row_steps(alloc: Global, steps: &[Step]) -> Result<Vec<RowStep>, AllocError>
     ensures steps { IfOk result (λ list. list.items ≡ row_steps steps.now) }
@@ -24,9 +34,7 @@ fn row_steps(alloc: Global, steps: &[Step]) -> Result<Vec<RowStep>, AllocError>
 {
     let mut list = Vec::new(alloc);
     'steps: for at in 0..steps.len() {
-        if let Step::Row(step) = steps[at] {
-            list.push(step)?;
-        }
+        push_row(&mut list, &steps[at])?;
     }
     Ok(list)
 }
