@@ -11,3 +11,4 @@ pub mod WrittenRows
 pub mod SystemWrites
 pub mod InTurn
 pub mod Queued
+pub mod Outputs

@@ -1,5 +1,5 @@
 -- Steps of the walks that make a system's queue, and those that make what the systems of a phase make.
-use Rattle.std.proofs.Common.{◌≡◌, ◌<◌, ◌≤◌, ℕ, ◌+◌, List, [], ◌∷◌, ◌++◌, append_assoc, append-nil, length, get_or, drop, map, Bool, true, false, cond, refl, ap, sym, ◌∙◌, arith, Some, None, Option}
+use Rattle.std.proofs.Common.{◌≡◌, ◌<◌, ◌≤◌, ℕ, ◌+◌, List, [], ◌∷◌, ◌++◌, append_assoc, append-nil, length, length-append, get_or, drop, map, Bool, true, false, cond, refl, ap, sym, ◌∙◌, arith, Some, None, Option}
 use Rattle.std.specs.Prelude.{filter, option_map}
 use Rattle.std.specs.Ordering.{nat_cmp, eq_by_cmp}
 use Rattle.std.specs.Cmp.{nat_cmp_total}
@@ -15,6 +15,7 @@ use Rattle.scene_commands.specs.declared.command.Command.TheVariants.{Spawn, Des
 use Rattle.scene_commands.specs.declared.target.Target.TheVariants.{Id, New}
 use Rattle.scene_model.specs.World.{World}
 use Rattle.scene_queue.specs.Queue.{spawns, spawned_by}
+use Rattle.scene_rules.specs.declared.row_step.RowStep.{RowStep}
 use Rattle.scene_rules.specs.declared.step.Step.{Step}
 use Rattle.scene_rules.specs.declared.step.Step.TheVariants.{Row as Writing, DespawnAtZero, SpawnChild, CountInto}
 use Rattle.scene_rules.specs.declared.system_rule.SystemRule.{SystemRule}
@@ -158,6 +159,12 @@ row_steps_few (Writing s ∷ ss) = omega (arith, row_steps_few ss)
 row_steps_few (DespawnAtZero kind ∷ ss) = omega (arith, row_steps_few ss)
 row_steps_few (SpawnChild cells ∷ ss) = omega (arith, row_steps_few ss)
 row_steps_few (CountInto name ∷ ss) = omega (arith, row_steps_few ss)
+
+-- nor are those of a walk so far
+pub row_steps_so_far : (some rest : List RowStep) (steps : List Step) → some ++ rest ≡ row_steps steps → length some ≤ length steps
+row_steps_so_far some rest steps h =
+    let long : length (some ++ rest) ≡ length (row_steps steps) = ap length h in
+    omega (arith, length-append some rest, long, row_steps_few steps)
 
 -- ---- overflows
 
