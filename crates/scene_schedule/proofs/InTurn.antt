@@ -76,7 +76,7 @@ rest_of (Some r) outs v out = refl
 abbrev Ends : ℕ → SystemRule → List SystemRule → World → World → Option (Entity × ℕ) → Type 0
 Ends at rule rules w u over =
     (v : World) × (and_then (unless_over at over (Ok (output_of w rule, u))) (λ out t. and_then (systems_from perform (λ s. s) (at + 1) rules t) (λ outs z. Ok (out ∷ outs, z)))
-        ≡ refused_or (overflow_or at over (first_overflow w (at + 1) rules)) (map (output_of w) (rule ∷ rules)) v)
+    ≡ refused_or (overflow_or at over (first_overflow w (at + 1) rules)) (map (output_of w) (rule ∷ rules)) v)
 
 goes_on : (at : ℕ) (rule : SystemRule) (rules : List SystemRule) (w u : World) (over : Option (Entity × ℕ))
     → (v : World) × (systems_from perform (λ s. s) (at + 1) rules u ≡ refused_or (first_overflow w (at + 1) rules) (map (output_of w) rules) v)

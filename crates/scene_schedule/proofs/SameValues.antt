@@ -57,9 +57,9 @@ alike_put on kind v [] (y ∷ ys) h = absurd h
 alike_put on kind v (x ∷ xs) [] h = absurd h
 alike_put on kind v (x ∷ xs) (y ∷ ys) h =
     subst (λ k. AreAlike on (by_order (nat_cmp kind x.0) ((kind, v) ∷ x ∷ xs) ((x.0, v) ∷ xs) (x ∷ put nat_cmp kind v xs))
-        (by_order (nat_cmp kind k) ((kind, v) ∷ y ∷ ys) ((y.0, v) ∷ ys) (y ∷ put nat_cmp kind v ys))) h.0.kind
+    (by_order (nat_cmp kind k) ((kind, v) ∷ y ∷ ys) ((y.0, v) ∷ ys) (y ∷ put nat_cmp kind v ys))) h.0.kind
     (elim (nat_cmp kind x.0) as (λ o. AreAlike on (by_order o ((kind, v) ∷ x ∷ xs) ((x.0, v) ∷ xs) (x ∷ put nat_cmp kind v xs))
-        (by_order o ((kind, v) ∷ y ∷ ys) ((y.0, v) ∷ ys) (y ∷ put nat_cmp kind v ys))) [
+    (by_order o ((kind, v) ∷ y ∷ ys) ((y.0, v) ∷ ys) (y ∷ put nat_cmp kind v ys))) [
       | Less ↦ (alike_itself on (kind, v), h)
       | Equal ↦ (record { kind = h.0.kind; value = λ t. refl }, h.1)
       | Greater ↦ (h.0, alike_put on kind v xs ys h.1)
@@ -210,7 +210,7 @@ row_values on r s h =
 pub change_alike : (on : ℕ → Bool) (ss : List RowStep) (r s : Row) → AreStepsOn on ss → IsRowAlike on r s → change_of ss r ≡ change_of ss s
 change_alike on ss r s c h =
     let outcome : outcome_of ss (after_steps 0 ss (values_of r)) ≡ outcome_of ss (after_steps 0 ss (values_of s)) =
-        outcome_alike on ss (after_steps 0 ss (values_of r)) (after_steps 0 ss (values_of s)) c (steps_alike on 0 ss (values_of r) (values_of s) c (row_values on r s h)) in
+    outcome_alike on ss (after_steps 0 ss (values_of r)) (after_steps 0 ss (values_of s)) c (steps_alike on 0 ss (values_of r) (values_of s) c (row_values on r s h)) in
     λ i. record { entity = h.entity i; outcome = outcome i }
 
 -- a kind that one of the rows has, the other one has

@@ -187,7 +187,7 @@ module _ (u : World) (rule : SystemRule) (valid : IsValid u) where
   value_after h row after kind (Some v) is at now found =
       let write : Contains (cells_of (change_of ss row)) (row.entity, (kind, v)) = in_map (λ (v : ℕ × Value). (row.entity, v)) (cells_for row) (kind, v) (row.entity, (kind, v)) (entry_in (cells_for row) kind v found) refl in
       let all = in_flat_map cells_of (changes_of u rule) (change_of ss row) (row.entity, (kind, v))
-          (in_map (change_of ss) (matching_rows u rule.filter) row (change_of ss row) (row_listed u rule.filter h row at is) refl) write in
+      (in_map (change_of ss) (matching_rows u rule.filter) row (change_of ss row) (row_listed u rule.filter h row at is) refl) write in
       read_at system_written.tables h after kind (Some v) now (system_written.made (row.entity, (kind, v)) all h row at refl (wanted_is h row kind at ∙ found))
   value_after h row after kind None is at now found =
       read_at system_written.tables h after kind (find nat_cmp kind (values_of row)) now
@@ -290,7 +290,7 @@ module _ (u w : World) (rule : SystemRule) (valid : IsValid u) (opening : IsVali
       → is_zero (cell_of row.cells kind) ≡ is_zero_after w kind (change_of (row_steps rule.steps) opened)
   zero_alike h row was opened kind is now at at_opening alike t =
       let cells : cells_by (row_steps rule.steps) was ≡ cells_by (row_steps rule.steps) opened =
-          ap (λ (c : RowChange). written_of c.outcome) (change_alike (touches rule) (row_steps rule.steps) was opened (steps_on (touches rule) rule.steps (λ k s. s)) alike) in
+      ap (λ (c : RowChange). written_of c.outcome) (change_alike (touches rule) (row_steps rule.steps) was opened (steps_on (touches rule) rule.steps (λ k s. s)) alike) in
       let found = find nat_cmp kind (cells_by (row_steps rule.steps) was) in
       zero_value row kind
       ∙ ap (λ o. zero_or o false) (value_after u rule valid h was row kind found is at now refl)
@@ -330,7 +330,7 @@ module _ (u w : World) (rule : SystemRule) (valid : IsValid u) (opening : IsVali
   system_made at =
       let same = changes_alike u w rule a in
       let queued : queued_by made_world rule ≡ commands_after w 0 rule.steps (changes_of w rule) =
-          commands_alike (touches rule) w rule.steps 0 (matching_rows made_world rule.filter) (changes_of w rule) (λ kind t. t) rows_queued in
+      commands_alike (touches rule) w rule.steps 0 (matching_rows made_world rule.filter) (changes_of w rule) (λ kind t. t) rows_queued in
       ap (λ o. unless_over at (first_fault (changes_of u rule)) (and_then o (λ es t. Ok (record { rows = changes_of u rule; commands = queued_by t rule }, t))))
       (queue_accepted (wanted_at u rule valid) u at (changes_of u rule) (system_written u rule valid))
       ∙ (λ i. unless_over at (first_fault (same i)) (Ok (record { rows = same i; commands = queued i }, made_world)))

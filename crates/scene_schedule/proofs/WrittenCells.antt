@@ -167,9 +167,9 @@ module _ (w : World) (e : Entity) (kind : ℕ) (value : Value) (h : Home) (valid
   write_accepted : perform w (Insert e kind value) ≡ Ok (None, with_tables w new_tables)
   write_accepted =
       ap (λ o. answering {A = Unit {0}} {B = Option Entity} (λ a. None) (with_live o (λ h row. unless (insert_fault w.schema kind value)
-          (Ok (tt, with_tables w (after_insert w.tick w.tables h row kind value (cell_of row.cells kind))))))) (row_stands w e h can.row valid.rows.once can.there can.same)
+      (Ok (tt, with_tables w (after_insert w.tick w.tables h row kind value (cell_of row.cells kind))))))) (row_stands w e h can.row valid.rows.once can.there can.same)
       ∙ ap (λ f. answering {A = Unit {0}} {B = Option Entity} (λ a. None) (unless f
-          (Ok (tt, with_tables w (after_insert w.tick w.tables h can.row kind value (cell_of can.row.cells kind)))))) (no_fault_known w.schema kind value can.fits)
+      (Ok (tt, with_tables w (after_insert w.tick w.tables h can.row kind value (cell_of can.row.cells kind)))))) (no_fault_known w.schema kind value can.fits)
       ∙ ap (λ o. Ok (None, with_tables w (after_insert w.tick w.tables h can.row kind value o))) can.has
 
   -- the values of the new row

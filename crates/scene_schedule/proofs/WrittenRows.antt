@@ -91,9 +91,9 @@ has_cell_of : (row other : Row) (kind : ℕ) (old : Cell) (o : Option Cell) → 
 has_cell_of row other kind old (Some c) a has is = (c, refl)
 has_cell_of row other kind old None a has is =
     let there : is_some (option_map (λ (c : Cell). c.value) (cell_of row.cells kind)) ≡ is_some (option_map (λ (c : Cell). c.value) (cell_of other.cells kind)) =
-        ap is_some (sym (value_found row.cells kind)) ∙ there_alike (λ k. false) kind (values_of row) (values_of other) (row_values (λ k. false) row other a) ∙ ap is_some (value_found other.cells kind) in
+    ap is_some (sym (value_found row.cells kind)) ∙ there_alike (λ k. false) kind (values_of row) (values_of other) (row_values (λ k. false) row other a) ∙ ap is_some (value_found other.cells kind) in
     absurd (let wrong : true ≡ false =
-        sym (ap (λ o. is_some (option_map (λ (c : Cell). c.value) o)) has) ∙ there ∙ ap (λ o. is_some (option_map (λ (c : Cell). c.value) o)) is in cc)
+    sym (ap (λ o. is_some (option_map (λ (c : Cell). c.value) o)) has) ∙ there ∙ ap (λ o. is_some (option_map (λ (c : Cell). c.value) o)) is in cc)
 
 still_wanted : (wanted : Wanted) (w : World) (t : Tables) (x : Write) → AreTablesAlike (λ k. false) w.tables t → IsWantedIn wanted w x → IsWantedIn wanted (with_tables w t) x
 still_wanted wanted w t x alike h =
