@@ -8,3 +8,13 @@ pub mod SameKinds
 pub mod StagedSystems
 pub mod Phases
 pub mod Writes
+pub mod Entries
+pub mod Zips
+pub mod SameValues
+pub mod GoodChanges
+pub mod WrittenCells
+pub mod WrittenRows
+pub mod SystemWrites
+pub mod InTurn
+pub mod Queued
+pub mod Outputs

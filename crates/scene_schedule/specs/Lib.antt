@@ -3,3 +3,4 @@ pub mod Systems
 pub mod Examples
 pub mod Sound
 pub mod Output
+pub mod AtOnce

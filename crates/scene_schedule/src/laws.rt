@@ -4,6 +4,7 @@ ghost use Rattle.scene_kinds.specs.declared.fault.Fault.TheVariants.{BadRule, Co
 ghost use Rattle.scene_rules.specs.declared.row_step.RowStep.TheVariants.{AddVec, AddInt};
 ghost use Rattle.scene_rules.specs.declared.step.Step.TheVariants.{Row, DespawnAtZero};
 ghost use Rattle.scene_schedule.specs.Examples.{three_kinds, doing, move, count_down, end_at_zero, idle, empty_phases};
+ghost use Rattle.scene_schedule.specs.AtOnce.{SystemsSeeTheOpeningWorld};
 ghost use Rattle.scene_schedule.specs.Schedule.{ScheduleState, IsSchedule, schedule_fault};
 ghost use Rattle.scene_schedule.specs.Sound.{IsSound};
 
@@ -11,6 +12,12 @@ ghost use Rattle.scene_schedule.specs.Sound.{IsSound};
 /// phase are in each other's way: neither writes a kind that the other reads or writes.
 pub fn schedules_are_just_what_is_sound()
     ensures { (s : ScheduleState) → IsSchedule s ↔ IsSound s.schema s.phases }
+{}
+
+/// A law: systems of which none is in another's way make in their turn, each on what those before it wrote, what each of them makes
+/// of the opening world alone; and the first that overflows on the opening world is the one that is refused.
+pub fn systems_see_the_opening_world()
+    ensures { SystemsSeeTheOpeningWorld }
 {}
 
 /// Worked examples, over the vectors P and V and the number N. `move` writes P and reads V, `count_down` writes N,

@@ -6,11 +6,13 @@
 
 mod advance;
 mod cells;
+mod commands;
 mod conflict;
 mod count;
 mod laws;
 mod output;
 mod rule;
+mod run_phase;
 mod schedule;
 #[cfg(test)]
 mod tests;
@@ -20,5 +22,8 @@ mod write_tests;
 
 pub use advance::{Advance, PhaseRunner};
 pub use laws::{schedules_are_just_what_is_sound, worked_schedules};
+mod zero;
+pub use laws::{schedules_are_just_what_is_sound, systems_see_the_opening_world, worked_schedules};
 pub use output::{PhaseOutput, RowChanges};
+pub use run_phase::run_phase_alone;
 pub use schedule::{Schedule, same_schema};
