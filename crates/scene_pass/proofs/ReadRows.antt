@@ -52,14 +52,14 @@ nth_value row n kind cell there = nth_of valued row.cells n ∙ ap (option_map v
 -- one more value that is written, and one that isn't
 pub value_pushed : (steps : List RowStep) (values : Values) (n : ℕ) (v : ℕ × Value) (old new : Values) → slice_get values n ≡ Some v → is_written steps v.0 ≡ true → new ≡ old ++ v ∷ []
     → new ++ written_of steps (drop (n + 1) values) ≡ old ++ written_of steps (drop n values)
-value_pushed steps values n v old new there yes pushed =
+value_pushed steps values n v old new there written pushed =
     let rest = written_of steps (drop (n + 1) values) in
-    ap (λ vs. vs ++ rest) pushed ∙ append_assoc old (v ∷ []) rest ∙ ap (λ vs. old ++ vs) (sym (drop_at (written_of steps) values n v there ∙ ap (λ b. cond b (v ∷ rest) rest) yes))
+    ap (λ vs. vs ++ rest) pushed ∙ append_assoc old (v ∷ []) rest ∙ ap (λ vs. old ++ vs) (sym (drop_at (written_of steps) values n v there ∙ ap (λ b. cond b (v ∷ rest) rest) written))
 
 pub value_passed : (steps : List RowStep) (values : Values) (n : ℕ) (v : ℕ × Value) (old : Values) → slice_get values n ≡ Some v → is_written steps v.0 ≡ false
     → old ++ written_of steps (drop (n + 1) values) ≡ old ++ written_of steps (drop n values)
-value_passed steps values n v old there no =
-    let rest = written_of steps (drop (n + 1) values) in ap (λ vs. old ++ vs) (sym (drop_at (written_of steps) values n v there ∙ ap (λ b. cond b (v ∷ rest) rest) no))
+value_passed steps values n v old there other =
+    let rest = written_of steps (drop (n + 1) values) in ap (λ vs. old ++ vs) (sym (drop_at (written_of steps) values n v there ∙ ap (λ b. cond b (v ∷ rest) rest) other))
 
 -- ---- places
 

@@ -35,3 +35,6 @@ pub use fault::first_fault;
 pub use laws::{passes_list_just_what_matches, worked_changes, worked_passes};
 pub use row_change::{Outcome, RowChange};
 pub use scene_rules::{Filter, RowStep};
+
+#[cfg(test)]
+mod tests;

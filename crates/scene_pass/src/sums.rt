@@ -25,11 +25,9 @@ fn three(x: Option<i64>, y: Option<i64>, z: Option<i64>) -> Option<[i64; 3]>
 fn sums(vector: &[i64; 3], by: &[i64; 3]) -> Option<[i64; 3]>
     ensures { result ≡ sums vector.now by.now }
 {
-    three(
-        sum(vector[0], by[0]),
-        sum(vector[1], by[1]),
-        sum(vector[2], by[2]),
-    )
+    let [x, y, z] = *vector;
+    let [by_x, by_y, by_z] = *by;
+    three(sum(x, by_x), sum(y, by_y), sum(z, by_z))
 }
 
 /// The sum of two numbers as a value, if it fits.
