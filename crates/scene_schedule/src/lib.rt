@@ -19,10 +19,9 @@ mod tests;
 mod write;
 #[cfg(test)]
 mod write_tests;
+mod zero;
 
 pub use advance::{Advance, PhaseRunner};
-pub use laws::{schedules_are_just_what_is_sound, worked_schedules};
-mod zero;
 pub use laws::{schedules_are_just_what_is_sound, systems_see_the_opening_world, worked_schedules};
 pub use output::{PhaseOutput, RowChanges};
 pub use run_phase::run_phase_alone;
