@@ -1,5 +1,5 @@
 -- Lists of values by kind: where the value of a kind stands, and what a filter of kinds keeps.
-use Rattle.std.proofs.Common.{◌≡◌, ℕ, zero, suc, ◌<◌, Bool, true, false, cond, List, [], ◌∷◌, refl, ap, subst, sym, ◌∙◌, arith, Option, Some, None, nat_eq}
+use Rattle.std.proofs.Common.{◌≡◌, ℕ, suc, ◌<◌, Bool, true, false, cond, List, [], ◌∷◌, refl, ap, subst, sym, ◌∙◌, Option, Some, None, nat_eq}
 use Rattle.std.specs.Prelude.{T, slice_get, slice_set}
 use Rattle.std.specs.List.{position_from}
 use Rattle.std.specs.Ordering.{nat_cmp, eq_by_cmp}

@@ -1,5 +1,5 @@
 -- The changes of rows, one after another and by their places.
-use Rattle.std.proofs.Common.{◌≡◌, ◌<◌, ℕ, zero, suc, ◌+◌, List, [], ◌∷◌, ◌++◌, append_assoc, length, map, drop, refl, ap, subst, sym, ◌∙◌, arith, Option, Some, None}
+use Rattle.std.proofs.Common.{◌≡◌, ℕ, suc, ◌+◌, List, [], ◌∷◌, ◌++◌, append_assoc, length, map, drop, refl, ap, subst, sym, ◌∙◌, arith, Some}
 use Rattle.std.specs.Prelude.{slice_get, Result, Ok, Err, IfOk, MatchResult}
 use Rattle.std.specs.List.{AllZip, range_with_len}
 use Rattle.scene_pass.proofs.RowSteps.{drop_at}

@@ -1,5 +1,5 @@
 -- A row that is read in its table: its values, and those that steps write.
-use Rattle.std.proofs.Common.{◌≡◌, ◌<◌, ℕ, zero, suc, ◌+◌, Bool, true, false, cond, List, [], ◌∷◌, ◌++◌, append_assoc, length, map, drop, slice_index_or, refl, ap, sym, ◌∙◌, arith, Option, Some, None, IfSome, nat_eq}
+use Rattle.std.proofs.Common.{◌≡◌, ◌<◌, ℕ, zero, suc, ◌+◌, true, false, cond, List, [], ◌∷◌, ◌++◌, append_assoc, length, map, drop, slice_index_or, refl, ap, sym, ◌∙◌, arith, Option, Some, None, IfSome, nat_eq}
 use Rattle.std.specs.Prelude.{option_map, slice_get}
 use Rattle.std.specs.Option.{option_flatten}
 use Rattle.std.specs.Ordering.{nat_cmp, eq_by_cmp}

@@ -1,5 +1,5 @@
 -- The sum of two vectors, coordinate by coordinate.
-use Rattle.std.proofs.Common.{◌≡◌, ℕ, List, [], ◌∷◌, length, slice_index_or, refl, ap, arith, Option, Some, None}
+use Rattle.std.proofs.Common.{◌≡◌, List, [], ◌∷◌, length, slice_index_or, refl, arith, Option, Some, None}
 use Rattle.std.specs.Prelude.{ℤ, pos, option_map}
 use Rattle.std.specs.Option.{option_and_then}
 use Rattle.scene_pass.specs.Changes.{sum, sums}

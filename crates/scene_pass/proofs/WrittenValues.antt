@@ -1,8 +1,7 @@
 -- Steps over the values that they write make of a row what they make over all of its values.
 use Rattle.std.proofs.Common.{◌≡◌, ℕ, ◌+◌, ◌<◌, length, drop, slice_index_or, Bool, true, false, cond, ◌||◌, List, [], ◌∷◌, map, refl, ap, subst, sym, ◌∙◌, Option, Some, None, IfSome, nat_eq}
-use Rattle.std.specs.Prelude.{T, option_map, slice_get, slice_set, ◌&&◌}
+use Rattle.std.specs.Prelude.{T, option_map, ◌&&◌}
 use Rattle.std.specs.Option.{option_or, option_and_then}
-use Rattle.std.specs.List.{list_any}
 use Rattle.std.specs.Ordering.{nat_cmp, eq_by_cmp, is_lt}
 use Rattle.std.specs.Cmp.{nat_cmp_total}
 use Rattle.std.specs.FinMap.{nat_cmp-IsAntisymmetric}
@@ -18,7 +17,7 @@ use Rattle.scene_rules.specs.declared.row_step.RowStep.{RowStep}
 use Rattle.scene_rules.specs.declared.row_step.RowStep.TheVariants.{AddVec, AddInt}
 use Rattle.scene_rules.specs.RowStep.{target, is_written}
 use Rattle.scene_pass.specs.Changes.{Values, values_of, value_sum, addend, added, step_on, unless_overflow, after_steps, outcome_of}
-use Rattle.scene_pass.specs.InPlace.{written_of, place_of, value_at, value_or, addend_in, put_sum, added_in, step_in, goes_on, outcome_in}
+use Rattle.scene_pass.specs.InPlace.{written_of, place_of, value_or, addend_in, put_sum, added_in, step_in, goes_on, outcome_in}
 use Rattle.scene_pass.proofs.ByKind.{find_kept, kept_put, IsAt, at_place, at_none}
 
 -- ---- the values of a row ascend as its cells do
@@ -78,8 +77,8 @@ after_put : (p : ℕ → Bool) (own values : Values) (kind : ℕ) (v : Value) �
 after_put p own values kind v h a = record {
   up = is_sorted-put nat_cmp nat_cmp_total kind v values a.up;
   kept = λ k.
-    subst (λ o. cond (p k) (option_or o (find nat_cmp k own)) (find nat_cmp k own) ≡ o) (sym (find-put nat_cmp nat_cmp_total k kind v values))
-    (kept_after (p k) (eq_by_cmp nat_cmp k kind) (find nat_cmp k values) (find nat_cmp k own) v (λ t. ap p (equal_keys nat_cmp-IsAntisymmetric k kind t) ∙ h) (a.kept k));
+      subst (λ o. cond (p k) (option_or o (find nat_cmp k own)) (find nat_cmp k own) ≡ o) (sym (find-put nat_cmp nat_cmp_total k kind v values))
+      (kept_after (p k) (eq_by_cmp nat_cmp k kind) (find nat_cmp k values) (find nat_cmp k own) v (λ t. ap p (equal_keys nat_cmp-IsAntisymmetric k kind t) ∙ h) (a.kept k));
 }
 
 -- ---- one step

@@ -1,5 +1,5 @@
 -- A small world for the worked examples, with names for what the passes over it list, and a row for those of row steps.
-use Rattle.std.specs.Prelude.{ℕ, ℤ, List, [], ◌∷◌, pos, negsuc}
+use Rattle.std.specs.Prelude.{ℕ, ℤ, [], ◌∷◌, pos, negsuc}
 use Rattle.scene_kinds.specs.declared.entity.Entity.{Entity}
 use Rattle.scene_kinds.specs.declared.cell.Cell.{Cell}
 use Rattle.scene_kinds.specs.declared.cells.Row.{Row}
@@ -72,11 +72,11 @@ abbrev pub row_of_four : Row
 row_of_four = record {
   entity = ent 4;
   cells =
-    (0, record { value = vector (pos 1) (pos 2) (pos 3); added = 1; changed = 1 })
-    ∷ (1, record { value = vector (pos 10) (negsuc 1) (pos 0); added = 1; changed = 1 })
-    ∷ (2, record { value = int (pos 7); added = 1; changed = 1 })
-    ∷ (3, tag 1 1)
-    ∷ [];
+      (0, record { value = vector (pos 1) (pos 2) (pos 3); added = 1; changed = 1 })
+      ∷ (1, record { value = vector (pos 10) (negsuc 1) (pos 0); added = 1; changed = 1 })
+      ∷ (2, record { value = int (pos 7); added = 1; changed = 1 })
+      ∷ (3, tag 1 1)
+      ∷ [];
 }
 
 -- the two steps

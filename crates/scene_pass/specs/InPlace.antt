@@ -1,5 +1,5 @@
 -- What row steps make of a row that is read in its table: only the values that the steps write are held apart.
-use Rattle.std.specs.Prelude.{◌≡◌, ◌<◌, ℕ, ◌+◌, length, List, [], ◌∷◌, ℤ, Option, Some, None, option_map, slice_get, slice_set, nat_eq}
+use Rattle.std.specs.Prelude.{◌<◌, ℕ, ◌+◌, length, List, [], ◌∷◌, ℤ, Option, Some, None, option_map, slice_get, slice_set, nat_eq}
 use Rattle.std.specs.Option.{unwrap_or, option_and_then}
 use Rattle.std.specs.List.{filter, position_from}
 use Rattle.std.specs.Ordering.{nat_cmp}

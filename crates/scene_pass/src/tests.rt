@@ -8,7 +8,9 @@ use std::thread::Threads;
 
 /// The kinds of the worlds: a number, and two vectors.
 const NUMBER: u8 = 0;
+
 const PLACE: u8 = 1;
+
 const SPEED: u8 = 2;
 
 /// A world without entities.
@@ -62,7 +64,10 @@ fn first(index: u32) -> Entity {
 /// The place after two steps, by the speed 10 -2 0.
 fn moved_twice(alloc: Global) -> Result<bool, Refusal> {
     let mut world = empty_world(alloc)?;
-    let cells = vec![in alloc; (SPEED, Value::Vec3([10, -2, 0])), (PLACE, Value::Vec3([1, 2, 3]))]?;
+    let cells = vec![in alloc;
+        (SPEED, Value::Vec3([10, -2, 0])),
+        (PLACE, Value::Vec3([1, 2, 3])),
+    ]?;
     let _entity = world.spawn(cells)?;
     let step = RowStep::AddVec {
         to: PLACE,
@@ -87,11 +92,7 @@ fn vectors_are_added(rt: HostRuntime) -> Result<(), Fail> {
 }
 
 /// How many rows count up from 5 after 5 was added to numbers from 0, in many threads.
-fn raised(
-    rt: &(impl Threads + Sync),
-    alloc: Global,
-    count: i64,
-) -> Result<Option<usize>, Refusal> {
+fn raised(rt: &(impl Threads + Sync), alloc: Global, count: i64) -> Result<Option<usize>, Refusal> {
     let world = numbered(alloc, count)?;
     let step = RowStep::AddInt { to: NUMBER, by: 5 };
     let made = map_rows(rt, alloc, &world, Filter::all(), [step].as_slice())?;

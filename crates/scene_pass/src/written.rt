@@ -69,11 +69,7 @@ fn place_of(values: &[(u8, Value)], kind: u8) -> Option<usize>
 }
 
 /// The value of a kind: the one that is written, or else the row's own, or `None` where the row doesn't have the kind.
-fn value_of<'a>(
-    row: &'a RowInPlace<'_>,
-    written: &'a [(u8, Value)],
-    kind: u8,
-) -> Option<&'a Value>
+fn value_of<'a>(row: &'a RowInPlace<'_>, written: &'a [(u8, Value)], kind: u8) -> Option<&'a Value>
     ensures { option_map (λ v. v.now) result ≡ value_or written.now (place_of written.now kind) (find nat_cmp kind (values_of row.now)) }
 {
     match place_of(written, kind) {
@@ -83,11 +79,7 @@ fn value_of<'a>(
 }
 
 /// The value at a place with another added to it, or `None` where the sum doesn't fit.
-fn sum_at(
-    written: &[(u8, Value)],
-    at: usize,
-    by: &Value,
-) -> Result<Option<Value>, AllocError>
+fn sum_at(written: &[(u8, Value)], at: usize, by: &Value) -> Result<Option<Value>, AllocError>
     requires { at < length written.now }
     ensures { IfOk result (λ sum. sum ≡ sum_at written.now at by.now) }
 {
@@ -109,12 +101,7 @@ fn put_sum(written: &mut Vec<(u8, Value)>, kind: u8, at: usize, sum: Option<Valu
 }
 
 /// Adds a number to the value at the place of a kind, or answers false where the sum doesn't fit.
-fn add_int(
-    written: &mut Vec<(u8, Value)>,
-    kind: u8,
-    at: usize,
-    by: i64,
-) -> Result<bool, AllocError>
+fn add_int(written: &mut Vec<(u8, Value)>, kind: u8, at: usize, by: i64) -> Result<bool, AllocError>
     requires { at < length written.old.items }
     ensures { IfOk result (λ fits. added_in written.old.items kind (Some at) (Some (Int by))
         ≡ (if fits then Some written.new.items else None)) }

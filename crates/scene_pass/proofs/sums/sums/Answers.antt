@@ -1,4 +1,4 @@
-use Rattle.std.proofs.Common.{rules, ◌≡◌, ◌∙◌, ℕ, List, slice_index_or, w64, FitsSigned, pos}
+use Rattle.std.proofs.Common.{rules, ◌∙◌, ℕ, List, slice_index_or, w64, FitsSigned, pos}
 use Rattle.std.specs.Prelude.{ℤ}
 use Rattle.std.proofs.lemmas.Int.{to_z-of_z}
 use Rattle.scene_pass.specs.Changes.{sum}
