@@ -18,3 +18,4 @@ pub mod SystemWrites
 pub mod InTurn
 pub mod Queued
 pub mod Outputs
+pub mod Shares

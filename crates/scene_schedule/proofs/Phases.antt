@@ -1,6 +1,6 @@
 -- A phase on a stage: what its systems make of the stage's world, written, and then their queues.
-use Rattle.std.proofs.Common.{◌≡◌, ◌≤◌, ◌<◌, ℕ, suc, ◌+◌, List, [], ◌∷◌, ◌++◌, length, get_or, drop, refl, ap, sym, subst, ◌∙◌, arith, map, Option, Some, None, Ok, append_assoc}
-use Rattle.std.specs.Prelude.{Result, Err, IfOk, IfErr, slice_get}
+use Rattle.std.proofs.Common.{◌≡◌, ◌≤◌, ◌<◌, ℕ, suc, ◌+◌, List, [], ◌∷◌, ◌++◌, length, get_or, refl, ap, sym, subst, ◌∙◌, arith, map, Some, Ok, append_assoc}
+use Rattle.std.specs.Prelude.{Result, Err, IfOk, IfErr}
 use Rattle.std.proofs.lemmas.List.{length-map}
 use Rattle.std.proofs.lemmas.Simd.{map-map}
 use Rattle.std.proofs.lemmas.Option.{slice_get-get_or}
@@ -11,15 +11,12 @@ use Rattle.scene_kinds.specs.Schema.{Kinds}
 use Rattle.scene_model.specs.World.{World}
 use Rattle.scene_model.specs.Commands.{and_then}
 use Rattle.scene_model.specs.Perform.{Act, perform}
-use Rattle.scene_machine.specs.Queue.{Request}
 use Rattle.scene_machine.specs.Frame.{queues_from}
 use Rattle.scene_world.specs.Stage.{Staged, Note, act}
 use Rattle.scene_queue.specs.Queue.{QueueState}
 use Rattle.scene_queue.specs.Frames.{frame_of, on_world}
 use Rattle.scene_queue.specs.Requests.{requests}
 use Rattle.scene_rules.specs.declared.system_rule.SystemRule.{SystemRule}
-use Rattle.scene_commands.specs.declared.command.Command.{Command}
-use Rattle.scene_pass.specs.declared.row_change.RowChange.{RowChange}
 use Rattle.scene_schedule.specs.declared.output.PhaseOutput.{PhaseOutput}
 use Rattle.scene_schedule.specs.Schedule.{ScheduleState, IsSchedule}
 use Rattle.scene_schedule.specs.Sound.{IsSoundPhase}

@@ -13,19 +13,18 @@ use Rattle.scene_kinds.specs.Schema.{Kinds, is_good_name}
 use Rattle.std.specs.Prelude.{is_some}
 use Rattle.scene_alloc.specs.Slots.{SlotState, take_of}
 use Rattle.scene_kinds.specs.declared.cell.Cell.{Cell}
-use Rattle.scene_kinds.specs.Cells.{cell_of}
-use Rattle.scene_links.specs.Forest.{Forest, link_of, unlink_of, post}
-use Rattle.scene_resources.specs.Resources.{NamedCells, put_of, take_of as taken_name}
+use Rattle.scene_links.specs.Forest.{link_of, unlink_of, post}
+use Rattle.scene_resources.specs.Resources.{put_of, take_of as taken_name}
 use Rattle.scene_table.specs.declared.home.Home.{Home}
 use Rattle.scene_model.specs.World.{World, is_live, row_of}
 use Rattle.scene_model.specs.Commands.{unless, and_then, in_world, without_answer, with_live, spawn_fault, new_cells, after_take, spawn, after_despawn, despawn, despawn_each, despawn_recursive, despawn_recursive_if_alive, insert_fault, insert, remove_fault, remove, with_children, set_parent, remove_parent, with_resources, put_resource, remove_resource}
 use Rattle.scene_model.specs.Perform.{Command, Spawn, Despawn, DespawnRecursive, DespawnRecursiveIfAlive, Insert, Remove, SetParent, RemoveParent, PutResource, RemoveResource, answering, perform}
 use Rattle.scene_machine.specs.Queue.{Request, Progress, Ended, reached, and_spawned, act_known, request, unless_refused, play_from, play}
-use Rattle.scene_machine.specs.Frame.{all_or_refused, whole_or_refused, queue, queues_from}
+use Rattle.scene_machine.specs.Frame.{all_or_refused, queue, queues_from}
 use Rattle.scene_queue.specs.Requests.{requests}
 use Rattle.scene_rules.specs.declared.system_rule.SystemRule.{SystemRule}
 use Rattle.scene_pass.specs.Changes.{first_fault}
-use Rattle.scene_schedule.specs.Systems.{SystemOutput, changes_of, writes_of, queued_by, unless_over, system, systems_from, phase, in_phase}
+use Rattle.scene_schedule.specs.Systems.{changes_of, writes_of, queued_by, unless_over, system, systems_from, phase, in_phase}
 
 -- an accepted outcome has a world with these kinds
 pub record Keeps {A : Type 0} (kinds : Kinds) (o : Outcome A World) : Type 0 where

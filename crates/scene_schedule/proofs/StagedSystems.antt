@@ -6,7 +6,7 @@ use Rattle.scene_kinds.specs.declared.refusal.Refusal.{Refusal}
 use Rattle.scene_kinds.specs.Answers.{Outcome}
 use Rattle.scene_model.specs.World.{World}
 use Rattle.scene_model.specs.Commands.{and_then}
-use Rattle.scene_model.specs.Perform.{Act, perform}
+use Rattle.scene_model.specs.Perform.{Act}
 use Rattle.scene_machine.specs.Queue.{Request, play}
 use Rattle.scene_machine.specs.Frame.{all_or_refused, queue, queues_from}
 use Rattle.scene_world.specs.Stage.{Staged, Note, act}
@@ -14,7 +14,6 @@ use Rattle.scene_queue.specs.Frames.{on_world}
 use Rattle.scene_rules.specs.declared.system_rule.SystemRule.{SystemRule}
 use Rattle.scene_pass.specs.Changes.{first_fault}
 use Rattle.scene_schedule.specs.Systems.{SystemOutput, changes_of, writes_of, queued_by, unless_over, overflow_at, system, systems_from}
-use Rattle.scene_schedule.proofs.Stages.{system_world}
 
 -- ---- what an accepted outcome says of its parts
 

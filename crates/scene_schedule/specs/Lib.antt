@@ -4,3 +4,5 @@ pub mod Examples
 pub mod Sound
 pub mod Output
 pub mod AtOnce
+pub mod Turns
+pub mod Calls

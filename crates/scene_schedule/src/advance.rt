@@ -21,6 +21,9 @@ use std::alloc::Global;
 /// How the systems of a phase are run: on one thread, or on many. Whichever it is, what they make is the same
 /// (docs/MODEL.md, "The rule of schedules").
 pub trait PhaseRunner {
+    // What holds of a runner that can be used.
+    ghost can: { Self → Type 0 };
+
     /// What the systems of a phase make of a world: their rows and their queues. The world isn't changed.
     ///
     /// Refused: `Overflow` of the first system that has one, by its row and then by its step, with its place; `NoMemory`.
@@ -30,7 +33,8 @@ pub trait PhaseRunner {
         world: &World,
         rules: &[SystemRule],
     ) -> Result<PhaseOutput, Refusal>
-        requires { IsSoundPhase world.now.world.schema rules.now }
+        requires ready { can self.now }
+        requires sound { IsSoundPhase world.now.world.schema rules.now }
         ensures output { IfOk result (λ output. IsOutputOf output world.now.world rules.now) }
         ensures refused { IfErr result (λ r. r ≢ refusal_of NoMemory → systems_from perform (λ w. w) 0 rules.now world.now.world ≡ Err r) };
 }
@@ -60,7 +64,8 @@ fn play_systems<S: Stage, P: PhaseRunner>(
     runner: &P,
     stage: &mut S,
 ) -> Result<Vec<Entity>, Refusal>
-    requires { IsSoundPhase (S.seen stage.old).world.schema rules.now }
+    requires ready { P.can runner.now }
+    requires sound { IsSoundPhase (S.seen stage.old).world.schema rules.now }
     ensures played { IfOk result (λ es. phase (act S.note) (λ t. t.world) rules.now (S.seen stage.old) ≡ Ok (es.items, S.seen stage.new)) }
     ensures refused { IfErr result (λ r. r ≢ refusal_of NoMemory → phase perform (λ w. w) rules.now (S.seen stage.old).world ≡ Err r) }
     ensures opening { S.opening stage.new ≡ S.opening stage.old }
@@ -79,7 +84,8 @@ fn play_phase<S: Stage, P: PhaseRunner>(
     runner: &P,
     stage: &mut S,
 ) -> Result<Vec<Entity>, Refusal>
-    requires { IsSoundPhase (S.seen stage.old).world.schema rules.now }
+    requires ready { P.can runner.now }
+    requires sound { IsSoundPhase (S.seen stage.old).world.schema rules.now }
     ensures played { IfOk result (λ es. in_phase number (phase (act S.note) (λ t. t.world) rules.now (S.seen stage.old))
         ≡ Ok (es.items, S.seen stage.new)) }
     ensures refused { IfErr result (λ r. r ≢ refusal_of NoMemory → in_phase number (phase perform (λ w. w) rules.now (S.seen stage.old).world) ≡ Err r) }
@@ -100,7 +106,8 @@ fn play_phases<S: Stage, P: PhaseRunner>(
     runner: &P,
     stage: &mut S,
 ) -> Result<Vec<Entity>, Refusal>
-    requires { (S.seen stage.old).world.schema ≡ schedule.now.schema }
+    requires ready { P.can runner.now }
+    requires kinds { (S.seen stage.old).world.schema ≡ schedule.now.schema }
     ensures played { IfOk result (λ es. phases_from (act S.note) (λ t. t.world) 0 schedule.now.phases (S.seen stage.old)
         ≡ Ok (es.items, S.seen stage.new)) }
     ensures refused { IfErr result (λ r. r ≢ refusal_of NoMemory
@@ -135,9 +142,7 @@ pub struct Advance<'a, P> {
 }
 
 impl<P: PhaseRunner> Frame for Advance<'_, P> {
-    ghost use Rattle.std.specs.Prelude.{⊤};
-
-    ghost can = { λ f. ⊤ };
+    ghost can = { λ f. P.can f.runner };
 
     ghost does = { λ f w. advance_of perform (λ v. v) f.schedule.now w };
 

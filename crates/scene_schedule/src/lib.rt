@@ -9,20 +9,26 @@ mod cells;
 mod commands;
 mod conflict;
 mod count;
+mod gate;
 mod laws;
 mod output;
 mod rule;
 mod run_phase;
+mod runner;
 mod schedule;
 #[cfg(test)]
 mod tests;
+mod turns;
+mod workers;
 mod write;
 #[cfg(test)]
 mod write_tests;
 mod zero;
 
 pub use advance::{Advance, PhaseRunner};
+pub use gate::{Gate, OpenGate};
 pub use laws::{schedules_are_just_what_is_sound, systems_see_the_opening_world, worked_schedules};
 pub use output::{PhaseOutput, RowChanges};
 pub use run_phase::run_phase_alone;
+pub use runner::{Alone, RunBy, run_shared};
 pub use schedule::{Schedule, same_schema};

@@ -1,5 +1,4 @@
-use Rattle.std.proofs.Common.{◌≡◌, ◌<◌, ◌+◌, ◌++◌, length, get_or, drop, cond, sym, subst, ap, ◌∙◌, arith, Ok}
-use Rattle.std.specs.Prelude.{Err}
+use Rattle.std.proofs.Common.{◌≡◌, ◌<◌, ◌+◌, ◌++◌, length, get_or, drop, cond, sym, subst, ap, ◌∙◌, arith}
 use Rattle.scene_model.specs.Perform.{perform}
 use Rattle.scene_world.specs.Stage.{act}
 use Rattle.scene_world.proofs.Room.{wider_wider}
@@ -14,7 +13,10 @@ play_phase-requires g c =
     let below = subst (λ phases. at < length phases) c.phases-phase-items.ensures.list c.phases-test.true in
     let item = subst (λ phases. c.phase-item.result ≡ get_or phases at c.phase-item.result) c.phases-phase-items.ensures.list c.phase-item.is in
     let here = subst (λ rules. rules ≡ get_or c.args.schedule.now.phases at rules) (sym c.systems.ensures) item in
-    sound_at c.args.schedule.now c.phases-phase-items.ensures.sound at c.systems.result.now (g.S.Stage.seen c.phases.stage).world.schema below here c.phases.invariant.1.0
+    record {
+      ready = c.requires.ready;
+      sound = sound_at c.args.schedule.now c.phases-phase-items.ensures.sound at c.systems.result.now (g.S.Stage.seen c.phases.stage).world.schema below here c.phases.invariant.1.0;
+    }
 
 pub returns-in-Err-clause-refused : goal.returns-in-Err-clause-refused
 returns-in-Err-clause-refused g c = λ named.

@@ -1,4 +1,4 @@
-use Rattle.std.proofs.Common.{◌≡◌, ◌≢◌, sym, subst, ap, ◌∙◌, Ok}
+use Rattle.std.proofs.Common.{◌≡◌, ◌≢◌, sym, ap, ◌∙◌, Ok}
 use Rattle.std.specs.Prelude.{Err}
 use Rattle.scene_kinds.specs.Answers.{refusal_of}
 use Rattle.scene_kinds.specs.declared.fault.Fault.TheVariants.{NoMemory}
