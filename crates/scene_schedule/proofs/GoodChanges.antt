@@ -1,10 +1,9 @@
 -- What steps make of a row of a valid world: the values that they write fit their kinds, which the row has.
-use Rattle.std.proofs.Common.{◌≡◌, ℕ, ◌+◌, ℤ, ◌+ℤ◌, suc, Bool, true, false, cond, ◌&&◌, T, List, [], ◌∷◌, length, map, refl, ap, subst, sym, ◌∙◌, arith, nat_eq, Option, Some, None, Ok, if◌then◌else◌}
+use Rattle.std.proofs.Common.{◌≡◌, ℕ, ◌+◌, ℤ, ◌+ℤ◌, suc, Bool, true, false, cond, T, List, [], ◌∷◌, length, map, refl, ap, subst, sym, ◌∙◌, arith, nat_eq, Option, Some, None, Ok, if◌then◌else◌}
 use Rattle.std.specs.Prelude.{⊤, Result, Err, IfSome, IfOk, option_map, filter, is_some}
 use Rattle.std.specs.Option.{option_and_then}
 use Rattle.std.specs.List.{list_all}
 use Rattle.std.specs.Ordering.{nat_cmp, is_lt}
-use Rattle.std.specs.declared.cmp.Ordering.TheVariants.{Equal}
 use Rattle.std.specs.Cmp.{nat_cmp_total}
 use Rattle.std.specs.FinMap.{nat_cmp-IsAntisymmetric}
 use Rattle.std.specs.FinMap.Entries.{put, find, below_all, is_sorted, is_sorted-put, is_sorted-where_key, find-where_key}
@@ -13,7 +12,7 @@ use Rattle.scene_kinds.specs.declared.cell.Cell.{Cell}
 use Rattle.scene_kinds.specs.declared.cells.Row.{Row}
 use Rattle.scene_kinds.specs.declared.shape.Shape.{Shape}
 use Rattle.scene_kinds.specs.declared.value.Value.{Value}
-use Rattle.scene_kinds.specs.declared.value.Value.TheVariants.{Tag, Int, Vec3, Text, Link}
+use Rattle.scene_kinds.specs.declared.value.Value.TheVariants.{Int, Vec3}
 use Rattle.scene_kinds.specs.Ranges.{is_i64, are_three, is_in_range}
 use Rattle.scene_kinds.specs.Schema.{Kinds, shape_of, has_shape, fits_kind}
 use Rattle.scene_kinds.specs.Shape.{shape_of_value, same_shape}
@@ -21,7 +20,6 @@ use Rattle.scene_kinds.proofs.Choices.{test_parts}
 use Rattle.scene_rules.specs.declared.row_step.RowStep.{RowStep}
 use Rattle.scene_rules.specs.declared.row_step.RowStep.TheVariants.{AddVec, AddInt}
 use Rattle.scene_rules.specs.RowStep.{is_written}
-use Rattle.scene_pass.specs.declared.row_change.Outcome.TheVariants.{Changed, Overflow as SumsOver}
 use Rattle.scene_pass.specs.Changes.{Values, values_of, sum, sums, value_sum, addend, added, step_on, unless_overflow, after_steps, outcome_of}
 use Rattle.scene_model.specs.Valid.{IsRowOf}
 use Rattle.scene_schedule.specs.AtOnce.{written_of}

@@ -1,18 +1,17 @@
 -- The systems of a phase in their turn make what each of them makes of the opening world.
-use Rattle.std.proofs.Common.{◌≡◌, ◌<◌, ◌+◌, ℕ, zero, suc, Bool, true, false, List, [], ◌∷◌, map, refl, ap, sym, ◌∙◌, arith, Option, Some, None, Ok, Err}
+use Rattle.std.proofs.Common.{◌≡◌, ◌<◌, ◌+◌, ℕ, suc, Bool, true, false, List, [], ◌∷◌, map, refl, ap, ◌∙◌, arith, Option, Some, None, Ok}
 use Rattle.std.specs.Prelude.{⊤, slice_get}
 use Rattle.scene_kinds.specs.declared.entity.Entity.{Entity}
 use Rattle.scene_kinds.specs.declared.refusal.Refusal.{Refusal}
-use Rattle.scene_kinds.specs.Answers.{Outcome}
 use Rattle.scene_model.specs.World.{World}
 use Rattle.scene_model.specs.Commands.{and_then}
 use Rattle.scene_model.specs.Perform.{perform}
 use Rattle.scene_model.specs.Valid.{IsValid}
 use Rattle.scene_rules.specs.declared.system_rule.SystemRule.{SystemRule}
 use Rattle.scene_pass.specs.Changes.{first_fault}
-use Rattle.scene_schedule.specs.Schedule.{touches, writes}
+use Rattle.scene_schedule.specs.Schedule.{touches}
 use Rattle.scene_schedule.specs.Sound.{AreApart}
-use Rattle.scene_schedule.specs.Systems.{SystemOutput, changes_of, unless_over, system, systems_from}
+use Rattle.scene_schedule.specs.Systems.{changes_of, unless_over, systems_from}
 use Rattle.scene_schedule.specs.AtOnce.{output_of, first_overflow, overflow_or, refused_or, SystemsSeeTheOpeningWorld}
 use Rattle.scene_schedule.proofs.WrittenCells.{AreTablesAlike, tables_themselves, tables_over}
 use Rattle.scene_schedule.proofs.SystemWrites.{system_written, unwritten_alike, made_world, system_made}

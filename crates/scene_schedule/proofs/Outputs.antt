@@ -1,5 +1,5 @@
 -- What a walk over the systems of a phase made of the opening world is what the systems make in their turn.
-use Rattle.std.proofs.Common.{◌≡◌, ◌<◌, ◌≤◌, ℕ, List, true, length, get_or, drop, take, map, ap, sym, ◌∙◌, arith, None, Some, Ok, Err}
+use Rattle.std.proofs.Common.{◌≡◌, ◌<◌, ◌≤◌, ℕ, List, true, length, get_or, drop, take, map, ap, sym, ◌∙◌, arith, None, Some, Err}
 use Rattle.std.proofs.lemmas.Bool.{and_parts}
 use Rattle.std.proofs.lemmas.Bool.Decides.{nat_tests}
 use Rattle.std.proofs.lemmas.List.{drop_all, take_all}

@@ -1,15 +1,14 @@
 -- A system on a world that agrees with the opening one on what the system touches: what it writes is accepted, and it makes what it
 -- makes of the opening world.
-use Rattle.std.proofs.Common.{◌≡◌, ℕ, ◌+◌, Bool, true, false, cond, not, nat_eq, nat_lt, ◌||◌, List, [], ◌∷◌, ◌++◌, map, length, refl, ap, subst, sym, ◌∙◌, Option, Some, None, Ok, Err, if◌then◌else◌}
+use Rattle.std.proofs.Common.{◌≡◌, ℕ, ◌+◌, Bool, true, false, cond, not, nat_eq, List, [], ◌∷◌, ◌++◌, map, length, refl, ap, subst, sym, ◌∙◌, Option, Some, None, Ok, Err, if◌then◌else◌}
 use Rattle.std.specs.Prelude.{slice_get, option_map, option_and_then, filter, is_some, pos}
 use Rattle.std.specs.Option.{option_or}
-use Rattle.std.specs.List.{AllZip, Contains, flat_map, list_any, list_all}
+use Rattle.std.specs.List.{AllZip, Contains, flat_map, list_any}
 use Rattle.std.specs.Ordering.{nat_cmp}
 use Rattle.std.specs.FinMap.Entries.{find}
 use Rattle.std.proofs.lemmas.Bool.{or_left, or_right, eq-eqb, lt-ltb}
 use Rattle.std.proofs.lemmas.Option.{same_Some}
 use Rattle.std.proofs.lemmas.Slice.Zip.{AllZip-long}
-use Rattle.scene_kinds.specs.declared.entity.Entity.{Entity}
 use Rattle.scene_kinds.specs.declared.cell.Cell.{Cell}
 use Rattle.scene_kinds.specs.declared.cells.Row.{Row}
 use Rattle.scene_kinds.specs.declared.value.Value.{Value}
@@ -21,39 +20,36 @@ use Rattle.scene_kinds.specs.KindSet.{KindSet}
 use Rattle.scene_kinds.specs.Lists.{listed}
 use Rattle.scene_kinds.specs.Map as map_of
 use Rattle.scene_kinds.specs.Schema.{Kinds, fits_kind}
-use Rattle.scene_commands.specs.declared.command.Command.{Command}
 use Rattle.scene_commands.specs.declared.command.Command.TheVariants.{Spawn, DespawnAllIfAlive, SetParent, PutResource}
 use Rattle.scene_commands.specs.declared.target.Target.TheVariants.{Id, New}
 use Rattle.scene_table.specs.Tables.{Tables, rows_at, row_at, masks_of}
 use Rattle.scene_table.specs.declared.home.Home.{Home}
-use Rattle.scene_model.specs.World.{World, row_of, kind_sets, is_unknown, present, component_in, component_of}
+use Rattle.scene_model.specs.World.{World, kind_sets, is_unknown, present, component_in, component_of}
 use Rattle.scene_model.specs.Commands.{and_then}
 use Rattle.scene_model.specs.Perform.{perform}
 use Rattle.scene_model.specs.Valid.{IsValid, IsRowOf}
 use Rattle.scene_model.proofs.MoveKeeps.{with_tables}
 use Rattle.scene_model.proofs.RowKinds.{fits_known}
 use Rattle.scene_model.proofs.RowOf.{row_stands}
-use Rattle.scene_machine.specs.Frame.{queue}
 use Rattle.scene_rules.specs.declared.filter.Filter.{Filter}
 use Rattle.scene_rules.specs.declared.row_step.RowStep.{RowStep}
 use Rattle.scene_rules.specs.declared.step.Step.{Step}
 use Rattle.scene_rules.specs.declared.step.Step.TheVariants.{Row as Writing, DespawnAtZero, SpawnChild, CountInto}
 use Rattle.scene_rules.specs.declared.system_rule.SystemRule.{SystemRule}
 use Rattle.scene_rules.specs.Filter.{is_match}
-use Rattle.scene_rules.specs.RowStep.{is_written}
 use Rattle.scene_pass.specs.declared.row_change.RowChange.{RowChange}
 use Rattle.scene_pass.specs.Pass.{rows_in, matching_rows}
 use Rattle.scene_pass.specs.Changes.{Values, values_of, after_steps, outcome_of, change_of, first_fault}
 use Rattle.scene_pass.proofs.Members.{none_in, in_map, from_map, in_flat_map, from_flat_map, entry_in, place_of, in_from_place}
-use Rattle.scene_schedule.specs.Schedule.{step_touches, step_writes, touches, writes}
-use Rattle.scene_schedule.specs.Systems.{SystemOutput, row_steps, changes_of, is_zero, despawns, children_of_rows, commands_from, queued_by, unless_over, system}
+use Rattle.scene_schedule.specs.Schedule.{step_touches, touches, writes}
+use Rattle.scene_schedule.specs.Systems.{row_steps, changes_of, is_zero, despawns, children_of_rows, commands_from, queued_by, unless_over, system}
 use Rattle.scene_schedule.specs.AtOnce.{written_of, zero_or, is_zero_in, is_zero_after, despawns_after, children_after, commands_after, output_of}
 use Rattle.scene_schedule.proofs.Entries.{found_passes, entry_found}
-use Rattle.scene_schedule.proofs.Zips.{zip_at, zip_places, zip_same, zip_mapped, zip_keys}
+use Rattle.scene_schedule.proofs.Zips.{zip_places, zip_same, zip_mapped, zip_keys}
 use Rattle.scene_schedule.proofs.SameValues.{IsRowAlike, row_values, alike_found, change_alike, steps_on, value_found, written_steps}
 use Rattle.scene_schedule.proofs.GoodChanges.{row_written}
 use Rattle.scene_schedule.proofs.WrittenCells.{AreTablesAlike, HasAt, home_alike, tables_over, tables_weaker}
-use Rattle.scene_schedule.proofs.WrittenRows.{Wanted, IsWantedIn, IsSettled, AreWritten, Write, cells_of, cells_of_all, written_in_turn, queue_accepted}
+use Rattle.scene_schedule.proofs.WrittenRows.{Wanted, IsWantedIn, AreWritten, Write, cells_of, cells_of_all, written_in_turn, queue_accepted}
 
 -- ---- rows that match
 

@@ -1,6 +1,6 @@
 -- A cell of a live entity's own kind that is written to a valid world: it is accepted, and every other cell stays as it was.
-use Rattle.std.proofs.Common.{◌≡◌, ◌⊎◌, inl, inr, ℕ, zero, suc, ◌<◌, Bool, true, false, cond, not, nat_lt, List, [], ◌∷◌, map, length, refl, ap, subst, sym, ◌∙◌, Option, Some, None, Ok}
-use Rattle.std.specs.Prelude.{slice_get, slice_set, option_map, is_some}
+use Rattle.std.proofs.Common.{◌≡◌, ℕ, zero, suc, Bool, true, false, cond, not, List, [], ◌∷◌, length, refl, ap, subst, sym, ◌∙◌, Option, Some, None, Ok}
+use Rattle.std.specs.Prelude.{slice_get, slice_set}
 use Rattle.std.specs.List.{AllZip}
 use Rattle.std.specs.Ordering.{nat_cmp, eq_by_cmp}
 use Rattle.std.specs.Cmp.{nat_cmp_total}
@@ -11,24 +11,22 @@ use Rattle.std.proofs.lemmas.Option.{same_Some}
 use Rattle.scene_kinds.specs.declared.entity.Entity.{Entity}
 use Rattle.scene_kinds.specs.declared.cell.Cell.{Cell}
 use Rattle.scene_kinds.specs.declared.cells.Row.{Row}
-use Rattle.scene_kinds.specs.declared.fault.Fault.{Fault}
 use Rattle.scene_kinds.specs.declared.fault.Fault.TheVariants.{NoSuchKind, WrongShape}
 use Rattle.scene_kinds.specs.declared.value.Value.{Value}
-use Rattle.scene_kinds.specs.Answers.{Outcome}
-use Rattle.scene_kinds.specs.Cells.{cell_of, with_cell, put_over}
+use Rattle.scene_kinds.specs.Cells.{cell_of, put_over}
 use Rattle.scene_kinds.specs.KindSet.{KindSet}
 use Rattle.scene_kinds.specs.Lists.{listed}
 use Rattle.scene_kinds.specs.Map as map_of
 use Rattle.scene_kinds.specs.Schema.{Kinds, fits_kind}
 use Rattle.scene_kinds.proofs.Elements.{written_there, written_stays}
 use Rattle.scene_kinds.proofs.Lists.{list_at-with_list}
-use Rattle.scene_kinds.proofs.Maps.{equal_keys, ties_itself}
+use Rattle.scene_kinds.proofs.Maps.{equal_keys}
 use Rattle.scene_table.specs.Table.{row_with_cell}
 use Rattle.scene_table.specs.Tables.{Tables, rows_at, row_at, with_rows, with_row_at, masks_of}
 use Rattle.scene_table.specs.declared.home.Home.{Home}
 use Rattle.scene_table.proofs.Standing.{apart, same_home, in_list, there_written, there_apart}
-use Rattle.scene_model.specs.World.{World, row_of, is_unknown}
-use Rattle.scene_model.specs.Commands.{unless, with_live, after_insert, insert, insert_fault}
+use Rattle.scene_model.specs.World.{World}
+use Rattle.scene_model.specs.Commands.{unless, with_live, after_insert, insert_fault}
 use Rattle.scene_model.specs.Perform.{Insert, answering, perform}
 use Rattle.scene_model.specs.Valid.{IsValid}
 use Rattle.scene_model.proofs.MoveKeeps.{with_tables, insert_made}

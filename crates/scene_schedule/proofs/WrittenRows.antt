@@ -2,15 +2,12 @@
 use Rattle.std.proofs.Common.{◌≡◌, ℕ, ◌+◌, Bool, true, false, List, [], ◌∷◌, ◌++◌, map, refl, ap, subst, sym, ◌∙◌, Option, Some, None, Ok}
 use Rattle.std.specs.Prelude.{is_some, option_map}
 use Rattle.std.specs.List.{Contains, flat_map}
-use Rattle.std.specs.Ordering.{nat_cmp}
-use Rattle.std.specs.FinMap.Entries.{find}
 use Rattle.std.proofs.lemmas.List.{map-append}
 use Rattle.scene_kinds.specs.declared.entity.Entity.{Entity}
 use Rattle.scene_kinds.specs.declared.cell.Cell.{Cell}
 use Rattle.scene_kinds.specs.declared.cells.Row.{Row}
 use Rattle.scene_kinds.specs.declared.value.Value.{Value}
 use Rattle.scene_kinds.specs.Cells.{cell_of}
-use Rattle.scene_kinds.specs.Schema.{fits_kind}
 use Rattle.scene_table.specs.Tables.{Tables, row_at}
 use Rattle.scene_table.specs.declared.home.Home.{Home}
 use Rattle.scene_model.specs.World.{World}
@@ -24,10 +21,10 @@ use Rattle.scene_pass.specs.declared.row_change.Outcome.{Outcome as RowOutcome}
 use Rattle.scene_pass.specs.declared.row_change.Outcome.TheVariants.{Changed, Overflow as SumsOver}
 use Rattle.scene_pass.specs.Changes.{Values, values_of}
 use Rattle.scene_pass.proofs.Members.{none_in, first_in, rest_in, in_cases}
-use Rattle.scene_schedule.specs.Systems.{writes_of, writes_of_row, writes_of_outcome}
+use Rattle.scene_schedule.specs.Systems.{writes_of, writes_of_outcome}
 use Rattle.scene_schedule.specs.AtOnce.{written_of}
 use Rattle.scene_schedule.proofs.SameValues.{IsRowAlike, row_values, there_alike, value_found}
-use Rattle.scene_schedule.proofs.WrittenCells.{AreTablesAlike, HasAt, CanWrite, IsWritten, cell_written, home_alike, tables_themselves, tables_over, tables_turned}
+use Rattle.scene_schedule.proofs.WrittenCells.{AreTablesAlike, HasAt, CanWrite, cell_written, home_alike, tables_themselves, tables_over, tables_turned}
 
 -- ---- writes
 

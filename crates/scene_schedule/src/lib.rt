@@ -16,7 +16,10 @@ mod schedule;
 mod tests;
 mod zero;
 
-pub use laws::{schedules_are_just_what_is_sound, systems_see_the_opening_world, worked_schedules};
+pub use laws::{
+    schedules_are_just_what_is_sound, systems_see_the_opening_world, worked_schedules,
+    worked_systems,
+};
 pub use output::{PhaseOutput, RowChanges};
 pub use run_phase::run_phase_alone;
 pub use schedule::{Schedule, same_schema};
