@@ -1,7 +1,8 @@
 //! Schedules: phases of systems, what is refused of them, and how a phase is run.
 //!
 //! `specs/Schedule.antt` says which lists of phases are schedules, and `specs/Systems.antt` what systems, phases and schedules do
-//! to a world.
+//! to a world. Since no system of a phase is in another's way, each makes in its turn what it makes of the opening world alone:
+//! `specs/AtOnce.antt` says what that is, and `systems_see_the_opening_world` is the law.
 #![tactic(auto)]
 
 mod cells;
