@@ -85,7 +85,8 @@ fn end(rt: &HostRuntime) -> Ending {
         Err(_) => return Ending::BadCommandLine,
     };
     match read_words(rt.alloc(), words.as_slice()) {
-        Ok(Asked::Run) => run(rt),
+        // A script runs on one thread so far.
+        Ok(Asked::Run(_)) => run(rt),
         Ok(Asked::Check) => check(rt),
         Ok(Asked::Print) => print(rt),
         Ok(Asked::Help(text)) => help(rt, text.as_str()),

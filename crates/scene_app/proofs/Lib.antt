@@ -1,3 +1,4 @@
+pub mod PhaseLaws
 pub mod PlayLaws
 pub mod ReportLaws
 pub mod SetupLaws

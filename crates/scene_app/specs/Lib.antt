@@ -3,6 +3,7 @@ pub mod Fault
 pub mod FileFaultText
 pub mod MachineCode
 pub mod OpenFrame
+pub mod Phases
 pub mod Play
 pub mod Reports
 pub mod SetupSteps

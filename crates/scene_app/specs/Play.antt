@@ -13,18 +13,20 @@ use Rattle.scene_machine.specs.Machine.{Machine, opening}
 use Rattle.scene_machine.specs.Queue.{Request}
 use Rattle.scene_machine.specs.Frame.{Submit, Undo as UndoCall, Redo as RedoCall, Reply as Answer, step}
 use Rattle.scene_queue.specs.Frames.{frame_of}
+use Rattle.scene_app.specs.Phases.{with_phase, with_system}
 use Rattle.scene_app.specs.OpenFrame.{Opened, new_frame, with_command, with_queue, queues_of, alone}
 use Rattle.scene_kinds.specs.declared.cells.Row.{Row}
 use Rattle.scene_pass.specs.Pass.{changed_since, added_since}
 use Rattle.scene_pass.specs.declared.cell_name.CellName.{CellName}
 use Rattle.scene_rules.specs.declared.filter.Filter.{Filter}
+use Rattle.scene_rules.specs.declared.system_rule.SystemRule.{SystemRule}
 use Rattle.scene_undo.specs.declared.cursor.Cursor.{Cursor}
 use Rattle.scene_undo.specs.Cursor.{cursor_of, since}
 use Rattle.scene_app.specs.declared.play_state.PlayState.{PlayState}
 use Rattle.scene_script.specs.declared.script_line.Line.{Line}
-use Rattle.scene_script.specs.declared.script_line.Line.TheVariants.{Empty, Kind, Slots, Load, Do, Begin, Queue, Commit, Undo, Redo, Show, Get, Mark, Changed, Added, Dump}
+use Rattle.scene_script.specs.declared.script_line.Line.TheVariants.{Empty, Kind, Slots, Load, Do, Begin, Queue, Commit, Undo, Redo, Show, Get, Mark, Changed, Added, Phase, System, Clear, Advance, Dump}
 use Rattle.scene_script.specs.declared.bad_line.BadLine.{BadLine}
-use Rattle.scene_script.specs.declared.bad_line.BadLine.TheVariants.{SetupEnded, SceneLoaded, NoFrame, FrameOpen}
+use Rattle.scene_script.specs.declared.bad_line.BadLine.TheVariants.{NotYet, SetupEnded, SceneLoaded, NoFrame, FrameOpen}
 use Rattle.scene_app.specs.declared.report.BadLineReport.{BadLineReport}
 use Rattle.scene_file.specs.declared.fault.FileFault.{FileFault}
 use Rattle.scene_file.specs.Saving.{save_of}
@@ -37,9 +39,9 @@ use Rattle.scene_show.specs.Shown.{entities_text, show_text}
 
 -- ---- the state between two lines, and cursors
 
--- the machine at first, the cursor from before the first mark, and no frame
+-- the machine at first, the cursor from before the first mark, no frame and no phases
 abbrev pub opening_state : World → PlayState
-opening_state w = record { machine = opening w; cursor = record { rewinds = 0; tick = 0 }; frame = None }
+opening_state w = record { machine = opening w; cursor = record { rewinds = 0; tick = 0 }; frame = None; phases = [] }
 
 -- the state with another machine
 abbrev pub with_machine : PlayState → Machine World → PlayState
@@ -52,6 +54,10 @@ with_cursor s c = record s { cursor = c }
 -- the state with another open frame, or with none
 abbrev pub with_frame : PlayState → Option Opened → PlayState
 with_frame s f = record s { frame = f }
+
+-- the state with other phases
+abbrev pub with_phases : PlayState → List (List SystemRule) → PlayState
+with_phases s phases = record s { phases = phases }
 
 -- ---- the answer of a line
 
@@ -150,6 +156,10 @@ lone_reply s (Get e) = query_reply s (row_answer s.machine.now.schema (option_ma
 lone_reply s Mark = record { text = mark_text (cursor_of s.machine); bad = None; state = with_cursor s (cursor_of s.machine) }
 lone_reply s Changed = query_reply s (changed_text s)
 lone_reply s Added = query_reply s (added_text s)
+lone_reply s Phase = query_reply (with_phases s (with_phase s.phases)) (codes "ok\n")
+lone_reply s (System rule) = query_reply (with_phases s (with_system s.phases rule)) (codes "ok\n")
+lone_reply s Clear = query_reply (with_phases s []) (codes "ok\n")
+lone_reply s Advance = bad_reply s (NotYet (codes "advance"))
 lone_reply s Dump = query_reply s (dump_text s.machine.now)
 
 -- the reply to a command in a frame: it is queued, or else refused and the frame is as it was

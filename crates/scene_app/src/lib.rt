@@ -13,12 +13,14 @@ mod file_fault_text;
 mod framed_answer;
 mod machine;
 mod open_frame;
+mod phases;
 mod play;
 mod play_state;
 mod report;
 mod run;
 mod setup;
 mod setup_answer;
+mod systems_answer;
 
 pub use check::{check_scene, print_scene};
 pub use fault::AppFault;

@@ -5,21 +5,23 @@ ghost use Rattle.scene_app.specs.Play.{opening_state, with_cursor};
 
 use crate::machine::Machine;
 use crate::open_frame::OpenFrame;
+use crate::phases::Phases;
 use scene_kinds::Refusal;
 use scene_undo::Cursor;
 use scene_world::World;
 use std::alloc::Global;
 
-/// The machine, the cursor that the last mark took, and the frame that is open.
+/// The machine, the cursor that the last mark took, the frame that is open, and the phases of systems.
 #[derive(Drop)]
 pub(crate) struct PlayState {
     pub(crate) machine: Machine,
     pub(crate) cursor: Cursor,
     pub(crate) frame: Option<OpenFrame>,
+    pub(crate) phases: Phases,
 }
 
 impl PlayState {
-    /// The state in which a run begins: no frames, and the cursor from before the first mark.
+    /// The state in which a run begins: no frames, no phases, and the cursor from before the first mark.
     pub(crate) fn new(alloc: Global, world: World) -> Self
         ensures { result ≡ opening_state world.world }
     {
@@ -30,6 +32,7 @@ impl PlayState {
                 tick: 0,
             },
             frame: None,
+            phases: Phases::new(alloc),
         }
     }
 

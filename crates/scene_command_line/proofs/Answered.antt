@@ -1,23 +1,35 @@
 -- What follows from an answer of `clap`.
 use Rattle.std.proofs.Common.{◌≡◌, ◌⊎◌, true, false, Result, Ok, Err, IfOk, IsErr, Option, Some, None, Box}
-use Rattle.std.proofs.Common.{[], ◌∷◌, inl, inr, option_map, refl, subst}
-use Rattle.std.specs.Option.{option_map_or}
+use Rattle.std.proofs.Common.{List, [], ◌∷◌, inl, inr, option_map, refl, ap, ◌∙◌, subst, codes}
 use Rattle.std.specs.Box.{box_value}
 use Rattle.std.specs.declared.alloc.AllocError.{AllocError}
-use Rattle.clap.specs.Words.{IsAmong, Kinds, subcommand_rows}
+use Rattle.clap.specs.Words.{IsAmong, Kinds, Row, Text, first_of, subcommand_rows}
 use Rattle.clap.specs.declared.error.kind.ErrorKind.{ErrorKind}
 use Rattle.clap.specs.declared.error.kind.ErrorKind.TheVariants.{OutOfMemory}
 use Rattle.clap.specs.declared.parser.matches.ArgMatches.TheViews.{out-SubCommand}
 use Rattle.clap.specs.declared.parser.matches.SubCommand.{SubCommand}
 use Rattle.scene_command_line.specs.declared.asked.Asked.{Asked}
 use Rattle.scene_command_line.specs.declared.asked.Asked.TheVariants.{Bad}
-use Rattle.scene_command_line.specs.Words.{Answers, AnswersKind, AnswersOneOf, command_named}
+use Rattle.scene_command_line.specs.Words.{Answers, AnswersKind, AnswersOneOf, command_named, command_of}
 
--- the name of the command that was met, also of its rows
+-- the command that was met, by its name and its matches
+pub met_by_parts : (met : Option (Text × List Row)) (name : Text) (rows : List Row) → option_map (λ p. p.0) met ≡ Some name
+    → option_map (λ p. p.1) met ≡ Some rows → command_of met ≡ command_named name (first_of (codes "workers") rows)
+met_by_parts None name rows named matched = absurd (cc named)
+met_by_parts (Some p) name rows named matched =
+    let same_name : p.0 ≡ name = cc named in
+    let same_rows : p.1 ≡ rows = cc matched in
+    ap (λ n. command_named n (first_of (codes "workers") p.1)) same_name ∙ ap (λ rs. command_named name (first_of (codes "workers") rs)) same_rows
+
+-- where none was met, there is none
+pub met_none : (met : Option (Text × List Row)) → option_map (λ p. p.1) met ≡ None → command_of met ≡ Bad
+met_none None e = refl
+met_none (Some p) e = absurd (cc e)
+
+-- the name among the matches is the command's
 module _ {Z : Type 0} where
   pub named_by_rows : (met : Option (Box SubCommand Z))
-      → option_map_or command_named (option_map (λ b. (out-SubCommand (box_value b)).name.now) met) Bad
-      ≡ option_map_or (λ row. command_named row.0) (subcommand_rows met) Bad
+      → option_map (λ p. p.0) (subcommand_rows met) ≡ option_map (λ b. (out-SubCommand (box_value b)).name.now) met
   named_by_rows None = refl
   named_by_rows (Some b) = refl
 

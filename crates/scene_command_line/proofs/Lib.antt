@@ -1,3 +1,4 @@
 pub mod Answered
 pub mod HelpLaws
 pub mod PlainLaws
+pub mod WorkersLaws

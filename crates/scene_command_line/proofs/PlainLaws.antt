@@ -17,20 +17,20 @@ use Rattle.clap.proofs.FaultLemmas.{stopped_fault}
 use Rattle.clap.proofs.WalkLemmas.{walk_stopped}
 use Rattle.scene_command_line.specs.declared.asked.Asked.{Asked}
 use Rattle.scene_command_line.specs.declared.asked.Asked.TheVariants.{Run, Check, Print, Bad}
-use Rattle.scene_command_line.specs.Words.{Answers, AsksFor, command_in, scene_line}
+use Rattle.scene_command_line.specs.Words.{Answers, AsksFor, command_in, run_shape, scene_line}
 use Rattle.scene_command_line.specs.Plain.{are_plain, is_option, is_plain, plainly_asked}
 
 -- ---- words that are no options
 
-no_dashes : (word : Text) → is_option word ≡ false → bytes_eq word (45 ∷ 45 ∷ []) ≡ false
+pub no_dashes : (word : Text) → is_option word ≡ false → bytes_eq word (45 ∷ 45 ∷ []) ≡ false
 no_dashes [] plain = refl
 no_dashes (x ∷ xs) plain = rw plain refl
 
-no_long : (word : Text) → is_option word ≡ false → long_of word ≡ None
+pub no_long : (word : Text) → is_option word ≡ false → long_of word ≡ None
 no_long [] plain = refl
 no_long (x ∷ xs) plain = rw plain refl
 
-no_short : (word : Text) → is_option word ≡ false → short_of word ≡ None
+pub no_short : (word : Text) → is_option word ≡ false → short_of word ≡ None
 no_short [] plain = refl
 no_short (x ∷ xs) plain = rw plain refl
 
@@ -95,30 +95,30 @@ no_command name word rest plain none =
 
 -- a word too many after each of the three commands; it is an unknown argument of that command
 module _ (name word : Text) (rest : List Text) (plain : is_option word ≡ false) where
-  leaf_refuses : (command : Text) → turn_fault (built_leaf (new_shape command)) [] start word ≡ UnknownArgument ∷ []
-      → level_fault (built_leaf (new_shape command)) [] nothing_held (word ∷ rest) false [] ≡ UnknownArgument ∷ []
-  leaf_refuses command refused = level_first (built_leaf (new_shape command)) [] word rest false [] UnknownArgument [] refused
+  leaf_refuses : (s : Shape) → turn_fault (built_leaf s) [] start word ≡ UnknownArgument ∷ []
+      → level_fault (built_leaf s) [] nothing_held (word ∷ rest) false [] ≡ UnknownArgument ∷ []
+  leaf_refuses s refused = level_first (built_leaf s) [] word rest false [] UnknownArgument [] refused
 
   of_run_more : fault_of scene_line (name ∷ codes "run" ∷ word ∷ rest) ≡ UnknownArgument ∷ []
   unfolding clap_on_literals
   of_run_more = too_many (codes "run") name word rest refl refl
-      (leaf_refuses (codes "run") (stray_turn (built_leaf (new_shape (codes "run"))) [] word plain refl refl))
+      (leaf_refuses run_shape (stray_turn (built_leaf run_shape) [] word plain refl refl))
 
   of_check_more : fault_of scene_line (name ∷ codes "check" ∷ word ∷ rest) ≡ UnknownArgument ∷ []
   unfolding clap_on_literals
   of_check_more = too_many (codes "check") name word rest refl refl
-      (leaf_refuses (codes "check") (stray_turn (built_leaf (new_shape (codes "check"))) [] word plain refl refl))
+      (leaf_refuses (new_shape (codes "check")) (stray_turn (built_leaf (new_shape (codes "check"))) [] word plain refl refl))
 
   of_print_more : fault_of scene_line (name ∷ codes "print" ∷ word ∷ rest) ≡ UnknownArgument ∷ []
   unfolding clap_on_literals
   of_print_more = too_many (codes "print") name word rest refl refl
-      (leaf_refuses (codes "print") (stray_turn (built_leaf (new_shape (codes "print"))) [] word plain refl refl))
+      (leaf_refuses (new_shape (codes "print")) (stray_turn (built_leaf (new_shape (codes "print"))) [] word plain refl refl))
 
 of_run : (name : Text) → fault_of scene_line (name ∷ codes "run" ∷ []) ≡ []
 unfolding clap_on_literals
 of_run name = refl
 
-run_in : (name : Text) → command_in (name ∷ codes "run" ∷ []) ≡ Run
+run_in : (name : Text) → command_in (name ∷ codes "run" ∷ []) ≡ Run 1
 unfolding clap_on_literals
 run_in name = refl
 
@@ -141,7 +141,7 @@ print_in name = refl
 -- ---- what is asked for
 
 -- an answer at which clap takes the words, and at which it refuses them
-taken : (kinds : Kinds) (command named asked : Asked) → kinds ≡ [] → command ≡ named → Answers kinds command asked → asked ≡ named
+pub taken : (kinds : Kinds) (command named asked : Asked) → kinds ≡ [] → command ≡ named → Answers kinds command asked → asked ≡ named
 taken kinds command named asked none is answers = subst (λ (ks : Kinds). Answers ks command asked) none answers ∙ is
 
 refused_once : (kinds : Kinds) (command asked : Asked) → (kinds ≡ MissingSubcommand ∷ []) ⊎ (kinds ≡ UnknownArgument ∷ [])
@@ -164,7 +164,7 @@ first_is_no_option word rest plain = not-true _ (and_parts _ _ (and_parts _ _ pl
 
 after_run : (name : Text) (rest : List Text) (asked : Asked) → list_all is_plain rest ≡ true
     → AsksFor asked (name ∷ codes "run" ∷ rest) → asked ≡ plainly_asked (name ∷ codes "run" ∷ rest)
-after_run name [] asked plain asks = taken _ _ Run asked (of_run name) (run_in name) asks
+after_run name [] asked plain asks = taken _ _ (Run 1) asked (of_run name) (run_in name) asks
 after_run name (word ∷ rest) asked plain asks =
     refused_once _ _ asked (inr (of_run_more name word rest (first_is_no_option word rest plain))) asks
 

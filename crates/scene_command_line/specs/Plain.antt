@@ -1,11 +1,11 @@
 -- What the plain command lines ask for: those without options, and those that ask for help.
-use Rattle.std.specs.Prelude.{Bool, List, [], ◌∷◌, ◌==◌, ◌&&◌, ◌||◌, not, false, codes, drop}
+use Rattle.std.specs.Prelude.{Bool, List, [], ◌∷◌, ◌==◌, ◌&&◌, ◌||◌, not, false, None, codes, drop}
 use Rattle.std.specs.List.{list_all}
 use Rattle.std.specs.Str.{bytes_eq}
 use Rattle.clap.specs.Words.{Text}
 use Rattle.scene_command_line.specs.declared.asked.Asked.{Asked}
 use Rattle.scene_command_line.specs.declared.asked.Asked.TheVariants.{Bad}
-use Rattle.scene_command_line.specs.Words.{command_named}
+use Rattle.scene_command_line.specs.Words.{command_named, run_with}
 
 -- the word begins with a hyphen (45), as options do
 abbrev pub is_option : Text → Bool
@@ -22,7 +22,7 @@ are_plain words = list_all is_plain (drop 1 words)
 
 -- what such words ask for: one command and nothing more has to be named
 abbrev pub plainly_asked : List Text → Asked
-plainly_asked (name ∷ word ∷ []) = command_named word
+plainly_asked (name ∷ word ∷ []) = command_named word None
 plainly_asked words = Bad
 
 -- the word is a command's name
@@ -38,3 +38,14 @@ abbrev pub asks_for_help : List Text → Bool
 asks_for_help (name ∷ word ∷ []) = is_help_option word
 asks_for_help (name ∷ command ∷ word ∷ []) = is_command command && is_help_option word
 asks_for_help words = false
+
+-- a run is asked for with a number of workers, and nothing more
+abbrev pub asks_for_workers : List Text → Bool
+asks_for_workers (name ∷ command ∷ option ∷ word ∷ []) =
+    bytes_eq command (codes "run") && (bytes_eq option (codes "--workers") && not (is_option word))
+asks_for_workers words = false
+
+-- the word behind the option
+abbrev pub workers_asked : List Text → Asked
+workers_asked (name ∷ command ∷ option ∷ word ∷ []) = run_with word
+workers_asked words = Bad

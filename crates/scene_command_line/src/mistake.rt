@@ -11,7 +11,9 @@ pub enum Mistake {
     NoCommand,
     /// The word is `help`, and what follows isn't the name of one command.
     HelpOfNoCommand,
-    /// The word is a command's name, and something follows it.
+    /// The word is `run`, and what follows it is neither a good number of workers nor asks for help.
+    TakesWorkers,
+    /// The word is another command's name, and something follows it.
     TakesNoWord,
     /// The word begins with a hyphen.
     NoOption,
@@ -32,7 +34,8 @@ fn mistake_of(word: &str) -> Mistake
     ensures { result ≡ mistake_of word.now }
 {
     match word {
-        "run" | "check" | "print" => Mistake::TakesNoWord,
+        "run" => Mistake::TakesWorkers,
+        "check" | "print" => Mistake::TakesNoWord,
         "help" => Mistake::HelpOfNoCommand,
         _ if word.starts_with('-') => Mistake::NoOption,
         _ => Mistake::NoSuchCommand,
@@ -64,6 +67,12 @@ impl<'a> fmt::Display for BadWords<'a> {
             && word.as_bytes().iter().all(|byte| byte.is_ascii_graphic());
         match self.mistake {
             Mistake::NoCommand => write!(f, "no command was given")?,
+            Mistake::TakesWorkers => {
+                return write!(
+                    f,
+                    "{word} takes no word but --workers N, where N is 1 to 16, and --help"
+                );
+            }
             Mistake::TakesNoWord => return write!(f, "{word} takes no word but --help"),
             Mistake::HelpOfNoCommand => write!(f, "help takes the name of one command")?,
             Mistake::NoOption if is_shown => {

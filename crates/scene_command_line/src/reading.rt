@@ -1,17 +1,16 @@
 //! The words of a command line, read by `clap`.
 ghost use Rattle.std.specs.Prelude.{◌≡◌, true, false, IfOk, IsErr, map, string_bytes};
-ghost use Rattle.std.specs.Option.{option_map_or};
-ghost use Rattle.clap.specs.Words.{app_of, kind_of, shape_of, subcommand_name_of};
+ghost use Rattle.clap.specs.Words.{app_of, kind_of, rule_of, shape_of, subcommand_rows_of};
 ghost use Rattle.clap.specs.declared.builder.command.Command.TheViews.{out-Command as fields_of};
 ghost use Rattle.clap.specs.Simple.{new_shape};
 ghost use Rattle.clap.specs.declared.error.kind.ErrorKind.TheVariants.{OutOfMemory};
-ghost use Rattle.scene_command_line.specs.Plain.{are_plain, asks_for_help, plainly_asked};
-ghost use Rattle.scene_command_line.specs.Words.{AnswersKind, AsksFor, IsHelp, command_named, scene_line};
+ghost use Rattle.scene_command_line.specs.Plain.{are_plain, asks_for_help, asks_for_workers, plainly_asked, workers_asked};
+ghost use Rattle.scene_command_line.specs.Words.{AnswersKind, AsksFor, IsHelp, command_of, run_shape, scene_line, workers_rule};
 
 use crate::asked::{Asked, command_named};
 use crate::texts;
 use clap::error::ErrorKind;
-use clap::{ArgMatches, Command, Error};
+use clap::{Arg, ArgAction, ArgMatches, Command, Error};
 use std::alloc::{AllocError, Global};
 
 /// A command with its help texts, which takes no arguments.
@@ -22,26 +21,47 @@ fn command<'a>(alloc: Global, name: &'a str, about: &'a str, more: &'a str) -> C
     Command::new(alloc, name).about(about).after_help(more)
 }
 
+/// The option `--workers`.
+fn workers_option<'a>(alloc: Global) -> Arg<'a>
+    ensures rule { rule_of result ≡ workers_rule }
+    ensures local { result.global ≡ false }
+{
+    Arg::new(alloc, "workers")
+        .long("workers")
+        .action(ArgAction::Set)
+        .value_name("N")
+        .help(texts::WORKERS)
+}
+
+/// The command `run` with its option.
+fn run_command<'a>(alloc: Global) -> Result<Command<'a>, AllocError>
+    ensures shape { IfOk result (λ c. shape_of c ≡ run_shape) }
+    ensures local { IfOk result (λ c. (fields_of c).has_globals ≡ false) }
+{
+    command(alloc, "run", texts::RUN, texts::RUN_MORE).arg(workers_option(alloc))
+}
+
 /// The commands of the program, as `clap` reads them.
 fn commands<'a>(alloc: Global) -> Result<Command<'a>, AllocError>
     ensures { IfOk result (λ c. app_of c ≡ scene_line) }
 {
+    let run = run_command(alloc)?;
     Command::new(alloc, "scene")
         .about(texts::PROGRAM)
         .after_help(texts::PROGRAM_MORE)
         .subcommand_required(true)
         .bin_name("scene")?
-        .subcommand(command(alloc, "run", texts::RUN, texts::RUN_MORE))?
+        .subcommand(run)?
         .subcommand(command(alloc, "check", texts::CHECK, texts::CHECK_MORE))?
         .subcommand(command(alloc, "print", texts::PRINT, texts::PRINT_MORE))
 }
 
 /// The command whose name stands among the words.
 fn command_met(matches: &ArgMatches<'_>) -> Asked
-    ensures { result ≡ option_map_or command_named (subcommand_name_of matches.now) Asked.Bad }
+    ensures { result ≡ command_of (subcommand_rows_of matches.now) }
 {
-    match matches.subcommand_name() {
-        Some(name) => command_named(name),
+    match matches.subcommand() {
+        Some((name, found)) => command_named(name, found.get_str("workers")),
         None => Asked::Bad,
     }
 }
@@ -64,6 +84,8 @@ pub fn read_words<'a>(alloc: Global, words: &'a [String]) -> Result<Asked, Alloc
     ensures asked { IfOk result (λ asked. AsksFor asked (map string_bytes words.now)) }
     ensures plain { are_plain (map string_bytes words.now) ≡ true
         → IfOk result (λ asked. asked ≡ plainly_asked (map string_bytes words.now)) }
+    ensures workers { asks_for_workers (map string_bytes words.now) ≡ true
+        → IfOk result (λ asked. asked ≡ workers_asked (map string_bytes words.now)) }
     ensures help { asks_for_help (map string_bytes words.now) ≡ true → IfOk result IsHelp }
 {
     let commands = commands(alloc)?;

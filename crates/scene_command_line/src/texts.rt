@@ -24,6 +24,9 @@ changes nothing; standard error tells where the first bad lines are and why, and
 
 docs/SCRIPTS.md explains the lines.";
 
+pub(crate) const WORKERS: &str =
+    "How many threads work on an advance, 1 to 16; what is printed doesn't depend on it [1]";
+
 pub(crate) const CHECK: &str = "Says whether the scene text on standard input is good";
 
 pub(crate) const CHECK_MORE: &str = "\

@@ -1,7 +1,13 @@
 pub mod Apart
+pub mod Counts
 pub mod Sounds
 pub mod Stages
 pub mod Walks
+pub mod Schemas
+pub mod SameKinds
+pub mod StagedSystems
+pub mod Phases
+pub mod Writes
 pub mod Entries
 pub mod Zips
 pub mod SameValues

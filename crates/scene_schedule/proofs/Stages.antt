@@ -16,7 +16,7 @@ use Rattle.scene_pass.specs.Changes.{first_fault}
 use Rattle.scene_schedule.specs.Systems.{changes_of, writes_of, unless_over, system, systems_from, phase, in_phase, phases_from}
 
 -- what follows on a stage follows on its world
-then_world : {A B N : Type 0} (o : Outcome A (Staged N)) (v : Outcome A World) (f : A → Staged N → Outcome B (Staged N)) (g : A → World → Outcome B World)
+pub then_world : {A B N : Type 0} (o : Outcome A (Staged N)) (v : Outcome A World) (f : A → Staged N → Outcome B (Staged N)) (g : A → World → Outcome B World)
     → on_world o ≡ v → ((a : A) (t : Staged N) → on_world (f a t) ≡ g a t.world) → on_world (and_then o f) ≡ and_then v g
 then_world (Ok p) v f g h later = later p.0 p.1 ∙ ap (λ w. and_then w g) h
 then_world (Err r) v f g h later = ap (λ w. and_then w g) h

@@ -5,9 +5,11 @@
 //! `specs/AtOnce.antt` says what that is, and `systems_see_the_opening_world` is the law.
 #![tactic(auto)]
 
+mod advance;
 mod cells;
 mod commands;
 mod conflict;
+mod count;
 mod laws;
 mod output;
 mod rule;
@@ -15,8 +17,12 @@ mod run_phase;
 mod schedule;
 #[cfg(test)]
 mod tests;
+mod write;
+#[cfg(test)]
+mod write_tests;
 mod zero;
 
+pub use advance::{Advance, PhaseRunner};
 pub use laws::{
     schedules_are_just_what_is_sound, systems_see_the_opening_world, worked_schedules,
     worked_systems,

@@ -1,3 +1,4 @@
+pub mod KindLaws
 pub mod LineLaws
 pub mod NumberLaws
 pub mod TargetLaws

@@ -85,6 +85,18 @@ abbrev pub next_cell : Kinds → Bool → List ℕ → Result (ℕ × Value) Bad
 next_cell kinds behind_text word =
     if behind_text && not (is_some (number_of kinds (cell_name word))) then Err (bad.BehindText word) else cell_said kinds word
 
+-- the cells that words are, behind a text or not
+abbrev pub cells_behind : Kinds → Bool → List (List ℕ) → Result (List (ℕ × Value)) BadLine
+cells_behind kinds behind_text [] = Ok []
+cells_behind kinds behind_text (w ∷ ws) = do
+  c ← next_cell kinds behind_text w
+  cs ← cells_behind kinds (is_text c.1) ws
+  Ok (c ∷ cs)
+
+-- the cells that words are
+abbrev pub cells_said : Kinds → List (List ℕ) → Result (List (ℕ × Value)) BadLine
+cells_said kinds words = cells_behind kinds false words
+
 -- the shape of a name
 abbrev pub shape_said : List ℕ → Result Shape BadLine
 shape_said name = or_bad (bad.UnknownShape name) (shape_named name)

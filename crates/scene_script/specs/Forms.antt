@@ -30,6 +30,10 @@ form_named word =
     else if bytes_eq word (codes "mark") then Some form.Mark
     else if bytes_eq word (codes "changed") then Some form.Changed
     else if bytes_eq word (codes "added") then Some form.Added
+    else if bytes_eq word (codes "phase") then Some form.Phase
+    else if bytes_eq word (codes "system") then Some form.System
+    else if bytes_eq word (codes "clear") then Some form.Clear
+    else if bytes_eq word (codes "advance") then Some form.Advance
     else if bytes_eq word (codes "dump") then Some form.Dump
     else None
 
@@ -38,10 +42,6 @@ abbrev pub runs_later : List ℕ → Bool
 runs_later word =
     if bytes_eq word (codes "calls") then true
     else if bytes_eq word (codes "depth") then true
-    else if bytes_eq word (codes "phase") then true
-    else if bytes_eq word (codes "system") then true
-    else if bytes_eq word (codes "clear") then true
-    else if bytes_eq word (codes "advance") then true
     else if bytes_eq word (codes "dumpall") then true
     else if bytes_eq word (codes "as") then true
     else bytes_eq word (codes "history")

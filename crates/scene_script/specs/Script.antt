@@ -5,14 +5,15 @@ use Rattle.scene_kinds.specs.declared.value.Value.{Value}
 use Rattle.scene_kinds.specs.Schema.{Kinds}
 use Rattle.scene_commands.specs.declared.command.Command.TheVariants.{Spawn, Insert, Despawn, Remove, SetParent, RemoveParent, DespawnAll, DespawnAllIfAlive, PutResource, RemoveResource}
 use Rattle.scene_script.specs.declared.script_line.Line.{Line}
-use Rattle.scene_script.specs.declared.script_line.Line.TheVariants.{Empty, Kind, Slots, Load, Do, Begin, Queue, Commit, Undo, Redo, Show, Get, Mark, Changed, Added, Dump}
+use Rattle.scene_script.specs.declared.script_line.Line.TheVariants.{Empty, Kind, Slots, Load, Do, Begin, Queue, Commit, Undo, Redo, Show, Get, Mark, Changed, Added, Phase, System, Clear, Advance, Dump}
 use Rattle.scene_script.specs.declared.form.Form.{Form}
 use Rattle.scene_script.specs.declared.form.Form.TheVariants as form
 use Rattle.scene_script.specs.declared.bad_line.BadLine.{BadLine}
 use Rattle.scene_script.specs.declared.bad_line.BadLine.TheVariants as bad
 use Rattle.scene_script.specs.Forms.{form_named, runs_later}
 use Rattle.scene_script.specs.Reading.{◌>>=◌, or_bad, next_word, ended, ended_behind}
-use Rattle.scene_script.specs.Cells.{kind_said, cell_said, next_cell, is_text, shape_said, shaped_value_said, target_said}
+use Rattle.scene_script.specs.Cells.{kind_said, cell_said, cells_said, is_text, shape_said, shaped_value_said, target_said}
+use Rattle.scene_script.specs.Systems.{system_said}
 use Rattle.scene_script.specs.Numbers.{count_in, bad_number, entity_said}
 use Rattle.scene_script.specs.Words.{words_of, behind_first}
 
@@ -38,18 +39,6 @@ slots_line words = do
   word ← next_word form.Slots words
   n ← limit_said word.0
   ended form.Slots word.1 (Slots n)
-
--- the cells that words are, behind a text or not
-abbrev pub cells_behind : Kinds → Bool → List (List ℕ) → Result (List (ℕ × Value)) BadLine
-cells_behind kinds behind_text [] = Ok []
-cells_behind kinds behind_text (w ∷ ws) = do
-  c ← next_cell kinds behind_text w
-  cs ← cells_behind kinds (is_text c.1) ws
-  Ok (c ∷ cs)
-
--- the cells that words are
-abbrev pub cells_said : Kinds → List (List ℕ) → Result (List (ℕ × Value)) BadLine
-cells_said kinds words = cells_behind kinds false words
 
 -- `spawn CELL..`
 abbrev pub spawn_line : Kinds → List (List ℕ) → Result Line BadLine
@@ -133,6 +122,13 @@ get_line words = do
   e ← entity_said word.0
   ended form.Get word.1 (Get e)
 
+-- `system NAME [need=N,N] [without=N,N] STEP..`; the name is any word
+abbrev pub system_line : Kinds → List (List ℕ) → Result Line BadLine
+system_line kinds words = do
+  name ← next_word form.System words
+  rule ← system_said kinds name.0 name.1
+  Ok (System rule)
+
 -- `load TEXT`; the text is the rest of the line
 abbrev pub load_line : List ℕ → Result Line BadLine
 load_line line = Ok (Load (behind_first line))
@@ -162,6 +158,10 @@ line_of_form kinds form.Get line words = get_line words
 line_of_form kinds form.Mark line words = ended form.Mark words Mark
 line_of_form kinds form.Changed line words = ended form.Changed words Changed
 line_of_form kinds form.Added line words = ended form.Added words Added
+line_of_form kinds form.Phase line words = ended form.Phase words Phase
+line_of_form kinds form.System line words = system_line kinds words
+line_of_form kinds form.Clear line words = ended form.Clear words Clear
+line_of_form kinds form.Advance line words = ended form.Advance words Advance
 line_of_form kinds form.Dump line words = ended form.Dump words Dump
 
 -- why a first word names no form

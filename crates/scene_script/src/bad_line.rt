@@ -48,6 +48,17 @@ pub enum BadLine {
     NoEntity(Text),
     #[error("`{}` is neither an entity, as 0v1, nor + and a number", quoted(.0))]
     NoTarget(Text),
+    /// A part of a filter with no kind behind it, or a count with no resource.
+    #[error("`{}` needs a name behind it", quoted(.0))]
+    MissingName(Text),
+    /// A part of a filter behind one that comes after it, behind one like it, or behind a step.
+    #[error("`{}` comes too late: need= stands first, then without=, each at most once, and then the steps", quoted(.0))]
+    MisplacedPart(Text),
+    #[error("`{}` is no step, as addvec:TO:BY, addint:TO:NUMBER, zero:NAME, child:CELL;CELL or count:NAME", quoted(.0))]
+    NoStep(Text),
+    /// A step that spawns a child, with an empty cell.
+    #[error("a cell is missing in `{}`", quoted(.0))]
+    MissingCell(Text),
     /// A line of the setup behind it.
     #[error("the setup has ended: kind, slots and load come before all other lines")]
     SetupEnded,

@@ -30,6 +30,10 @@ pub enum Form {
     Mark,
     Changed,
     Added,
+    Phase,
+    System,
+    Clear,
+    Advance,
     Dump,
 }
 
@@ -62,6 +66,10 @@ impl Form {
             "mark" => Some(Form::Mark),
             "changed" => Some(Form::Changed),
             "added" => Some(Form::Added),
+            "phase" => Some(Form::Phase),
+            "system" => Some(Form::System),
+            "clear" => Some(Form::Clear),
+            "advance" => Some(Form::Advance),
             "dump" => Some(Form::Dump),
             _ => None,
         }
@@ -95,6 +103,10 @@ impl fmt::Display for Form {
             Form::Mark => "mark",
             Form::Changed => "changed",
             Form::Added => "added",
+            Form::Phase => "phase",
+            Form::System => "system NAME [need=N,N] [without=N,N] STEP..",
+            Form::Clear => "clear",
+            Form::Advance => "advance",
             Form::Dump => "dump",
         };
         write!(f, "{text}")

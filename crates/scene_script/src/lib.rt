@@ -1,7 +1,7 @@
 //! The language of scripts: what a line says, and how values print.
 //!
 //! A script's bytes are cut into lines and a line into words. The words are read as numbers, entities, targets,
-//! cells and commands of a queue, and a line becomes one value of the type `Line`, or a `BadLine`, which says its first
+//! cells, commands of a queue and systems, and a line becomes one value of the type `Line`, or a `BadLine`, which says its first
 //! mistake.
 //! Values, cells, the parts of a row and refusals print as docs/SCRIPTS.md, "Output", says. Each step is exact against a total
 //! function of bytes in `specs/` (docs/SCRIPTS.md explains the language). The crate calls no world and no queue: what a
@@ -9,12 +9,14 @@
 #![tactic(auto)]
 
 mod bad_line;
+mod cell;
 mod form;
 mod line;
 mod number;
 mod print;
 mod script_line;
 mod slot_limit;
+mod system;
 mod target;
 mod word;
 

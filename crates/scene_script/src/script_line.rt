@@ -1,18 +1,20 @@
-//! What a line of a script says, with the values and cells that stand in it, or why it is bad.
+//! What a line of a script says, or why it is bad.
 ghost use Rattle.std.specs.Prelude.{◌≡◌, IfOk, map};
-ghost use Rattle.scene_script.specs.Cells.{vec3_said, value_said, is_text, kind_said, lone_name, cell_said, cell_name, next_cell, shape_said, lone_shape, shaped_value_said};
 ghost use Rattle.scene_script.specs.Reading.{Reads, ended, ended_behind};
 ghost use Rattle.scene_script.specs.Forms.{runs_later};
-ghost use Rattle.scene_script.specs.Script.{line_in, line_of_words, unknown_word, named_line, line_of_form, kind_line, limit_said, slots_line, load_line, cells_said, spawn_line, insert_line, despawn_line, remove_line, parent_line, unparent_line, despawnall_line, despawnifalive_line, put_line, drop_line, get_line};
+ghost use Rattle.scene_script.specs.Script.{line_in, line_of_words, unknown_word, named_line, line_of_form, kind_line, limit_said, slots_line, load_line, spawn_line, insert_line, despawn_line, remove_line, parent_line, unparent_line, despawnall_line, despawnifalive_line, put_line, drop_line, get_line, system_line};
 
 use crate::bad_line::{BadLine, LineError, text_of};
+use crate::cell::{cell_word, cell_words, is_text, kind_word, shape_word, shaped_value_word};
 use crate::form::Form;
-use crate::number::{bad_number, entity_word, number_word, read_count};
+use crate::number::{bad_number, entity_word, read_count};
 use crate::slot_limit::SlotLimit;
+use crate::system::system_rule;
 use crate::target::target_word;
-use crate::word::{behind_first, cut, words};
-use scene_commands::{Command, Components};
-use scene_kinds::{Entity, ParseShapeError, Schema, Shape, Text, Value};
+use crate::word::{behind_first, words};
+use scene_commands::Command;
+use scene_kinds::{Entity, Schema, Shape, Text};
+use scene_rules::SystemRule;
 use std::alloc::{AllocError, Global};
 
 /// The meaning of a line (docs/SCRIPTS.md, "Lines").
@@ -41,143 +43,16 @@ pub enum Line {
     Mark,
     Changed,
     Added,
+    /// A further empty phase.
+    Phase,
+    /// A system more in the last phase.
+    System(SystemRule),
+    /// All phases are dropped.
+    Clear,
+    /// The schedule of the phases is made, and advances the world.
+    Advance,
     /// The scene text of the world.
     Dump,
-}
-
-/// Three whole numbers with commas between them.
-fn vec3(alloc: Global, text: &str) -> Result<[i64; 3], LineError>
-    ensures { Reads result (vec3_said text.now) }
-{
-    let Some((x, rest)) = cut(text, ',') else {
-        return Err(LineError::Bad(BadLine::NoVec3(text_of(alloc, text)?)));
-    };
-    let Some((y, z)) = cut(rest, ',') else {
-        return Err(LineError::Bad(BadLine::NoVec3(text_of(alloc, text)?)));
-    };
-    let x = number_word(alloc, x)?;
-    let y = number_word(alloc, y)?;
-    let z = number_word(alloc, z)?;
-    Ok([x, y, z])
-}
-
-/// The value of a shape that a text behind a name is (docs/SCRIPTS.md, "Words"): a whole number, three of them joined by
-/// commas, the text itself, also an empty one, or an entity text. A tag has no value.
-fn value(alloc: Global, name: &str, shape: Shape, text: &str) -> Result<Value, LineError>
-    ensures { Reads result (value_said name.now shape text.now) }
-{
-    match shape {
-        Shape::Tag => Err(LineError::Bad(BadLine::ValueOfTag(text_of(alloc, name)?))),
-        Shape::Int => Ok(Value::Int(number_word(alloc, text)?)),
-        Shape::Vec3 => Ok(Value::Vec3(vec3(alloc, text)?)),
-        Shape::Text => Ok(Value::Text(text_of(alloc, text)?)),
-        Shape::Link => Ok(Value::Link(entity_word(alloc, text)?)),
-    }
-}
-
-/// The kind of a name.
-fn kind_word(alloc: Global, schema: &Schema, name: &str) -> Result<u8, LineError>
-    ensures { Reads result (kind_said schema.now name.now) }
-{
-    match schema.number_of(name) {
-        Some(kind) => Ok(kind),
-        None => Err(LineError::Bad(BadLine::UnknownKind(text_of(alloc, name)?))),
-    }
-}
-
-/// A word that is the name of a tag.
-fn tag_word(alloc: Global, schema: &Schema, name: &str) -> Result<(u8, Value), LineError>
-    ensures { Reads result (lone_name schema.now name.now) }
-{
-    let kind = kind_word(alloc, schema, name)?;
-    if schema.fits(&Value::Tag, kind) {
-        Ok((kind, Value::Tag))
-    } else {
-        Err(LineError::Bad(BadLine::MissingValue(text_of(alloc, name)?)))
-    }
-}
-
-/// The kind and the value that a word names (docs/SCRIPTS.md, "Words"): `NAME` of a tag, else `NAME=VALUE`.
-fn cell_word(alloc: Global, schema: &Schema, word: &str) -> Result<(u8, Value), LineError>
-    ensures { Reads result (cell_said schema.now word.now) }
-{
-    let Some((name, text)) = cut(word, '=') else {
-        return tag_word(alloc, schema, word);
-    };
-    let kind = kind_word(alloc, schema, name)?;
-    let Some(shape) = schema.shape_of(kind) else {
-        return Err(LineError::Bad(BadLine::UnknownKind(text_of(alloc, name)?)));
-    };
-    Ok((kind, value(alloc, name, shape, text)?))
-}
-
-/// Whether a value is a text, which ends at the next space.
-fn is_text(value: &Value) -> bool
-    ensures { result ≡ is_text value.now }
-{
-    match value {
-        Value::Text(_) => true,
-        _ => false,
-    }
-}
-
-/// The name that a word has as a cell: what stands before its `=`, or all of it.
-fn cell_name(word: &str) -> &str
-    ensures { result.now ≡ cell_name word.now }
-{
-    match cut(word, '=') {
-        Some((name, _)) => name,
-        None => word,
-    }
-}
-
-/// A cell behind others. Where the last one is a text, a word that names no kind was meant as a further part of it.
-fn next_cell_word(
-    alloc: Global,
-    schema: &Schema,
-    behind_text: bool,
-    word: &str,
-) -> Result<(u8, Value), LineError>
-    ensures { Reads result (next_cell schema.now behind_text word.now) }
-{
-    if behind_text && schema.number_of(cell_name(word)).is_none() {
-        return Err(LineError::Bad(BadLine::BehindText(text_of(alloc, word)?)));
-    }
-    cell_word(alloc, schema, word)
-}
-
-/// The shape of a name.
-fn shape_word(alloc: Global, name: &str) -> Result<Shape, LineError>
-    ensures { Reads result (shape_said name.now) }
-{
-    match name.parse() {
-        Ok(shape) => Ok(shape),
-        Err(ParseShapeError) => {
-            Err(LineError::Bad(BadLine::UnknownShape(text_of(alloc, name)?)))
-        }
-    }
-}
-
-/// The value of a shape that needs no text, which is `Tag` alone.
-fn lone_shape(alloc: Global, name: &str, shape: Shape) -> Result<Value, LineError>
-    ensures { Reads result (lone_shape name.now shape) }
-{
-    match shape {
-        Shape::Tag => Ok(Value::Tag),
-        _ => Err(LineError::Bad(BadLine::MissingValue(text_of(alloc, name)?))),
-    }
-}
-
-/// The value that a word names with its shape (docs/SCRIPTS.md, "Words"): `SHAPE` of a tag, else `SHAPE=VALUE`.
-fn shaped_value_word(alloc: Global, word: &str) -> Result<Value, LineError>
-    ensures { Reads result (shaped_value_said word.now) }
-{
-    let Some((name, text)) = cut(word, '=') else {
-        let shape = shape_word(alloc, word)?;
-        return lone_shape(alloc, word, shape);
-    };
-    let shape = shape_word(alloc, name)?;
-    value(alloc, name, shape, text)
 }
 
 /// A line that ends here says this.
@@ -249,20 +124,6 @@ fn load_line(alloc: Global, line: &str) -> Result<Line, LineError>
     ensures { Reads result (load_line line.now) }
 {
     Ok(Line::Load(text_of(alloc, behind_first(line))?))
-}
-
-/// The components that words name.
-fn cell_words(alloc: Global, schema: &Schema, words: &[&str]) -> Result<Components, LineError>
-    ensures { Reads result (cells_said schema.now (map (λ w. w.now) words.now)) }
-{
-    let mut cells = Vec::new(alloc);
-    let mut behind_text = false;
-    for word in words {
-        let (kind, value) = next_cell_word(alloc, schema, behind_text, word)?;
-        behind_text = is_text(&value);
-        cells.push((kind, value))?;
-    }
-    Ok(Components::from(cells))
 }
 
 /// `spawn CELL..`.
@@ -448,6 +309,16 @@ fn get_line(alloc: Global, words: &[&str]) -> Result<Line, LineError>
     ended(alloc, Form::Get, rest, Line::Get(entity))
 }
 
+/// `system NAME [need=N,N] [without=N,N] STEP..`.
+fn system_line(alloc: Global, schema: &Schema, words: &[&str]) -> Result<Line, LineError>
+    ensures { Reads result (system_line schema.now (map (λ w. w.now) words.now)) }
+{
+    let [name, rest @ ..] = words else {
+        return Err(LineError::Bad(BadLine::MissingWord(Form::System)));
+    };
+    Ok(Line::System(system_rule(alloc, schema, name, rest)?))
+}
+
 /// A line by its form and the words behind the first.
 fn line_of_form(
     alloc: Global,
@@ -482,6 +353,10 @@ fn line_of_form(
         Form::Mark => ended(alloc, form, words, Line::Mark),
         Form::Changed => ended(alloc, form, words, Line::Changed),
         Form::Added => ended(alloc, form, words, Line::Added),
+        Form::Phase => ended(alloc, form, words, Line::Phase),
+        Form::System => system_line(alloc, schema, words),
+        Form::Clear => ended(alloc, form, words, Line::Clear),
+        Form::Advance => ended(alloc, form, words, Line::Advance),
         Form::Dump => ended(alloc, form, words, Line::Dump),
     }
 }
@@ -491,15 +366,7 @@ fn runs_later(word: &str) -> bool
     ensures { result ≡ runs_later word.now }
 {
     match word {
-        "calls"
-        | "depth"
-        | "phase"
-        | "system"
-        | "clear"
-        | "advance"
-        | "dumpall"
-        | "as"
-        | "history" => true,
+        "calls" | "depth" | "dumpall" | "as" | "history" => true,
         _ => false,
     }
 }

@@ -1,5 +1,6 @@
 //! The words of a line, and where a word is cut.
-ghost use Rattle.std.specs.Prelude.{◌≡◌, ◌<◌, IfOk, map};
+ghost use Rattle.std.specs.Prelude.{◌≡◌, ◌<◌, ◌==◌, IfOk, map};
+ghost use Rattle.std.specs.List.{slice_split};
 ghost use Rattle.std.specs.Option.{option_map};
 ghost use Rattle.scene_script.specs.Words.{words_of, cut_at, without_spaces, behind_first};
 
@@ -13,6 +14,14 @@ pub fn words(alloc: Global, line: &str) -> Result<Vec<&str>, AllocError>
     line.split(' ')
         .filter(|word| !word.is_empty())
         .collect(alloc)
+}
+
+/// The parts of a word between its marks, also empty ones. A word without a mark is one part.
+pub(crate) fn parts(alloc: Global, word: &str, mark: char) -> Result<Vec<&str>, AllocError>
+    requires { mark < 128 }
+    ensures { IfOk result (λ v. map (λ p. p.now) v.items ≡ slice_split (λ b. b == mark) word.now) }
+{
+    word.split(mark).collect(alloc)
 }
 
 /// What stands before and after the first such mark in a word, or `None` where the word has none.

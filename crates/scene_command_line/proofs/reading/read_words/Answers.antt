@@ -1,14 +1,12 @@
 use Rattle.std.proofs.Common.{◌≡◌, ◌∙◌, ap, refl, sym, subst, map, string_bytes, true, List, [], IfOk}
 use Rattle.std.proofs.lemmas.Result.{IfOk-weaker}
 use Rattle.clap.specs.Words.{App, HasKind, Kinds, Text, app_of, fault_of, is_simple, is_simple_and_free, kind_of, subcommand_of}
-use Rattle.clap.specs.declared.parser.matches.ArgMatches.TheViews.{out-ArgMatches}
 use Rattle.clap.proofs.OnLiterals.{clap_on_literals}
-use Rattle.scene_command_line.specs.declared.asked.Asked.TheVariants.{Bad}
-use Rattle.scene_command_line.specs.Words.{Answers, AsksFor, command_in, command_named, scene_line}
-use Rattle.scene_command_line.proofs.Answered.{asked_by_kind, named_by_rows}
+use Rattle.scene_command_line.specs.Words.{Answers, AsksFor, command_in, command_of, scene_line}
+use Rattle.scene_command_line.proofs.Answered.{asked_by_kind}
 use Rattle.scene_command_line.proofs.HelpLaws.{help_answer}
 use Rattle.scene_command_line.proofs.PlainLaws.{plain_answer}
-use Rattle.std.specs.Option.{option_map_or}
+use Rattle.scene_command_line.proofs.WorkersLaws.{workers_answer}
 use Rattle.scene_command_line.proofs.reading.read_words.Goals as goal
 
 is_free : is_simple_and_free scene_line ≡ true
@@ -28,15 +26,13 @@ returns-in-Ok c =
     ∙ c.in-Ok.ensures.kinds (ap is_simple_and_free commands_are ∙ is_free) in
     let met = (c.in-Ok.ensures.matches (ap is_simple commands_are ∙ is_plain)).1 in
     let named : c.command_met.result ≡ command_in words =
-    c.command_met.ensures
-    ∙ (named_by_rows (out-ArgMatches c.in-Ok.matches).subcommand
-    ∙ ap (λ rows. option_map_or (λ row. command_named row.0) rows Bad)
-    (met ∙ ap (λ (a : App). subcommand_of a words) commands_are)) in
+    c.command_met.ensures ∙ ap command_of (met ∙ ap (λ (a : App). subcommand_of a words) commands_are) in
     let asks : AsksFor c.command_met.result words =
     subst (λ (kinds : Kinds). Answers kinds (command_in words) c.command_met.result) (sym none) named in
     record {
       asked = asks;
       plain = λ plain. plain_answer words c.command_met.result plain asks;
+      workers = λ workers. workers_answer words c.command_met.result workers asks;
       help = λ help. help_answer words c.command_met.result help asks;
     }
 
@@ -52,5 +48,6 @@ returns-in-Err c =
     record {
       asked = asks;
       plain = λ plain. IfOk-weaker c.without_command.result _ _ (λ asked. plain_answer words asked plain) asks;
+      workers = λ workers. IfOk-weaker c.without_command.result _ _ (λ asked. workers_answer words asked workers) asks;
       help = λ help. IfOk-weaker c.without_command.result _ _ (λ asked. help_answer words asked help) asks;
     }

@@ -1,7 +1,7 @@
 use Rattle.std.proofs.Common.{◌≡◌, ◌++◌, drop, map, Ok}
 use Rattle.scene_script.specs.Reading.{◌>>=◌}
-use Rattle.scene_script.specs.Script.{cells_behind, cells_said}
-use Rattle.scene_script.proofs.script_line.cell_words.Given as goal
+use Rattle.scene_script.specs.Cells.{cells_behind, cells_said}
+use Rattle.scene_script.proofs.cell.cell_words.Given as goal
 
 abbrev pub invariant-loop-word : goal.invariant-loop-word
 invariant-loop-word l =

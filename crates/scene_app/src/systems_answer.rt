@@ -1,0 +1,37 @@
+//! The answers to the lines of systems.
+ghost use Rattle.std.specs.Prelude.{OnOk, None, string_bytes};
+ghost use Rattle.scene_script.specs.declared.script_line.Line.TheVariants.{Phase, System, Clear};
+ghost use Rattle.scene_app.specs.Play.{lone_reply};
+ghost use Rattle.scene_app.specs.Steps.{Replies};
+
+use crate::play_state::PlayState;
+use scene_rules::SystemRule;
+use std::alloc::AllocError;
+
+/// `phase`.
+pub(crate) fn answer_phase(out: &mut String, state: &mut PlayState) -> Result<(), AllocError>
+    ensures { OnOk result (Replies (string_bytes out.old) (string_bytes out.new) state.new None (lone_reply state.old Phase)) }
+{
+    state.phases.add_phase()?;
+    out.push_str("ok\n")
+}
+
+/// `system`.
+pub(crate) fn answer_system(
+    out: &mut String,
+    state: &mut PlayState,
+    rule: SystemRule,
+) -> Result<(), AllocError>
+    ensures { OnOk result (Replies (string_bytes out.old) (string_bytes out.new) state.new None (lone_reply state.old (System rule))) }
+{
+    state.phases.add_system(rule)?;
+    out.push_str("ok\n")
+}
+
+/// `clear`.
+pub(crate) fn answer_clear(out: &mut String, state: &mut PlayState) -> Result<(), AllocError>
+    ensures { OnOk result (Replies (string_bytes out.old) (string_bytes out.new) state.new None (lone_reply state.old Clear)) }
+{
+    state.phases.clear();
+    out.push_str("ok\n")
+}
