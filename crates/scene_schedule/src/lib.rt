@@ -1,7 +1,8 @@
 //! Schedules: phases of systems, what is refused of them, and how a phase is run.
 //!
 //! `specs/Schedule.antt` says which lists of phases are schedules, and `specs/Systems.antt` what systems, phases and schedules do
-//! to a world.
+//! to a world. Since no system of a phase is in another's way, each makes in its turn what it makes of the opening world alone:
+//! `specs/AtOnce.antt` says what that is, and `systems_see_the_opening_world` is the law.
 #![tactic(auto)]
 
 mod advance;
@@ -28,6 +29,10 @@ mod zero;
 pub use advance::{Advance, PhaseRunner};
 pub use gate::{Gate, OpenGate};
 pub use laws::{schedules_are_just_what_is_sound, systems_see_the_opening_world, worked_schedules};
+pub use laws::{
+    schedules_are_just_what_is_sound, systems_see_the_opening_world, worked_schedules,
+    worked_systems,
+};
 pub use output::{PhaseOutput, RowChanges};
 pub use run_phase::run_phase_alone;
 pub use runner::{Alone, RunBy, run_shared};
