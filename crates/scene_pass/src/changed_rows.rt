@@ -13,7 +13,7 @@ use scene_world::World;
 use std::alloc::{AllocError, Global};
 use std::thread::Threads;
 
-/// From how many rows on `map_rows` parts a table among threads. To start threads costs as much as some thousand rows.
+/// From how many rows on `map_rows` parts a table among threads. A smaller table isn't worth the start of threads.
 pub const PARTED_ROWS: usize = 2048;
 
 /// Adds what the steps make of each row of a table, in order.
@@ -34,10 +34,10 @@ fn push_changes(
 }
 
 /// What the steps make of each matching row, by ascending kind set, then by place (docs/MODEL.md, "The rule of systems").
-/// The world stays as it is. The steps are below 2 ^ 32.
+/// The world stays as it is. There must be fewer than 2 ^ 32 steps.
 ///
 /// An error only where no memory was found. It costs the number of kind sets times its logarithm, and for each matching
-/// row a walk over its cells for each step; no row is copied, and of a row only the values that are written.
+/// row a walk over its cells for each step. No row is copied: of a row only the values that are written are held.
 pub fn map_rows_alone(
     alloc: Global,
     world: &World,
@@ -110,8 +110,9 @@ fn push_parted(
     Ok(())
 }
 
-/// What `map_rows_alone` answers, the same rows in the same order, from as many threads as there are processors. A table
-/// of fewer than 2,048 rows (`PARTED_ROWS`) isn't parted, so that a small pass starts no thread.
+/// What `map_rows_alone` answers, the same rows in the same order, from as many threads as there are processors
+/// (docs/MODEL.md, "The rule of systems"). A table of fewer than 2,048 rows (`PARTED_ROWS`) isn't parted, so that a small
+/// pass starts no thread. There must be fewer than 2 ^ 32 steps.
 ///
 /// An error only where no memory was found.
 pub fn map_rows(

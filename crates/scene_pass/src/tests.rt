@@ -31,15 +31,44 @@ fn numbered(alloc: Global, count: i64) -> Result<World, Refusal> {
     Ok(world)
 }
 
+/// The values that were written of a row.
+fn written(change: &RowChange) -> &[(u8, Value)] {
+    match &change.outcome {
+        Outcome::Changed(cells) => cells.as_slice(),
+        Outcome::Overflow(_) => &[],
+    }
+}
+
+fn number_of(value: &Value) -> Option<i64> {
+    match value {
+        Value::Int(number) => Some(*number),
+        _ => None,
+    }
+}
+
+fn vector_of(value: &Value) -> Option<[i64; 3]> {
+    match value {
+        Value::Vec3(vector) => Some(*vector),
+        _ => None,
+    }
+}
+
 /// Whether just a number was written, this one.
 fn is_number(change: &RowChange, number: i64) -> bool {
-    match &change.outcome {
-        Outcome::Changed(cells) => match cells.as_slice() {
-            [(NUMBER, Value::Int(written))] => *written == number,
-            _ => false,
-        },
-        Outcome::Overflow(_) => false,
+    let cells = written(change);
+    if cells.len() != 1 {
+        return false;
     }
+    cells[0].0 == NUMBER && number_of(&cells[0].1) == Some(number)
+}
+
+/// Whether just a place was written, this one.
+fn is_place(change: &RowChange, place: [i64; 3]) -> bool {
+    let cells = written(change);
+    if cells.len() != 1 {
+        return false;
+    }
+    cells[0].0 == PLACE && vector_of(&cells[0].1) == Some(place)
 }
 
 /// Whether the numbers that were written count up from a first one, and how many there are.
@@ -74,15 +103,7 @@ fn moved_twice(alloc: Global) -> Result<bool, Refusal> {
         by: SPEED,
     };
     let made = map_rows_alone(alloc, &world, Filter::all(), [step, step].as_slice())?;
-    Ok(match made.as_slice() {
-        [change] => match &change.outcome {
-            Outcome::Changed(cells) => {
-                matches!(cells.as_slice(), [(PLACE, Value::Vec3([21, -2, 3]))])
-            }
-            Outcome::Overflow(_) => false,
-        },
-        _ => false,
-    })
+    Ok(made.len() == 1 && is_place(&made[0], [21, -2, 3]))
 }
 
 #[test]
