@@ -1,4 +1,4 @@
-use Rattle.std.proofs.Common.{[], ap, sym, ◌∙◌, map, take}
+use Rattle.std.proofs.Common.{[], ap, sym, ◌∙◌, map}
 use Rattle.std.proofs.lemmas.List.{take_all}
 use Rattle.scene_machine.specs.Queue.{play}
 use Rattle.scene_machine.specs.Frame.{queues_from}
