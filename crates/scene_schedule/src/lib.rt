@@ -28,7 +28,6 @@ mod zero;
 
 pub use advance::{Advance, PhaseRunner};
 pub use gate::{Gate, OpenGate};
-pub use laws::{schedules_are_just_what_is_sound, systems_see_the_opening_world, worked_schedules};
 pub use laws::{
     schedules_are_just_what_is_sound, systems_see_the_opening_world, worked_schedules,
     worked_systems,
