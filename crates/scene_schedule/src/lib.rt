@@ -14,9 +14,10 @@ mod gate;
 mod laws;
 mod output;
 mod rule;
-mod run_phase;
 mod runner;
 mod schedule;
+mod schedule_phase;
+mod systems;
 #[cfg(test)]
 mod tests;
 mod turns;
@@ -33,6 +34,6 @@ pub use laws::{
     worked_systems,
 };
 pub use output::{PhaseOutput, RowChanges};
-pub use run_phase::run_phase_alone;
 pub use runner::{Alone, RunBy, run_shared};
 pub use schedule::{Schedule, same_schema};
+pub use schedule_phase::{run_phase, run_phase_alone};

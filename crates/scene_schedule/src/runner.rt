@@ -10,7 +10,7 @@ ghost use Rattle.scene_schedule.specs.Systems.{systems_from};
 use crate::advance::PhaseRunner;
 use crate::gate::OpenGate;
 use crate::output::PhaseOutput;
-use crate::run_phase::run_phase_alone;
+use crate::systems::run_systems_alone;
 use crate::workers::run_systems;
 use scene_kinds::Refusal;
 use scene_rules::SystemRule;
@@ -36,7 +36,7 @@ impl PhaseRunner for Alone {
         world: &World,
         rules: &[SystemRule],
     ) -> Result<PhaseOutput, Refusal> {
-        run_phase_alone(alloc, world, rules)
+        run_systems_alone(alloc, world, rules)
     }
 }
 
@@ -79,7 +79,7 @@ pub fn run_shared<R: Threads + Sync>(
 {
     let workers = workers.min(MOST_WORKERS).min(rules.len());
     if workers < 2 {
-        return run_phase_alone(alloc, world, rules);
+        return run_systems_alone(alloc, world, rules);
     }
     run_systems(rt, alloc, world, rules, workers, &OpenGate)
 }

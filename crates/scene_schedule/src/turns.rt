@@ -5,7 +5,7 @@ ghost use Rattle.scene_schedule.specs.Turns.{AreTurns, IsTurn};
 
 use crate::gate::Gate;
 use crate::output::RowChanges;
-use crate::run_phase::system_output;
+use crate::systems::system_output;
 use scene_kinds::Refusal;
 use scene_queue::Queue;
 use scene_rules::SystemRule;

@@ -98,7 +98,7 @@ pub(crate) fn system_output(
 ///
 /// Refused: the first `Overflow`, by system, then by row, placed by the system and the step; `NoMemory`. It costs the passes over
 /// the rows of the systems, and holds what they write and queue.
-pub fn run_phase_alone(
+pub(crate) fn run_systems_alone(
     alloc: Global,
     world: &World,
     rules: &[SystemRule],

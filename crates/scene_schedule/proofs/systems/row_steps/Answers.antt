@@ -1,7 +1,7 @@
 use Rattle.std.proofs.Common.{◌++◌, drop, ap, sym, ◌∙◌, arith}
 use Rattle.scene_schedule.specs.Systems.{row_steps}
 use Rattle.scene_schedule.proofs.Queued.{pushed_on, row_steps_step, row_steps_so_far}
-use Rattle.scene_schedule.proofs.run_phase.row_steps.Goals as goal
+use Rattle.scene_schedule.proofs.systems.row_steps.Goals as goal
 
 pub steps-preserved : goal.steps-preserved
 steps-preserved c =

@@ -2,7 +2,7 @@ use Rattle.std.proofs.Common.{◌≡◌, drop, take, map}
 use Rattle.scene_model.specs.Valid.{IsValid}
 use Rattle.scene_schedule.specs.Systems.{changes_of}
 use Rattle.scene_schedule.specs.AtOnce.{output_of, first_overflow}
-use Rattle.scene_schedule.proofs.run_phase.run_phase_alone.Given as goal
+use Rattle.scene_schedule.proofs.systems.run_systems_alone.Given as goal
 
 abbrev pub invariant-systems : goal.invariant-systems
 invariant-systems l = record {

@@ -1,6 +1,6 @@
 use Rattle.std.proofs.Common.{arith}
 use Rattle.scene_schedule.proofs.Outputs.{few_steps, phase_made, phase_refused}
-use Rattle.scene_schedule.proofs.run_phase.run_phase_alone.Goals as goal
+use Rattle.scene_schedule.proofs.systems.run_systems_alone.Goals as goal
 
 pub system_output-requires : goal.system_output-requires
 system_output-requires c =
