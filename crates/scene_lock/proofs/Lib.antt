@@ -1,5 +1,6 @@
 mod FirstPasses
 mod Growth
 mod Keeps
+mod Meetings
 mod Owners
 mod Passing

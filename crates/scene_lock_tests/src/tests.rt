@@ -50,6 +50,11 @@ fn eight_sessions_enter_one_history(rt: HostRuntime) -> Result<(), Fail> {
     let alloc = rt.alloc();
     let (lock, passes) = WordLock::new(alloc, Notes::new(alloc, 1_000_000), 8)?;
     let passes = enter_all(&rt, alloc, &lock, passes, 1000)?;
+    let passes = lock.meet_all(passes);
+    for (pass, wanted) in passes.iter().zip(0..8u32) {
+        assert_eq!(rt; pass.session(), wanted);
+    }
+    assert_eq!(rt; passes.len(), 8);
     let pass = meet_in_chain(&lock, passes).expect(&rt, "a pass");
     let notes = lock
         .finish(pass)
