@@ -4,3 +4,6 @@ mod Keeps
 mod Meetings
 mod Owners
 mod Passing
+mod Places
+mod Visits
+mod Walks

@@ -4,7 +4,8 @@ use Rattle.std.specs.List.{All}
 use Rattle.scene_lock.specs.declared.knowledge.Knowledge.{Knowledge}
 use Rattle.scene_lock.specs.History.{Continues, IsLegal}
 use Rattle.scene_lock.specs.Pass.{LockView, PassView, IsPassOf, HaveMet, all_seen}
-use Rattle.scene_lock.specs.Rule.{all_seeing, other_members, others_seat, joined_seat, seeing}
+use Rattle.scene_lock.specs.declared.knowledge.Step.{Step}
+use Rattle.scene_lock.specs.Members.{member, all_seeing, other_members, others_seat, joined_seat, seeing}
 
 module _ {X : Type 0} (P : X → Type 0) where
   pub All-tail : (x : X) (xs : List X) → All P (x ∷ xs) → All P xs
@@ -25,9 +26,9 @@ module _ {E O : Type 0} where
   all_seen-push h (q ∷ ps) p = ap (λ l. record q { seen = h } ∷ l) (all_seen-push h ps p)
 
   -- a seat that was joined to a pass's, and parted from it after a look
-  pub others_again : (h : List E) (mine seat : Knowledge E O) (n : ℕ) (s : List E) → mine.members ≡ (n, s) ∷ [] → mine.terms ≡ seat.terms → seat.holding ≡ false
+  pub others_again : (h : List E) (mine seat : Knowledge E O) (n : ℕ) (s : List E) (made : List Step) → mine.members ≡ member n s made ∷ [] → mine.terms ≡ seat.terms → seat.holding ≡ false
       → others_seat (seeing h (joined_seat mine seat)) ≡ seeing h seat
-  others_again h mine seat n s alone terms free i = record { terms = terms i; members = other_members (all_seeing h (alone i ++ seat.members)); holding = sym free i }
+  others_again h mine seat n s made alone terms free i = record { terms = terms i; members = other_members (all_seeing h (alone i ++ seat.members)); holding = sym free i }
 
 module _ {E O : Type 0} (lock : LockView O) where
   -- passes that have seen something else are passes of the same lock

@@ -2,6 +2,7 @@
 use Rattle.std.specs.Prelude.{◌≡◌, ◌++◌, ◌∷◌, [], zero, suc, ℕ, List, Option, Some}
 use Rattle.std.specs.List.{All}
 use Rattle.atomic_table.specs.Seated.{TableId}
+use Rattle.scene_lock.specs.declared.knowledge.Step.{Step}
 use Rattle.scene_lock.specs.declared.knowledge.Terms.{Terms}
 use Rattle.scene_lock.specs.History.{Continues, IsLegal}
 
@@ -10,12 +11,13 @@ pub record LockView (O : Type 0) : Type 0 where
   pub id : TableId
   pub terms : Terms O
 
--- which lock a pass is of, its session, and the history that it has seen
+-- which lock a pass is of, its session, the history that it has seen, and the steps on the word that were made through it
 pub record PassView (E O : Type 0) : Type 0 where
   pub id : TableId
   pub terms : Option (Terms O)
   pub session : ℕ
   pub seen : List E
+  pub steps : List Step
 
 module _ {E O : Type 0} where
   -- the pass is one of this lock
@@ -39,7 +41,7 @@ module _ {E O : Type 0} where
 
   -- a pass that has seen nothing yet
   abbrev pub first_pass : LockView O → ℕ → PassView E O
-  first_pass lock session = record { id = lock.id; terms = Some lock.terms; session = session; seen = [] }
+  first_pass lock session = record { id = lock.id; terms = Some lock.terms; session = session; seen = []; steps = [] }
 
   -- the passes 0, 1, .. of a new lock
   abbrev pub first_passes : LockView O → ℕ → List (PassView E O)

@@ -2,7 +2,8 @@
 ghost use Rattle.std.specs.Prelude.{◌≡◌, List, [], false, Some, All, vec_len, vec_capacity};
 ghost use Rattle.scene_lock.specs.Pass.{IsPassOf, Follows, HaveMet, all_seen};
 ghost use Rattle.scene_lock.specs.History.{Continues};
-ghost use Rattle.scene_lock.specs.Rule.{Tells, seeing};
+ghost use Rattle.scene_lock.specs.Members.{seeing};
+ghost use Rattle.scene_lock.specs.Rule.{Tells};
 
 use crate::kept::Kept;
 use crate::knowledge::Knowledge;
@@ -20,6 +21,7 @@ impl<S: Kept> WordLock<S> {
         ensures one { Follows S.legal S.session self.now one result.0 }
         ensures other { Follows S.legal S.session self.now other result.1 }
         ensures same { result.1.seen ≡ result.0.seen }
+        ensures steps { (result.0.steps ≡ one.steps) × (result.1.steps ≡ other.steps) }
     {
         let Pass { mut seat, number } = one;
         let Pass {
