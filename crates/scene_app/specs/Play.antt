@@ -9,9 +9,13 @@ use Rattle.scene_kinds.specs.declared.shape.Shape.{Shape}
 use Rattle.scene_kinds.specs.Answers.{Outcome, refusal_of}
 use Rattle.scene_kinds.specs.Schema.{Kinds, with_kind}
 use Rattle.scene_model.specs.World.{World, new_world, row_of}
+use Rattle.scene_model.specs.Perform.{perform}
+use Rattle.scene_schedule.specs.Schedule.{schedule_fault}
+use Rattle.scene_schedule.specs.Systems.{advance_of}
+use Rattle.scene_kinds.specs.declared.fault.Fault.{Fault}
 use Rattle.scene_machine.specs.Machine.{Machine, opening}
 use Rattle.scene_machine.specs.Queue.{Request}
-use Rattle.scene_machine.specs.Frame.{Submit, Undo as UndoCall, Redo as RedoCall, Reply as Answer, step}
+use Rattle.scene_machine.specs.Frame.{Submit, Advance as Advancing, Undo as UndoCall, Redo as RedoCall, Reply as Answer, step}
 use Rattle.scene_queue.specs.Frames.{frame_of}
 use Rattle.scene_app.specs.Phases.{with_phase, with_system}
 use Rattle.scene_app.specs.OpenFrame.{Opened, new_frame, with_command, with_queue, queues_of, alone}
@@ -26,7 +30,7 @@ use Rattle.scene_app.specs.declared.play_state.PlayState.{PlayState}
 use Rattle.scene_script.specs.declared.script_line.Line.{Line}
 use Rattle.scene_script.specs.declared.script_line.Line.TheVariants.{Empty, Kind, Slots, Load, Do, Begin, Queue, Commit, Undo, Redo, Show, Get, Mark, Changed, Added, Phase, System, Clear, Advance, Dump}
 use Rattle.scene_script.specs.declared.bad_line.BadLine.{BadLine}
-use Rattle.scene_script.specs.declared.bad_line.BadLine.TheVariants.{NotYet, SetupEnded, SceneLoaded, NoFrame, FrameOpen}
+use Rattle.scene_script.specs.declared.bad_line.BadLine.TheVariants.{SetupEnded, SceneLoaded, NoFrame, FrameOpen}
 use Rattle.scene_app.specs.declared.report.BadLineReport.{BadLineReport}
 use Rattle.scene_file.specs.declared.fault.FileFault.{FileFault}
 use Rattle.scene_file.specs.Saving.{save_of}
@@ -139,6 +143,12 @@ query_reply s text = record { text = text; bad = None; state = s }
 abbrev pub submit_reply : PlayState → List (List Request) → Reply
 submit_reply s queues = call_reply s made_text (step s.machine (Submit queues))
 
+-- the reply to an advance, by the first fault of its phases: they make no schedule, or the machine takes a step by it
+abbrev pub advance_reply : PlayState → Option Fault → Reply
+advance_reply s (Some fault) = query_reply s (refused_text (refusal_of fault))
+advance_reply s None = call_reply s made_text
+    (step s.machine (Advancing (advance_of perform (λ w. w) (record { schema = s.machine.now.schema; phases = s.phases }))))
+
 -- the reply where no frame is open; a command is a frame by itself
 abbrev pub lone_reply : PlayState → Line → Reply
 lone_reply s Empty = query_reply s []
@@ -159,7 +169,7 @@ lone_reply s Added = query_reply s (added_text s)
 lone_reply s Phase = query_reply (with_phases s (with_phase s.phases)) (codes "ok\n")
 lone_reply s (System rule) = query_reply (with_phases s (with_system s.phases rule)) (codes "ok\n")
 lone_reply s Clear = query_reply (with_phases s []) (codes "ok\n")
-lone_reply s Advance = bad_reply s (NotYet (codes "advance"))
+lone_reply s Advance = advance_reply s (schedule_fault s.machine.now.schema s.phases)
 lone_reply s Dump = query_reply s (dump_text s.machine.now)
 
 -- the reply to a command in a frame: it is queued, or else refused and the frame is as it was

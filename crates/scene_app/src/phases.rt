@@ -1,5 +1,5 @@
 //! The phases of systems that a script has made.
-ghost use Rattle.std.specs.Prelude.{◌≡◌, ◌++◌, ◌∷◌, [], OnOk};
+ghost use Rattle.std.specs.Prelude.{◌≡◌, ◌++◌, ◌∷◌, [], IfOk, OnOk};
 ghost use Rattle.scene_rules.specs.declared.system_rule.SystemRule.{SystemRule};
 ghost use Rattle.scene_app.specs.Phases.{with_phase, with_system};
 
@@ -61,6 +61,17 @@ impl Phases {
         last.push(rule)?;
         self.list.push(last)?;
         Ok(())
+    }
+
+    /// Equal phases in the same order, or an error where no memory was found.
+    pub(crate) fn copies(&self) -> Result<Vec<Phase>, AllocError>
+        ensures { IfOk result (λ copies. copies.items ≡ self.now) }
+    {
+        let mut copies = Vec::new(self.alloc);
+        for phase in &self.list {
+            copies.push(phase.try_clone()?)?;
+        }
+        Ok(copies)
     }
 
     /// Drops all phases.
