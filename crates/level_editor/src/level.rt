@@ -5,19 +5,27 @@ ghost use Rattle.scene_editor.specs.Machine.{redo, undo};
 
 use crate::error::LevelError;
 use scene_editor::{
-    CellName, Command, Components, Cursor, Editor, Entity, Fault, Filter, Made, Queue, Refusal,
-    Schema, Shape, Target, Text, Value, World, changed_since, matching,
+    CellName, Command, Components, Cursor, Editor, Entity, Fault, Filter, Made, Phase, Queue,
+    Refusal, RowStep, Schedule, Schema, Shape, Step, Steps, SystemRule, Target, Text, Value, World,
+    changed_since, matching,
 };
 use std::alloc::{AllocError, Global};
 
 /// The kinds of a level, with the shapes of their values.
-const KINDS: [(&str, Shape); 2] = [("Name", Shape::Text), ("Position", Shape::Vec3)];
+const KINDS: [(&str, Shape); 3] = [
+    ("Name", Shape::Text),
+    ("Position", Shape::Vec3),
+    ("Velocity", Shape::Vec3),
+];
 
 /// The kind of names: its place in `KINDS`.
 const NAME: u8 = 0;
 
 /// The kind of positions: its place in `KINDS`.
 const POSITION: u8 = 1;
+
+/// The kind of velocities, which only moving things have: its place in `KINDS`.
+const VELOCITY: u8 = 2;
 
 /// How many slots a level has.
 const SLOTS: u32 = 65_536;
@@ -33,6 +41,7 @@ pub struct Drag {
 pub struct Level {
     alloc: Global,
     editor: Editor,
+    motion: Schedule,
 }
 
 /// A position moved by an offset; at the end of its range it stays.
@@ -65,11 +74,40 @@ fn kinds(alloc: Global) -> Result<Schema, LevelError> {
     Ok(schema)
 }
 
+/// The rule of motion: what has a velocity moves by it.
+fn move_rule(alloc: Global) -> Result<SystemRule, AllocError> {
+    let step = Step::Row(RowStep::AddVec {
+        to: POSITION,
+        by: VELOCITY,
+    });
+    Ok(SystemRule {
+        name: Text::from(String::from_str(alloc, "move")?),
+        filter: Filter {
+            need: 1 << POSITION | 1 << VELOCITY,
+            without: 0,
+        },
+        steps: Steps::from(vec![in alloc; step]?),
+    })
+}
+
+/// The schedule of a level: one phase, in which things move.
+fn motion(alloc: Global, kinds: &Schema) -> Result<Schedule, LevelError> {
+    let mut phase = Phase::new(alloc);
+    phase.push(move_rule(alloc)?)?;
+    Ok(Schedule::new(alloc, kinds, vec![in alloc; phase]?)?)
+}
+
 impl Level {
     /// A level without things.
     pub fn open(alloc: Global) -> Result<Level, LevelError> {
-        let editor = Editor::new(alloc, World::new(alloc, kinds(alloc)?, SLOTS));
-        Ok(Level { alloc, editor })
+        let kinds = kinds(alloc)?;
+        let motion = motion(alloc, &kinds)?;
+        let editor = Editor::new(alloc, World::new(alloc, kinds, SLOTS));
+        Ok(Level {
+            alloc,
+            editor,
+            motion,
+        })
     }
 
     /// Does a frame of one queue.
@@ -133,6 +171,26 @@ impl Level {
         let mut queue = Queue::new(self.alloc);
         queue.push(Command::DespawnAll(Target::Id(entity)))?;
         let _made = self.frame(queue)?;
+        Ok(())
+    }
+
+    /// Gives a thing a velocity.
+    pub fn push(&mut self, entity: Entity, velocity: [i64; 3]) -> Result<(), LevelError>
+        ensures same { OnErr result (self.new.editor ≡ self.old.editor) }
+    {
+        let mut queue = Queue::new(self.alloc);
+        let velocity = Value::Vec3(velocity);
+        queue.push(Command::Insert(Target::Id(entity), VELOCITY, velocity))?;
+        let _made = self.frame(queue)?;
+        Ok(())
+    }
+
+    /// Lets time pass by one step: all that has a velocity moves, in one frame. Where something can't move any further, nothing
+    /// moves.
+    pub fn step(&mut self) -> Result<(), LevelError>
+        ensures same { OnErr result (self.new.editor ≡ self.old.editor) }
+    {
+        let _made = self.editor.advance_alone(&self.motion)?;
         Ok(())
     }
 

@@ -77,12 +77,27 @@ fn back_and_again(rt: &impl Print, level: &mut Level) -> Result<()> {
     show(rt, level, "lamp")
 }
 
+/// Plays the level for three steps of time, and takes one back.
+fn play(rt: &impl Print, level: &mut Level) -> Result<()> {
+    let lamp = level.find("lamp")?;
+    level.push(lamp, [0, 0, 5])?;
+    for _ in 0..3 {
+        level.step()?;
+    }
+    println!(rt; "played for three steps:")?;
+    show(rt, level, "lamp")?;
+    tell(rt, "undo a step", level.undo())?;
+    show(rt, level, "lamp")?;
+    show(rt, level, "door")
+}
+
 /// Drags things, and shows what is refused and what can be taken back.
 fn work_with(rt: &impl Print, level: &mut Level, things: &[Entity]) -> Result<()> {
     println!(rt; "placed {} things in one frame", things.len())?;
     drag(rt, level, things)?;
     refusals(rt, level, things)?;
-    back_and_again(rt, level)
+    back_and_again(rt, level)?;
+    play(rt, level)
 }
 
 /// Places things, and works with them.

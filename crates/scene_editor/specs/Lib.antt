@@ -15,6 +15,9 @@ pub use Rattle.scene_undo.specs.Editor
 -- filters, and what passes list
 pub use Rattle.scene_rules.specs.Filter
 pub use Rattle.scene_pass.specs.Pass
+-- which lists of phases are schedules, and what an advance by one does
+pub use Rattle.scene_schedule.specs.Schedule
+pub use Rattle.scene_schedule.specs.Systems
 -- the text of a world, and the world of a text
 pub use Rattle.scene_file.specs.Outcome
 pub use Rattle.scene_file.specs.Saving

@@ -5,7 +5,9 @@
 //!
 //! A tool makes a `Schema` of its kinds and an `Editor` of a `World`; or it loads the world. A change is a `Queue` of
 //! `Command`s, in which a `Target` is an entity or the k-th that the queue spawns; `Editor::submit` does queues as one frame
-//! and gives `Made`, the new entities. `undo` and `redo` are the editor's. `Editor::world` is read by `World::get`, which
+//! and gives `Made`, the new entities. `undo` and `redo` are the editor's. A `SystemRule` says what is done with each matching
+//! row, in `Step`s; a `Schedule` is made of `Phase`s of such rules, and `Editor::advance_alone` does it as one frame, as
+//! `Editor::advance` does on several threads. `Editor::world` is read by `World::get`, which
 //! lends a `CellRef`, and by the passes, whose `Filter` says which entities they look at. What was written since a `Cursor`
 //! comes as `CellName`s. A `Refusal` says by a `Fault` why, and by a `Place` at which command; `Returned` hands back what a
 //! queue didn't take. A scene text goes through a `Source` or a `Sink`, and is refused by a `FileFault`.
@@ -17,6 +19,10 @@ pub use scene_undo::{Cursor, Editor, Made};
 // Changes: lists of commands.
 pub use scene_commands::{Command, Components, Target};
 pub use scene_queue::{Queue, Returned};
+
+// Systems: rules over rows, in the phases of a schedule, by which an editor advances.
+pub use scene_rules::{Phase, RowStep, Step, Steps, SystemRule};
+pub use scene_schedule::Schedule;
 
 // What a scene is made of: kinds with shapes, entities, values and cells.
 pub use scene_kinds::{
