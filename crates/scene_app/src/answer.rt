@@ -4,7 +4,6 @@ ghost use Rattle.scene_kinds.specs.Answers.{refusal_of};
 ghost use Rattle.scene_kinds.specs.declared.fault.Fault.TheVariants.{NoMemory};
 ghost use Rattle.scene_machine.specs.Frame.{Undo as UndoCall, Redo as RedoCall, step};
 ghost use Rattle.scene_script.specs.declared.script_line.Line.TheVariants.{Begin};
-ghost use Rattle.scene_script.specs.declared.bad_line.BadLine.TheVariants.{NotYet};
 ghost use Rattle.scene_queue.specs.Frames.{frame_of};
 ghost use Rattle.scene_app.specs.OpenFrame.{alone, queue_count};
 ghost use Rattle.scene_model.specs.World.{row_of};
@@ -16,10 +15,10 @@ use crate::file_fault_text::answer_file_fault;
 use crate::framed_answer::answer_in_frame;
 use crate::open_frame::OpenFrame;
 use crate::play_state::PlayState;
-use crate::systems_answer::{answer_clear, answer_phase, answer_system};
+use crate::systems_answer::{answer_advance, answer_clear, answer_phase, answer_system};
 use scene_commands::Command;
 use scene_file::save_text;
-use scene_kinds::{Entity, Fault, Refusal, Text};
+use scene_kinds::{Entity, Fault, Refusal};
 use scene_pass::{Filter, added_since, changed_since};
 use scene_queue::Queue;
 use scene_script::{BadLine, Line, write_refusal};
@@ -48,7 +47,7 @@ pub(crate) fn answer_refused(out: &mut String, refusal: Refusal) -> Result<(), A
 }
 
 /// Adds what a frame made: the entities that it spawned.
-fn write_made(out: &mut String, entities: &[Entity]) -> Result<(), AllocError>
+pub(crate) fn write_made(out: &mut String, entities: &[Entity]) -> Result<(), AllocError>
     ensures { OnOk result (string_bytes out.new ≡ string_bytes out.old ++ made_text entities.now) }
 {
     out.push_str("done")?;
@@ -204,19 +203,6 @@ pub(crate) fn answer_bad(out: &mut String, reason: BadLine) -> Result<Option<Bad
     Ok(Some(reason))
 }
 
-/// Answers a line that doesn't run yet, which is bad.
-fn answer_not_yet(
-    alloc: Global,
-    out: &mut String,
-    word: &str,
-) -> Result<Option<BadLine>, AllocError>
-    ensures text { OnOk result (string_bytes out.new ≡ string_bytes out.old ++ codes "bad line\n") }
-    ensures bad { IfOk result (λ bad. bad ≡ Some (NotYet word.now)) }
-{
-    let word = Text::from(String::from_str(alloc, word)?);
-    answer_bad(out, BadLine::NotYet(word))
-}
-
 /// Answers a line after the setup where no frame is open, and gives why it is bad, where it is.
 fn answer_alone(
     alloc: Global,
@@ -244,7 +230,7 @@ fn answer_alone(
         Line::Phase => answer_phase(out, state)?,
         Line::System(rule) => answer_system(out, state, rule)?,
         Line::Clear => answer_clear(out, state)?,
-        Line::Advance => return answer_not_yet(alloc, out, "advance"),
+        Line::Advance => answer_advance(out, state)?,
         Line::Dump => answer_dump(alloc, out, state.machine.now())?,
     }
     Ok(None)
