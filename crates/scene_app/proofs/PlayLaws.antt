@@ -22,6 +22,11 @@ pub mapped : {A E P Q : Type 0} (r : Result A E) → (P → Q) → OnOk r P → 
 mapped (Ok a) f h = f h
 mapped (Err e) f h = h
 
+-- what follows from two facts of a success
+pub both : {A E P Q R : Type 0} (r : Result A E) → (P → Q → R) → OnOk r P → OnOk r Q → OnOk r R
+both (Ok a) f p q = f p q
+both (Err e) f p q = tt
+
 -- a line that is played, and then the rest from its state
 pub printed_more : (a b c : List ℕ) (r s t : Tally) (number : ℕ) (reply : Reply) (rest : PlayState → Printed) (after : PlayState)
     → LinePlayed a b r s after number reply → Prints b c s t (rest after) → Prints a c r t (then_rest number reply rest)
