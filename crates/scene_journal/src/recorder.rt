@@ -12,7 +12,7 @@ use crate::spawned::spawn;
 use scene_deltas::{Delta, is_sound, take_all_back};
 use scene_kinds::{Entity, Fault, Refusal, Value};
 use scene_world::{Stage, World};
-use std::alloc::Global;
+use std::alloc::{AllocError, Global};
 use std::marker::Model;
 
 /// A world with the record of the frame that is being made: each accepted command notes its deltas, so that the world
@@ -192,5 +192,9 @@ impl Stage for Recorder {
             return Err(Refusal::from(Fault::NoMemory));
         }
         Ok(())
+    }
+
+    fn make_room(&mut self, cells: usize) -> Result<(), AllocError> {
+        self.deltas.reserve(cells)
     }
 }

@@ -1,5 +1,5 @@
 -- Histories that grow.
-use Rattle.std.proofs.Common.{◌≡◌, ◌≢◌, ◌<◌, ℕ, zero, suc, List, [], ◌∷◌, ◌++◌, cond, eqb, ne_eqb, sym, ap, ◌∙◌, arith}
+use Rattle.std.proofs.Common.{◌≡◌, ◌≢◌, ◌<◌, ℕ, zero, suc, List, [], ◌∷◌, ◌++◌, cond, eqb, eq-eqb, ne_eqb, sym, ap, ◌∙◌, arith}
 use Rattle.std.specs.List.{All}
 use Rattle.std.proofs.lemmas.List.Elements.{All-append, filter-append}
 use mathlib.Core.List.{append-nil, append_assoc}
@@ -16,6 +16,10 @@ module _ {E : Type 0} where
     pub entries_of-other : (session : ℕ) (h : List E) (e : E) → by e ≢ session → entries_of by session (h ++ e ∷ []) ≡ entries_of by session h
     entries_of-other session h e other = filter-append (λ x. eqb (by x) session) h (e ∷ [])
         ∙ (ap (λ b. entries_of by session h ++ cond b (e ∷ []) []) (ne_eqb (by e) session other) ∙ append-nil (entries_of by session h))
+
+    pub entries_of-own : (session : ℕ) (h : List E) (e : E) → by e ≡ session → entries_of by session (h ++ e ∷ []) ≡ entries_of by session h ++ e ∷ []
+    entries_of-own session h e own = filter-append (λ x. eqb (by x) session) h (e ∷ [])
+        ∙ ap (λ b. entries_of by session h ++ cond b (e ∷ []) []) (eq-eqb (by e) session own)
 
     pub continues-further : (session : ℕ) (seen h longer : List E) → Continues by session seen h → Continues by session h longer → Continues by session seen longer
     continues-further session seen h longer a b = (begins-further seen h longer a.0 b.0, b.1 ∙ a.1)

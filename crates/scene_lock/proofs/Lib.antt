@@ -1,5 +1,9 @@
 mod FirstPasses
 mod Growth
 mod Keeps
+mod Meetings
 mod Owners
 mod Passing
+mod Places
+mod Visits
+mod Walks

@@ -1,5 +1,5 @@
 -- Histories: lists of entries, each of which a session entered.
-use Rattle.std.specs.Prelude.{◌≡◌, ◌<◌, ◌==◌, ◌++◌, ◌∷◌, ◌⊎◌, [], ℕ, List, filter}
+use Rattle.std.specs.Prelude.{◌≡◌, ◌<◌, ◌==◌, ◌++◌, ◌∷◌, [], ℕ, List, filter}
 use Rattle.std.specs.List.{All}
 use Rattle.scene_lock.specs.declared.knowledge.Terms.{Terms}
 
@@ -19,10 +19,6 @@ module _ {E : Type 0} where
   -- the history has one entry more, of this session, of which `asked` holds
   abbrev pub HasOneMore : (E → ℕ) → ℕ → List E → (E → Type 0) → List E → Type 0
   HasOneMore by session before asked after = (e : E) × (after ≡ before ++ e ∷ []) × (by e ≡ session) × asked e
-
-  -- the history is the same, or has one entry of this session more
-  abbrev pub HasAtMostOneMore : (E → ℕ) → ℕ → List E → List E → Type 0
-  HasAtMostOneMore by session before after = (after ≡ before) ⊎ ((e : E) × (after ≡ before ++ e ∷ []) × (by e ≡ session))
 
 -- the history is legal from the opening, and each entry is of a session of this lock
 abbrev pub IsLegal : {E O : Type 0} → (O → List E → Type 0) → (E → ℕ) → Terms O → List E → Type 0

@@ -18,13 +18,13 @@ pub(crate) struct Holder<S: Kept> {
 impl<S: Kept> Model for Holder<S> {
     ghost use Rattle.std.specs.Prelude.{◌≡◌, ◌∷◌, [], true, None};
     ghost use Rattle.scene_lock.specs.Pass.{PassView};
-    ghost use Rattle.scene_lock.specs.Rule.{seen_of};
+    ghost use Rattle.scene_lock.specs.Members.{member, seen_of, made_by};
 
     ghost Value = { PassView S.Entry S.Opening };
 
-    ghost view = { λ h. record { id = h.seat.table_id; terms = h.seat.me.0.terms; session = h.number; seen = seen_of h.seat.me.0.members } };
+    ghost view = { λ h. record { id = h.seat.table_id; terms = h.seat.me.0.terms; session = h.number; seen = seen_of h.seat.me.0.members; steps = made_by h.seat.me.0.members } };
 
-    ghost invariant = { λ h. (h.seat.me.0.members ≡ (h.number, seen_of h.seat.me.0.members) ∷ []) × (h.seat.me.1 ≡ (0, None) ∷ []) × (h.seat.me.0.holding ≡ true) };
+    ghost invariant = { λ h. (h.seat.me.0.members ≡ member h.number (seen_of h.seat.me.0.members) (made_by h.seat.me.0.members) ∷ []) × (h.seat.me.1 ≡ (0, None) ∷ []) × (h.seat.me.0.holding ≡ true) };
 }
 
 impl<S: Kept> Holder<S> {

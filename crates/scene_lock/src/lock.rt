@@ -1,11 +1,14 @@
 //! The lock: made with its passes, and taken apart.
-ghost use Rattle.std.specs.Prelude.{◌≡◌, ◌<◌, ◌≤◌, [], IfOk, IfSome, All, vec_len};
+ghost use Rattle.std.specs.Prelude.{◌≡◌, ◌<◌, ◌≤◌, ◌⊎◌, [], IfOk, IfSome, All, vec_len};
 ghost use Rattle.scene_lock.specs.History.{Continues, IsLegal};
 ghost use Rattle.scene_lock.specs.Pass.{IsPassOf, first_passes};
+ghost use Rattle.scene_lock.specs.Shared.{HasEnded};
+ghost use Rattle.scene_lock.specs.Steps.{IsFree};
 
 use crate::kept::Kept;
 use crate::knowledge::{Founding, Knowledge};
 use crate::pass::Pass;
+use crate::steps::OUT;
 use atomic_table::{Refused, Seat, Table, TableRule};
 use std::alloc::{AllocError, Global};
 use std::marker::{Model, PhantomData};
@@ -15,7 +18,8 @@ use std::sync::Arc;
 pub(crate) struct Law<S>(PhantomData<S>);
 
 impl<S: Kept> TableRule<Option<Arc<S>>, Knowledge<S::Entry, S::Opening>, Founding<S>> for Law<S> {
-    ghost use Rattle.scene_lock.specs.Rule.{IsKept, opening_seat};
+    ghost use Rattle.scene_lock.specs.Members.{opening_seat};
+    ghost use Rattle.scene_lock.specs.Rule.{IsKept};
     ghost use Rattle.scene_lock.specs.Shared.{shared_good, shared_entries};
 
     ghost holds = { λ f. IsKept (shared_good S.good S.opening) (shared_entries S.entries) S.legal S.session (record { opening = S.opening f.state.value; passes = f.passes }) };
@@ -82,6 +86,21 @@ impl<S: Kept + Drop> WordLock<S> {
         }
     }
 
+    // Takes the lock apart: the word, and what is in the slot.
+    fn take_apart(self, pass: Pass<S>) -> Ending<S>
+        requires { IsPassOf self pass }
+        ensures word { IsFree result.word ⊎ (result.word ≡ 1) }
+        ensures home { IsFree result.word → HasEnded S.good S.opening S.entries S.legal S.session self pass result.slot }
+    {
+        let WordLock { table } = self;
+        let Pass { seat, number: _ } = pass;
+        let mut closed = table.close_with(seat);
+        let word = closed.word(0);
+        let slot = closed.take(0);
+        closed.free();
+        Ending { word, slot }
+    }
+
     /// The state, once no thread is inside. The lock is gone, and what is left of its passes is of no use.
     ///
     /// `None` where the state isn't in its place or is still shared, as where a thread was cut off within a call. It takes no
@@ -92,15 +111,25 @@ impl<S: Kept + Drop> WordLock<S> {
         ensures history { IfSome result (λ s. Continues S.session pass.session pass.seen (S.entries s)
             × IsLegal S.legal S.session self.terms (S.entries s)) }
     {
-        let WordLock { table } = self;
-        let Pass { seat, number: _ } = pass;
-        let mut closed = table.close_with(seat);
-        let word = closed.word(0);
-        let slot = closed.take(0);
-        closed.free();
-        if word == 1 {
-            return None;
-        }
-        Arc::into_inner(slot?)
+        let ending = self.take_apart(pass);
+        let share = ending.into_share()?;
+        Arc::into_inner(share)
+    }
+}
+
+/// What came out of a lock that was taken apart: the word, and what was in the slot.
+#[derive(Drop)]
+struct Ending<S> {
+    word: u64,
+    slot: Option<Arc<S>>,
+}
+
+impl<S: Drop> Ending<S> {
+    // The state, with whoever else has a share of it, at each word but 1.
+    fn into_share(self) -> Option<Arc<S>>
+        ensures home { IsFree self.word → result ≡ self.slot }
+        ensures out { self.word ≡ 1 → result ≡ None }
+    {
+        if self.word == OUT { None } else { self.slot }
     }
 }

@@ -2,6 +2,7 @@
 ghost use Rattle.std.specs.Prelude.{◌≡◌, IfSome};
 ghost use Rattle.scene_lock.specs.Pass.{IsPassOf, Follows};
 ghost use Rattle.scene_lock.specs.Shared.{AtState};
+ghost use Rattle.scene_lock.specs.Steps.{TriesToRead, Reads};
 
 use crate::kept::Kept;
 use crate::lock::WordLock;
@@ -24,13 +25,14 @@ impl<S: Kept + Drop> WordLock<S> {
         ensures pass { Follows S.legal S.session self.now pass result.0 }
         ensures answer { IfSome result.1 (λ a. AtState S.good S.opening S.entries self.now.terms.opening result.0.seen
             (λ s. L.answers question.now s a)) }
+        ensures steps { TriesToRead pass.session pass.steps result.1 result.0.steps }
     {
         let (state, holder) = match self.take_to_share(pass) {
             Ok(taken) => taken,
             Err(pass) => return (pass, None),
         };
         let share = Arc::try_clone(&state);
-        let pass = self.put_back(holder, state, false);
+        let pass = self.put_as_it_was(holder, state);
         match share {
             Ok(share) => (pass, Some(question.look(alloc, &share))),
             Err(_) => (pass, None),
@@ -49,6 +51,7 @@ impl<S: Kept + Drop> WordLock<S> {
         requires { IsPassOf self.now pass }
         ensures pass { Follows S.legal S.session self.now pass result.0 }
         ensures answer { AtState S.good S.opening S.entries self.now.terms.opening result.0.seen (λ s. L.answers question.now s result.1) }
+        ensures steps { Reads pass.session pass.steps result.0.steps }
     {
         let backoff = Backoff::new();
         let mut pass = pass;

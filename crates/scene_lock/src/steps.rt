@@ -1,83 +1,149 @@
 //! The steps of a lock: what becomes of the word and the slot. No other file speaks of them, but for the making and the closing
 //! of a lock.
-ghost use Rattle.std.specs.Prelude.{◌≡◌, ◌≢◌, ◌+◌, ◌-◌, ◌≤◌, ℕ, suc, [], IfOk, IfErr, None, vec_capacity, vec_len};
+ghost use Rattle.std.specs.Prelude.{◌≡◌, ◌+◌, ◌-◌, ◌≤◌, ◌++◌, ◌∷◌, ℕ, suc, true, [], IfOk, IfErr, MatchResult, None, Some, vec_capacity, vec_len};
 ghost use Rattle.std.specs.Arc.{arc_value};
-ghost use Rattle.scene_lock.specs.History.{HasAtMostOneMore, IsLegal};
+ghost use Rattle.scene_lock.specs.declared.knowledge.Kind.TheVariants.{TakeToChange, TakeToShare, PutChanged, PutAsItWas, PutWanted};
+ghost use Rattle.scene_lock.specs.History.{IsLegal};
+ghost use Rattle.scene_lock.specs.Members.{member, seen_of, made_by, new_seat, opening_seat};
 ghost use Rattle.scene_lock.specs.Pass.{IsPassOf, Follows, first_pass, first_passes};
-ghost use Rattle.scene_lock.specs.Rule.{new_seat, opening_seat};
-ghost use Rattle.scene_lock.specs.Shared.{HasTaken, IsStateOf};
+ghost use Rattle.scene_lock.specs.Shared.{HasTaken, IsStateOf, Carries};
+ghost use Rattle.scene_lock.specs.Steps.{IsFree, Moves, step_of};
 
 use crate::holder::Holder;
 use crate::kept::Kept;
 use crate::knowledge::Knowledge;
 use crate::lock::WordLock;
 use crate::pass::Pass;
-use crate::plays::{Part, Put, Take};
+use crate::plays::{AsItWas, Changed, Part, ToChange, ToShare, Wanted};
 use atomic_table::Seat;
 use std::sync::Arc;
 
 /// The state is at home, and nobody asks for it.
-const FREE: u64 = 0;
+pub(crate) const FREE: u64 = 0;
 
 /// The state is out with a thread.
-const OUT: u64 = 1;
+pub(crate) const OUT: u64 = 1;
 
 /// The state is at home, and a `write` wants it: no new share is given out.
 const WANTED: u64 = 2;
 
 impl<S: Kept> WordLock<S> {
-    // Takes the state out where the word is `from`. Else the pass has looked at the history.
-    fn take(&self, pass: Pass<S>, from: u64) -> Result<(Arc<S>, Holder<S>), Pass<S>>
-        requires lock { IsPassOf self.now pass }
-        requires free { from ≢ 1 }
-        ensures taken { IfOk result (λ t. HasTaken S.good S.opening S.entries S.legal S.session self.now pass t.0 t.1) }
-        ensures busy { IfErr result (λ p. Follows S.legal S.session self.now pass p) }
+    /// The word at which a change may take the state out, should it still be this one then.
+    pub(crate) fn free_word(&self) -> u64
+        ensures { IsFree result }
     {
-        let Pass { mut seat, number } = pass;
-        let shared = &self.table.shared;
-        let found = shared.compare_exchange::<Take<S>>(&mut seat, 0, from, OUT);
-        if found != from {
-            return Err(Pass { seat, number });
-        }
-        let state = shared.exchange(&mut seat, 0, None).unwrap();
-        Ok((state, Holder { seat, number }))
+        let word = self.table.shared.peek(0);
+        if word == WANTED { WANTED } else { FREE }
     }
 
-    /// Takes the state out to share it, where nobody has it and nobody wants it.
+    // Takes the state out of the slot, once the word says that it is out with this seat.
+    fn lift(
+        &self,
+        seat: Seat<Option<Arc<S>>, Knowledge<S::Entry, S::Opening>>,
+        number: u32,
+    ) -> (Arc<S>, Holder<S>)
+        requires lock { seat.table_id ≡ self.now.id }
+        requires out { Carries seat.me.1 }
+        requires holds { (seat.me.0.holding ≡ true) × (seat.me.0.members ≡ member number (seen_of seat.me.0.members) (made_by seat.me.0.members) ∷ []) }
+        ensures state { seat.me.1 ≡ (0, Some result.0) ∷ [] }
+        ensures holder { result.1 ≡ record { id = self.now.id; terms = seat.me.0.terms; session = number; seen = seen_of seat.me.0.members; steps = made_by seat.me.0.members } }
+    {
+        let mut seat = seat;
+        let state = self.table.shared.exchange(&mut seat, 0, None).unwrap();
+        (state, Holder { seat, number })
+    }
+
+    /// Takes the state out to share it, at word 0. Else the pass has looked at the history.
     pub(crate) fn take_to_share(&self, pass: Pass<S>) -> Result<(Arc<S>, Holder<S>), Pass<S>>
         requires { IsPassOf self.now pass }
         ensures taken { IfOk result (λ t. HasTaken S.good S.opening S.entries S.legal S.session self.now pass t.0 t.1) }
         ensures busy { IfErr result (λ p. Follows S.legal S.session self.now pass p) }
+        ensures steps { MatchResult result (λ t. t.1.steps ≡ pass.steps ++ step_of pass.session TakeToShare 0 1 ∷ []) (λ p. p.steps ≡ pass.steps) }
     {
-        self.take(pass, FREE)
+        let Pass { mut seat, number } = pass;
+        let shared = &self.table.shared;
+        let found = shared.compare_exchange::<ToShare<S>>(&mut seat, 0, FREE, OUT);
+        if found != FREE {
+            return Err(Pass { seat, number });
+        }
+        Ok(self.lift(seat, number))
     }
 
-    /// Takes the state out to change it, where nobody has it, whoever wants it.
-    pub(crate) fn take_to_change(&self, pass: Pass<S>) -> Result<(Arc<S>, Holder<S>), Pass<S>>
-        requires { IsPassOf self.now pass }
+    /// Takes the state out to change it, at this word. Else the pass has looked at the history.
+    pub(crate) fn take_to_change(
+        &self,
+        pass: Pass<S>,
+        from: u64,
+    ) -> Result<(Arc<S>, Holder<S>), Pass<S>>
+        requires lock { IsPassOf self.now pass }
+        requires free { IsFree from }
         ensures taken { IfOk result (λ t. HasTaken S.good S.opening S.entries S.legal S.session self.now pass t.0 t.1) }
         ensures busy { IfErr result (λ p. Follows S.legal S.session self.now pass p) }
+        ensures steps { MatchResult result (λ t. t.1.steps ≡ pass.steps ++ step_of pass.session TakeToChange from 1 ∷ []) (λ p. p.steps ≡ pass.steps) }
     {
-        let word = self.table.shared.peek(0);
-        let from = if word == WANTED { WANTED } else { FREE };
-        self.take(pass, from)
+        let Pass { mut seat, number } = pass;
+        let shared = &self.table.shared;
+        let found = shared.compare_exchange::<ToChange<S>>(&mut seat, 0, from, OUT);
+        if found != from {
+            return Err(Pass { seat, number });
+        }
+        Ok(self.lift(seat, number))
     }
 
-    /// Puts the state back, as it was or with one entry of the session more. Where it is `wanted`, no new share is given out until
-    /// it was changed.
-    pub(crate) fn put_back(&self, holder: Holder<S>, state: Arc<S>, wanted: bool) -> Pass<S>
-        requires lock { IsPassOf self.now holder }
-        requires good { IsStateOf S.good S.opening self.now.terms.opening (arc_value state) }
-        requires moved { HasAtMostOneMore S.session holder.session holder.seen (S.entries (arc_value state)) }
-        ensures pass { result ≡ record holder { seen = S.entries (arc_value state) } }
-        ensures legal { IsLegal S.legal S.session self.now.terms (S.entries (arc_value state)) }
+    // Puts the state into the slot, while the word still says that it is out.
+    fn fill(
+        &self,
+        holder: Holder<S>,
+        state: Arc<S>,
+    ) -> (Seat<Option<Arc<S>>, Knowledge<S::Entry, S::Opening>>, u32)
+        requires { holder.id ≡ self.now.id }
+        ensures lock { result.0.table_id ≡ self.now.id }
+        ensures carries { result.0.me.1 ≡ (0, Some state) ∷ [] }
+        ensures holds { (result.0.me.0.holding ≡ true) × (result.0.me.0.terms ≡ holder.terms) }
+        ensures pass { (result.1 ≡ holder.session) × (result.0.me.0.members ≡ member holder.session holder.seen holder.steps ∷ []) }
     {
         let Holder { mut seat, number } = holder;
-        let shared = &self.table.shared;
-        let word = if wanted { WANTED } else { FREE };
-        let old = shared.exchange(&mut seat, 0, Some(state));
-        shared.store::<Put<S>>(&mut seat, 0, word);
+        let old = self.table.shared.exchange(&mut seat, 0, Some(state));
         let None = old else { unreachable!() };
+        (seat, number)
+    }
+
+    /// Puts the state back with one entry of the session more, and leaves it free.
+    pub(crate) fn put_changed(&self, holder: Holder<S>, state: Arc<S>) -> Pass<S>
+        requires lock { IsPassOf self.now holder }
+        requires good { IsStateOf S.good S.opening self.now.terms.opening (arc_value state) }
+        requires moved { Moves S.session PutChanged holder.session holder.seen (S.entries (arc_value state)) }
+        ensures pass { result ≡ record holder { seen = S.entries (arc_value state); steps = holder.steps ++ step_of holder.session PutChanged 1 0 ∷ [] } }
+        ensures legal { IsLegal S.legal S.session self.now.terms (S.entries (arc_value state)) }
+    {
+        let (mut seat, number) = self.fill(holder, state);
+        self.table.shared.swap::<Changed<S>>(&mut seat, 0, FREE);
+        Pass { seat, number }
+    }
+
+    /// Puts the state back as it was, and leaves it free.
+    pub(crate) fn put_as_it_was(&self, holder: Holder<S>, state: Arc<S>) -> Pass<S>
+        requires lock { IsPassOf self.now holder }
+        requires good { IsStateOf S.good S.opening self.now.terms.opening (arc_value state) }
+        requires moved { Moves S.session PutAsItWas holder.session holder.seen (S.entries (arc_value state)) }
+        ensures pass { result ≡ record holder { seen = S.entries (arc_value state); steps = holder.steps ++ step_of holder.session PutAsItWas 1 0 ∷ [] } }
+        ensures legal { IsLegal S.legal S.session self.now.terms (S.entries (arc_value state)) }
+    {
+        let (mut seat, number) = self.fill(holder, state);
+        self.table.shared.swap::<AsItWas<S>>(&mut seat, 0, FREE);
+        Pass { seat, number }
+    }
+
+    /// Puts the state back as it was, and leaves it wanted: no new share is given out until it was changed.
+    pub(crate) fn put_wanted(&self, holder: Holder<S>, state: Arc<S>) -> Pass<S>
+        requires lock { IsPassOf self.now holder }
+        requires good { IsStateOf S.good S.opening self.now.terms.opening (arc_value state) }
+        requires moved { Moves S.session PutWanted holder.session holder.seen (S.entries (arc_value state)) }
+        ensures pass { result ≡ record holder { seen = S.entries (arc_value state); steps = holder.steps ++ step_of holder.session PutWanted 1 2 ∷ [] } }
+        ensures legal { IsLegal S.legal S.session self.now.terms (S.entries (arc_value state)) }
+    {
+        let (mut seat, number) = self.fill(holder, state);
+        self.table.shared.swap::<Wanted<S>>(&mut seat, 0, WANTED);
         Pass { seat, number }
     }
 

@@ -80,7 +80,57 @@ pub fn try_beside_change<R: Threads + Wait + Sync>(
     }
 }
 
-/// Whether a thousand looks in a row found no way in.
+/// What two sessions got, of which the first stayed inside with a look.
+#[derive(Drop)]
+pub struct BesideLook {
+    /// Whether the look stayed until it was let go.
+    pub stayed: bool,
+    /// The answers to the other, which tried to write meanwhile, and then to read.
+    pub written: Result<Result<(), Write>, Write>,
+    pub count: Option<usize>,
+}
+
+/// Tries to write, and then to read, while a look of another session stays inside.
+pub fn try_beside_look<R: Threads + Wait + Sync>(
+    rt: &R,
+    alloc: Global,
+    lock: &WordLock<Notes>,
+    looker: Pass<Notes>,
+    other: Pass<Notes>,
+) -> BesideLook
+    requires { IsPassOf lock.now looker × IsPassOf lock.now other }
+{
+    let inside = Gate::new();
+    let let_go = Gate::new();
+    let (stayed, (written, count)) = join(
+        rt,
+        || -> bool
+            requires { IsPassOf lock.now looker }
+        {
+            let stay = Stay {
+                inside: &inside,
+                let_go: &let_go,
+            };
+            lock.read(rt, alloc, looker, &stay).1
+        },
+        || -> (Result<Result<(), Write>, Write>, Option<usize>)
+            requires { IsPassOf lock.now other }
+        {
+            inside.wait_for(1);
+            let (other, written) = lock.try_write(alloc, other, Write { number: 7 });
+            let (_, count) = lock.try_read(alloc, other, &Count);
+            let_go.raise();
+            (written, count)
+        },
+    );
+    BesideLook {
+        stayed,
+        written,
+        count,
+    }
+}
+
+/// Whether some look finds no way in, and from then on none of ten thousand does.
 pub fn is_shut_out(alloc: Global, lock: &WordLock<Notes>, pass: Pass<Notes>) -> bool
     requires { IsPassOf lock.now pass }
 {
@@ -89,11 +139,12 @@ pub fn is_shut_out(alloc: Global, lock: &WordLock<Notes>, pass: Pass<Notes>) -> 
     for _ in 0..TURNS {
         let (next, count) = lock.try_read(alloc, pass, &Count);
         pass = next;
-        refused = match count {
-            Some(_) => 0,
-            None => refused.saturating_add(1),
-        };
-        if refused >= 1000 {
+        if count.is_none() {
+            refused = refused.saturating_add(1);
+        } else if refused > 0 {
+            return false;
+        }
+        if refused >= 10_000 {
             return true;
         }
     }

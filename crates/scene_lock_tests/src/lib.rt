@@ -12,9 +12,9 @@ mod tests;
 mod threads;
 
 pub use beside::{
-    BesideChange, is_shut_out, look_beside_wanting_write, look_together, read_until,
-    try_beside_change, write_among_readers,
+    BesideChange, BesideLook, is_shut_out, look_beside_wanting_write, look_together, read_until,
+    try_beside_change, try_beside_look, write_among_readers,
 };
 pub use inside::{Gate, Meeting, Stay};
-pub use notes::{Count, Note, Notes, Write};
+pub use notes::{Count, Note, Notes, Write, WriteKnowingHow};
 pub use threads::{enter_all, enter_many, meet_in_chain, take_last};

@@ -3,6 +3,8 @@ ghost use Rattle.std.specs.Prelude.{◌≡◌, ◌≤◌, [], length, All, IfOk}
 
 use scene_lock::{Change, Kept, Look};
 use std::alloc::{AllocError, Global};
+use std::sync::Wait;
+use std::thread::Threads;
 
 /// A number that a session wrote.
 #[derive(Clone, Copy, PartialEq, Eq, Debug)]
@@ -95,6 +97,50 @@ impl Change<Notes> for Write {
         match state.notes.push(Note { session, number }) {
             Ok(()) => Ok(()),
             Err(_) => Err(Write { number }),
+        }
+    }
+}
+
+/// Writes a number, and answers whether it was run as a job that may start threads and wait.
+#[derive(Drop, Clone, Copy, PartialEq, Eq, Debug)]
+pub struct WriteKnowingHow {
+    pub number: u64,
+}
+
+impl Change<Notes> for WriteKnowingHow {
+    type Done = bool;
+
+    type Stopped = ();
+
+    ghost use Rattle.std.specs.Prelude.{◌≡◌};
+
+    ghost enters = { λ job session done e. e ≡ record { session = session; number = job.number } };
+
+    ghost stops = { λ job notes back. Unit {0} };
+
+    fn change(self, alloc: Global, state: &mut Notes, session: u32) -> Result<bool, ()> {
+        let write = Write {
+            number: self.number,
+        };
+        match write.change(alloc, state, session) {
+            Ok(()) => Ok(false),
+            Err(_) => Err(()),
+        }
+    }
+
+    fn change_with<R: Threads + Wait + Sync>(
+        self,
+        _rt: &R,
+        alloc: Global,
+        state: &mut Notes,
+        session: u32,
+    ) -> Result<bool, ()> {
+        let write = Write {
+            number: self.number,
+        };
+        match write.change(alloc, state, session) {
+            Ok(()) => Ok(true),
+            Err(_) => Err(()),
         }
     }
 }

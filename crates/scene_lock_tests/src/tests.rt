@@ -11,6 +11,10 @@ fn two_sessions_see_one_history(rt: HostRuntime) -> Result<(), Fail> {
     let one = take_last(&lock, &mut passes).expect(&rt, "a second pass");
     let zero = take_last(&lock, &mut passes).expect(&rt, "a first pass");
     assert_eq!(rt; (zero.session(), one.session()), (0, 1));
+
+    // A new lock is free.
+    let (zero, count) = lock.try_read(alloc, zero, &Count);
+    assert_eq!(rt; count, Some(0));
     let (zero, done) = lock.write(&rt, alloc, zero, Write { number: 5 });
     assert_eq!(rt; done, Ok(()));
     let (zero, count) = lock.read(&rt, alloc, zero, &Count);
@@ -50,6 +54,11 @@ fn eight_sessions_enter_one_history(rt: HostRuntime) -> Result<(), Fail> {
     let alloc = rt.alloc();
     let (lock, passes) = WordLock::new(alloc, Notes::new(alloc, 1_000_000), 8)?;
     let passes = enter_all(&rt, alloc, &lock, passes, 1000)?;
+    let passes = lock.meet_all(passes);
+    for (pass, wanted) in passes.iter().zip(0..8u32) {
+        assert_eq!(rt; pass.session(), wanted);
+    }
+    assert_eq!(rt; passes.len(), 8);
     let pass = meet_in_chain(&lock, passes).expect(&rt, "a pass");
     let notes = lock
         .finish(pass)
@@ -87,6 +96,31 @@ fn busy_while_a_change_is_held(rt: HostRuntime) -> Result<(), Fail> {
     assert_eq!(rt; got.changed, Ok(()));
     assert_eq!(rt; got.count, None);
     assert_eq!(rt; got.written, Err(Write { number: 7 }));
+    Ok(())
+}
+
+#[test]
+fn a_try_that_is_turned_away_shuts_nobody_out(rt: HostRuntime) -> Result<(), Fail> {
+    let alloc = rt.alloc();
+    let (lock, mut passes) = WordLock::new(alloc, Notes::new(alloc, 9), 2)?;
+    let other = take_last(&lock, &mut passes).expect(&rt, "a second pass");
+    let looker = take_last(&lock, &mut passes).expect(&rt, "a first pass");
+    let got = try_beside_look(&rt, alloc, &lock, looker, other);
+    assert!(rt; got.stayed);
+    assert_eq!(rt; got.written, Err(Write { number: 7 }));
+    assert_eq!(rt; got.count, Some(0));
+    Ok(())
+}
+
+#[test]
+fn only_a_write_may_start_threads(rt: HostRuntime) -> Result<(), Fail> {
+    let alloc = rt.alloc();
+    let (lock, mut passes) = WordLock::new(alloc, Notes::new(alloc, 9), 1)?;
+    let pass = take_last(&lock, &mut passes).expect(&rt, "a pass");
+    let (pass, done) = lock.write(&rt, alloc, pass, WriteKnowingHow { number: 1 });
+    assert_eq!(rt; done, Ok(true));
+    let (_, done) = lock.try_write(alloc, pass, WriteKnowingHow { number: 2 });
+    assert_eq!(rt; done, Ok(Ok(false)));
     Ok(())
 }
 

@@ -38,7 +38,10 @@ frame queues = framed (queues_from perform 0 queues)
 
 -- what a tool asks of the machine
 pub data Call : Type 0 where
+  -- a frame of queues
   Submit : List (List Request) → Call
+  -- a frame of another kind, by what it does to a world
+  Advance : (World → Outcome (List Entity) World) → Call
   Undo : Call
   Redo : Call
 
@@ -54,6 +57,7 @@ spawning_none (Err r) = Err r
 -- what a call does to the machine
 abbrev pub call : Machine World → Call → Outcome (List Entity) (Machine World)
 call m (Submit queues) = submitted m (frame queues m.now)
+call m (Advance does) = submitted m (framed does m.now)
 call m Undo = spawning_none (undo m)
 call m Redo = spawning_none (redo m)
 

@@ -1,4 +1,9 @@
+pub mod ByKind
+pub mod ChangedRows
 pub mod KeptTables
 pub mod Listed
 pub mod Members
+pub mod ReadRows
 pub mod RowSteps
+pub mod VectorSums
+pub mod WrittenValues

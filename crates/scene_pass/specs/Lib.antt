@@ -1,5 +1,6 @@
 pub mod Changes
 pub mod Examples
+pub mod InPlace
 pub mod Listed
 pub mod Pass
 pub mod Since

@@ -1,22 +1,22 @@
 -- Systems on a stage are those systems on its world, whatever the stage notes.
-use Rattle.std.proofs.Common.{◌≡◌, ℕ, ◌+◌, List, [], ◌∷◌, ◌++◌, refl, ap, ◌∙◌, map, Option, Some, None, Ok}
+use Rattle.std.proofs.Common.{◌≡◌, ℕ, ◌+◌, List, [], ◌∷◌, refl, ap, ◌∙◌, map, Option, Some, None, Ok}
 use Rattle.std.specs.Prelude.{Err}
 use Rattle.scene_kinds.specs.declared.entity.Entity.{Entity}
 use Rattle.scene_kinds.specs.Answers.{Outcome}
 use Rattle.scene_model.specs.World.{World}
 use Rattle.scene_model.specs.Commands.{and_then}
 use Rattle.scene_model.specs.Perform.{perform}
-use Rattle.scene_machine.specs.Frame.{queue, queues_from}
+use Rattle.scene_machine.specs.Frame.{queue}
 use Rattle.scene_world.specs.Stage.{Staged, Note, act}
 use Rattle.scene_queue.specs.Frames.{on_world}
 use Rattle.scene_queue.specs.Requests.{requests}
 use Rattle.scene_queue.proofs.Worlds.{queue_world, queues_world}
 use Rattle.scene_rules.specs.declared.system_rule.SystemRule.{SystemRule}
 use Rattle.scene_pass.specs.Changes.{first_fault}
-use Rattle.scene_schedule.specs.Systems.{SystemOutput, changes_of, writes_of, queued_by, unless_over, system, systems_from, phase, in_phase, phases_from}
+use Rattle.scene_schedule.specs.Systems.{changes_of, writes_of, unless_over, system, systems_from, phase, in_phase, phases_from}
 
 -- what follows on a stage follows on its world
-then_world : {A B N : Type 0} (o : Outcome A (Staged N)) (v : Outcome A World) (f : A → Staged N → Outcome B (Staged N)) (g : A → World → Outcome B World)
+pub then_world : {A B N : Type 0} (o : Outcome A (Staged N)) (v : Outcome A World) (f : A → Staged N → Outcome B (Staged N)) (g : A → World → Outcome B World)
     → on_world o ≡ v → ((a : A) (t : Staged N) → on_world (f a t) ≡ g a t.world) → on_world (and_then o f) ≡ and_then v g
 then_world (Ok p) v f g h later = later p.0 p.1 ∙ ap (λ w. and_then w g) h
 then_world (Err r) v f g h later = ap (λ w. and_then w g) h

@@ -15,7 +15,7 @@ use Rattle.scene_rules.specs.declared.system_rule.SystemRule.{SystemRule}
 use Rattle.scene_schedule.specs.Schedule.{is_row, writes_first, is_good_rule, bad_in_phase, bad_from, clash, clash_among}
 
 -- what is left of a list at a place that a walk has come to
-at_place : {A : Type 0} (xs : List A) (i : ℕ) (x : A) → i < length xs → x ≡ get_or xs i x → drop i xs ≡ x ∷ drop (i + 1) xs
+pub at_place : {A : Type 0} (xs : List A) (i : ℕ) (x : A) → i < length xs → x ≡ get_or xs i x → drop i xs ≡ x ∷ drop (i + 1) xs
 at_place xs i x h e = drop_more xs i x h ∙ ap (λ y. y ∷ drop (i + 1) xs) (sym e)
 
 -- ---- steps

@@ -143,5 +143,5 @@ IsSchedule s = schedule_fault s.schema s.phases ≡ None
 -- two schemas have the same kinds under the same numbers
 abbrev pub same_kinds : Kinds → Kinds → Bool
 same_kinds [] [] = true
-same_kinds (a ∷ as) (b ∷ bs) = bytes_eq a.0 b.0 && (same_shape a.1 b.1 && same_kinds as bs)
-same_kinds as bs = false
+same_kinds (k ∷ ks) (l ∷ ls) = bytes_eq k.0 l.0 && (same_shape k.1 l.1 && same_kinds ks ls)
+same_kinds ks ls = false

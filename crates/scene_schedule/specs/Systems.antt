@@ -61,14 +61,15 @@ writes_of changes = flat_map writes_of_row changes
 
 -- ---- what a system queues
 
+-- whether a value is the number 0
+abbrev pub is_zero_value : Value → Bool
+is_zero_value (Int (pos n)) = nat_eq n 0
+is_zero_value v = false
+
 -- whether a row's number of a kind is 0
 abbrev pub is_zero : Option Cell → Bool
 is_zero None = false
 is_zero (Some cell) = is_zero_value cell.value
-  where
-    is_zero_value : Value → Bool
-    is_zero_value (Int (pos n)) = nat_eq n 0
-    is_zero_value v = false
 
 -- the rows whose number is 0, and all below them, are despawned
 abbrev pub despawns : ℕ → List TableRow → List Command

@@ -39,7 +39,7 @@ use std::marker::Model;
 /// `machine_of` makes of them the machine of saved worlds. Nothing but the world now is kept as a world.
 #[derive(Drop, Debug)]
 pub struct Editor {
-    alloc: Global,
+    pub(crate) alloc: Global,
     world: World,
     /// The records of the frames so far, the newest last.
     past: Vec<FrameRecord>,

@@ -6,6 +6,7 @@
 //! records (docs/JOURNAL.md, "The editor").
 #![tactic(auto)]
 
+mod advance;
 mod cursor;
 mod direction;
 mod editor;

@@ -7,6 +7,7 @@ ghost use Rattle.scene_world.specs.Stage.{Opening, Staged, Note as NoteOf, Answe
 
 use crate::world::World;
 use scene_kinds::{Entity, Refusal, Value};
+use std::alloc::AllocError;
 use std::convert::Infallible;
 
 /// A world that the nine commands change, with notes of what they did (docs/MODEL.md, "The commands").
@@ -88,6 +89,13 @@ pub trait Stage {
         ensures answer { AnswersNoted result (seen self.old) (seen self.new) note (RemoveResource name.now) (λ w. remove_resource w name.now) }
         ensures opening { opening self.new ≡ opening self.old }
         ensures wide { IsWider (room self.old) (room self.new) };
+
+    /// Makes room for the notes of so many inserts of kinds that are there, which then take no memory for their notes
+    /// (docs/JOURNAL.md, "The recorder"). World and notes are as they were, also where no memory was found.
+    fn make_room(&mut self, cells: usize) -> Result<(), AllocError>
+        ensures seen { seen self.new ≡ seen self.old }
+        ensures opening { opening self.new ≡ opening self.old }
+        ensures wide { IsWider (room self.old) (room self.new) };
 }
 
 /// A world is a stage that notes nothing.
@@ -140,5 +148,9 @@ impl Stage for World {
 
     fn remove_resource(&mut self, name: &str) -> Result<(), Refusal> {
         World::remove_resource(self, name)
+    }
+
+    fn make_room(&mut self, _cells: usize) -> Result<(), AllocError> {
+        Ok(())
     }
 }

@@ -1,6 +1,6 @@
 use Rattle.std.proofs.Common.{rules, arith, ◌≡◌, ◌++◌, ◌∷◌, ◌+◌, ◌-◌, suc, [], ap, ◌∙◌}
 use Rattle.scene_lock.specs.Pass.{first_passes}
-use Rattle.scene_lock.specs.Rule.{new_seat}
+use Rattle.scene_lock.specs.Members.{new_seat}
 use Rattle.scene_lock.proofs.lock.WordLock.deal.Goals as goal
 
 pub part-pass-requires-clause-some : goal.part-pass-requires-clause-some

@@ -1,7 +1,7 @@
 use Rattle.std.proofs.Common.{◌≡◌, ◌-◌, ◌≤◌, []}
 use Rattle.std.specs.Prelude.{vec_len, vec_capacity}
 use Rattle.scene_lock.specs.Pass.{first_passes}
-use Rattle.scene_lock.specs.Rule.{new_seat}
+use Rattle.scene_lock.specs.Members.{new_seat}
 use Rattle.scene_lock.proofs.lock.WordLock.deal.Given as goal
 
 abbrev pub invariant-loop-number : goal.invariant-loop-number

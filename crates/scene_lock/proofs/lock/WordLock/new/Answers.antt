@@ -2,7 +2,8 @@ use Rattle.std.proofs.Common.{◌≡◌, ◌∷◌, [], ◌++◌, Some, ap, sym,
 use Rattle.std.specs.Arc.{arc_value}
 use Rattle.atomic_table.specs.Table.{opening}
 use Rattle.scene_lock.specs.declared.knowledge.Terms.{Terms}
-use Rattle.scene_lock.specs.Rule.{IsKept, opening_seat}
+use Rattle.scene_lock.specs.Members.{opening_seat}
+use Rattle.scene_lock.specs.Rule.{IsKept}
 use Rattle.scene_lock.specs.Shared.{shared_good, shared_entries, IsStateOf}
 use Rattle.std.specs.List.{All}
 use Rattle.scene_lock.specs.Pass.{LockView, IsPassOf}

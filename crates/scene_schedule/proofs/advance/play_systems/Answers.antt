@@ -1,0 +1,39 @@
+use Rattle.std.proofs.Common.{◌≡◌, ◌≢◌, ◌≤◌, length, sym, subst, ap, ◌∙◌, Ok}
+use Rattle.std.specs.Prelude.{Err}
+use Rattle.scene_kinds.specs.Answers.{refusal_of}
+use Rattle.scene_kinds.specs.declared.fault.Fault.TheVariants.{NoMemory}
+use Rattle.scene_model.specs.Perform.{perform}
+use Rattle.scene_machine.specs.Frame.{queues_from}
+use Rattle.scene_queue.specs.Frames.{frame_of}
+use Rattle.scene_world.specs.Stage.{act}
+use Rattle.scene_schedule.specs.Output.{IsOutputOf, AreWritten}
+use Rattle.scene_schedule.proofs.Phases.{few_queues, phase_played, phase_refused, ok_then, err_then}
+use Rattle.scene_schedule.proofs.advance.play_systems.Goals as goal
+
+pub apply_all-requires : goal.apply_all-requires
+apply_all-requires g c =
+    subst (λ queues. length queues ≤ 4294967295) (sym c.as_slice-2.ensures.value)
+    (few_queues c.in_ok-output.output c.world.result.now.world c.args.rules.now c.in_ok-output.ensures.output c.requires.sound.few)
+
+pub returns-clause-played : goal.returns-clause-played
+returns-clause-played g c =
+    let note = g.S.Stage.note in
+    let start = g.S.Stage.seen c.args.stage.now in
+    let mid = g.S.Stage.seen c.write_all.new.stage in
+    let made = subst (λ w. IsOutputOf c.in_ok-output.output w c.args.rules.now) c.world.ensures c.in_ok-output.ensures.output in
+    let wrote = subst (λ rows. AreWritten note rows start mid) c.as_slice.ensures.value c.in_ok-write_all.ensures.written in
+    let after = g.S.Stage.seen c.apply_all.new.stage in
+    ok_then c.apply_all.result (λ es. queues_from (act note) 0 (frame_of c.as_slice-2.result.now) mid ≡ Ok (es.items, after)) _ c.apply_all.ensures.whole
+    (λ es h. phase_played note c.args.rules.now start mid c.in_ok-output.output made wrote after es.items
+    (ap (λ queues. queues_from (act note) 0 (frame_of queues) mid) (sym c.as_slice-2.ensures.value) ∙ h))
+
+pub returns-clause-refused : goal.returns-clause-refused
+returns-clause-refused g c =
+    let note = g.S.Stage.note in
+    let start = g.S.Stage.seen c.args.stage.now in
+    let mid = g.S.Stage.seen c.write_all.new.stage in
+    let made = subst (λ w. IsOutputOf c.in_ok-output.output w c.args.rules.now) c.world.ensures c.in_ok-output.ensures.output in
+    let wrote = subst (λ rows. AreWritten note rows start mid) c.as_slice.ensures.value c.in_ok-write_all.ensures.written in
+    err_then c.apply_all.result (λ r. r ≢ refusal_of NoMemory → queues_from perform 0 (frame_of c.as_slice-2.result.now) mid.world ≡ Err r) _ c.apply_all.ensures.world_refused
+    (λ r h named. phase_refused note c.args.rules.now start mid c.in_ok-output.output made wrote r
+    (ap (λ queues. queues_from perform 0 (frame_of queues) mid.world) (sym c.as_slice-2.ensures.value) ∙ h named))

@@ -1,0 +1,9 @@
+use Rattle.std.proofs.Common.{◌≡◌, get_or, sym, subst}
+use Rattle.scene_schedule.proofs.Phases.{sound_at}
+use Rattle.scene_schedule.proofs.schedule_phase.run_phase_alone.Goals as goal
+
+pub run_systems_alone-requires : goal.run_systems_alone-requires
+run_systems_alone-requires c =
+    let item = subst (λ phases. c.index-phases-phase.result ≡ get_or phases c.args.phase c.index-phases-phase.result) c.phases-phases.ensures.list c.index-phases-phase.is in
+    let here = subst (λ rules. rules ≡ get_or c.args.schedule.now.phases c.args.phase rules) (sym c.systems.ensures) item in
+    sound_at c.args.schedule.now c.phases-phases.ensures.sound c.args.phase c.systems.result.now c.args.world.now.world.schema c.requires.phase here c.requires.kinds

@@ -1,0 +1,13 @@
+use Rattle.std.proofs.Common.{◌≡◌, [], take}
+use Rattle.scene_machine.specs.Queue.{reached, whole, play}
+use Rattle.scene_world.specs.Room.{IsWider}
+use Rattle.scene_world.specs.Stage.{act}
+use Rattle.scene_schedule.specs.Systems.{writes_of}
+use Rattle.scene_schedule.proofs.write.write_rows.Given as goal
+
+-- the rows so far were written
+abbrev pub invariant-loop-row : goal.invariant-loop-row
+invariant-loop-row g l =
+    let s = g.S.Stage in
+    (play (act s.note) (writes_of (take l.row-index l.rows)) (s.seen l.fn.stage) ≡ whole (reached (s.seen l.stage) []))
+    × ((s.opening l.stage ≡ s.opening l.fn.stage) × IsWider (s.room l.fn.stage) (s.room l.stage))
