@@ -9,6 +9,7 @@ use crate::play_state::PlayState;
 use scene_rules::SystemRule;
 use scene_schedule::Schedule;
 use std::alloc::AllocError;
+use std::thread::Threads;
 
 /// `phase`.
 pub(crate) fn answer_phase(out: &mut String, state: &mut PlayState) -> Result<(), AllocError>
@@ -39,25 +40,32 @@ pub(crate) fn answer_clear(out: &mut String, state: &mut PlayState) -> Result<()
 }
 
 /// An advance by a schedule.
-fn answer_scheduled(
+fn answer_scheduled<T: Threads + Sync>(
+    rt: &T,
+    workers: usize,
     out: &mut String,
     state: &mut PlayState,
     schedule: &Schedule,
 ) -> Result<(), AllocError>
     ensures { OnOk result (Replies (string_bytes out.old) (string_bytes out.new) state.new None (advanced_reply state.old schedule.now)) }
 {
-    match state.machine.editor.advance_alone(schedule) {
+    match state.machine.editor.advance(rt, schedule, workers) {
         Ok(made) => write_made(out, made.entities.as_slice()),
         Err(refusal) => answer_refused(out, refusal),
     }
 }
 
 /// `advance`.
-pub(crate) fn answer_advance(out: &mut String, state: &mut PlayState) -> Result<(), AllocError>
+pub(crate) fn answer_advance<T: Threads + Sync>(
+    rt: &T,
+    workers: usize,
+    out: &mut String,
+    state: &mut PlayState,
+) -> Result<(), AllocError>
     ensures { OnOk result (Replies (string_bytes out.old) (string_bytes out.new) state.new None (advance_reply state.old)) }
 {
     match state.phases.schedule(state.machine.now().schema()) {
-        Ok(schedule) => answer_scheduled(out, state, &schedule),
+        Ok(schedule) => answer_scheduled(rt, workers, out, state, &schedule),
         Err(refusal) => answer_refused(out, refusal),
     }
 }

@@ -9,7 +9,7 @@ use Rattle.scene_app.proofs.PlayLaws.{both}
 use Rattle.scene_app.proofs.systems_answer.answer_advance.Goals as goal
 
 pub returns-in-Ok : goal.returns-in-Ok
-returns-in-Ok c =
+returns-in-Ok g c =
     let s = c.args.state.now in
     let kinds : c.schema.result.now ≡ s.machine.now.schema = c.schema.ensures ∙ ap (λ (w : World). w.schema) c.now.ensures in
     let made : c.in-Ok.schedule ≡ schedule_of s =
@@ -22,17 +22,17 @@ returns-in-Ok c =
     is c.answer_scheduled.ensures
 
 pub returns-in-Err : goal.returns-in-Err
-returns-in-Err c =
+returns-in-Err g c =
     let s = c.args.state.now in
     let r = c.in-Err.refusal in
     let kinds : c.schema.result.now ≡ s.machine.now.schema = c.schema.ensures ∙ ap (λ (w : World). w.schema) c.now.ensures in
     let expected : Option Fault = schedule_fault s.machine.now.schema s.phases in
     both c.answer_refused.result
     (λ text wanted.
-        let told = c.in-Err.ensures.refused wanted in
-        let fault : Some r.fault ≡ expected = sym told.0 ∙ ap (λ (k : Kinds). schedule_fault k s.phases) kinds in
-        let same : refused_text r ≡ (advance_by s expected).text = ap refused_text told.1 ∙ ap (λ (o : Option Fault). (advance_by s o).text) fault in (
-          text ∙ ap (λ t. string_bytes c.args.out.now ++ t) same,
-          ap (λ (o : Option Fault). (advance_by s o).state) fault,
-          ap (λ (o : Option Fault). (advance_by s o).bad) fault,
-        )) c.answer_refused.ensures.text c.answer_refused.ensures.memory
+    let told = c.in-Err.ensures.refused wanted in
+    let fault : Some r.fault ≡ expected = sym told.0 ∙ ap (λ (k : Kinds). schedule_fault k s.phases) kinds in
+    let same : refused_text r ≡ (advance_by s expected).text = ap refused_text told.1 ∙ ap (λ (o : Option Fault). (advance_by s o).text) fault in (
+      text ∙ ap (λ t. string_bytes c.args.out.now ++ t) same,
+      ap (λ (o : Option Fault). (advance_by s o).state) fault,
+      ap (λ (o : Option Fault). (advance_by s o).bad) fault,
+    )) c.answer_refused.ensures.text c.answer_refused.ensures.memory
