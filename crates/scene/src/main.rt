@@ -33,11 +33,11 @@ fn tell_bad_lines(rt: &HostRuntime, end: &RunEnd) -> io::Result<()> {
     }
 }
 
-/// Plays the script on standard input.
-fn run(rt: &HostRuntime) -> Ending {
+/// Plays the script on standard input, with so many workers for an advance.
+fn run(rt: &HostRuntime, workers: u8) -> Ending {
     let mut source = Source::new(rt.stdin());
     let mut sink = Sink::new(rt.stdout());
-    match run_script(rt.alloc(), &mut source, &mut sink) {
+    match run_script(rt, rt.alloc(), workers as usize, &mut source, &mut sink) {
         Ok(end) => {
             // A standard error that can't be written changes no status.
             let _told = tell_bad_lines(rt, &end);
@@ -85,8 +85,7 @@ fn end(rt: &HostRuntime) -> Ending {
         Err(_) => return Ending::BadCommandLine,
     };
     match read_words(rt.alloc(), words.as_slice()) {
-        // A script runs on one thread so far.
-        Ok(Asked::Run(_)) => run(rt),
+        Ok(Asked::Run(workers)) => run(rt, workers),
         Ok(Asked::Check) => check(rt),
         Ok(Asked::Print) => print(rt),
         Ok(Asked::Help(text)) => help(rt, text.as_str()),

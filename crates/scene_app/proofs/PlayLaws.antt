@@ -3,13 +3,15 @@ use Rattle.std.proofs.Common.{◌≡◌, ℕ, ◌+◌, ◌≤◌, List, [], ◌�
 use Rattle.std.proofs.lemmas.List.{append_assoc, length-append}
 use Rattle.scene_app.specs.declared.play_state.PlayState.{PlayState}
 use Rattle.scene_script.specs.declared.script_line.Line.{Line}
-use Rattle.scene_script.specs.declared.script_line.Line.TheVariants.{Do, Begin, Queue, Commit}
+use Rattle.scene_script.specs.declared.script_line.Line.TheVariants.{Do, Begin, Queue, Commit, Advance}
 use Rattle.scene_kinds.specs.Answers.{Outcome}
 use Rattle.scene_commands.specs.declared.command.Command.{Command}
 use Rattle.scene_queue.specs.Queue.{QueueState, push_of}
 use Rattle.scene_script.specs.declared.bad_line.BadLine.{BadLine}
 use Rattle.scene_app.specs.OpenFrame.{Opened, and_last, with_command, queue_count}
-use Rattle.scene_app.specs.Play.{with_frame, lone_reply, line_reply, queued_reply, frame_reply, reply_within, Reply, Printed, said_reply, reports_at, then_rest, run_from}
+use Rattle.scene_kinds.specs.declared.fault.Fault.{Fault}
+use Rattle.scene_schedule.specs.Schedule.{schedule_fault}
+use Rattle.scene_app.specs.Play.{with_frame, advance_by, lone_reply, line_reply, queued_reply, frame_reply, reply_within, Reply, Printed, said_reply, reports_at, then_rest, run_from}
 use Rattle.scene_app.specs.Reports.{Tally}
 use Rattle.scene_app.specs.Steps.{LinePlayed, Prints, noted}
 use Rattle.scene_app.proofs.ReportLaws.{noted-append}
@@ -19,6 +21,11 @@ use Rattle.scene_script.specs.Script.{line_in}
 pub mapped : {A E P Q : Type 0} (r : Result A E) → (P → Q) → OnOk r P → OnOk r Q
 mapped (Ok a) f h = f h
 mapped (Err e) f h = h
+
+-- what follows from two facts of a success
+pub both : {A E P Q R : Type 0} (r : Result A E) → (P → Q → R) → OnOk r P → OnOk r Q → OnOk r R
+both (Ok a) f p q = f p q
+both (Err e) f p q = tt
 
 -- a line that is played, and then the rest from its state
 pub printed_more : (a b c : List ℕ) (r s t : Tally) (number : ℕ) (reply : Reply) (rest : PlayState → Printed) (after : PlayState)
@@ -52,8 +59,13 @@ count_queued : (s : PlayState) (f : Opened) (command : Command) (o : Outcome (Un
 count_queued s f command (Ok p) = omega arith
 count_queued s f command (Err r) = omega arith
 
+count_advance : (s : PlayState) (o : Option Fault) → s.frame ≡ None → queue_count (advance_by s o).state.frame ≤ queue_count None + 1
+count_advance s None none = let e : queue_count s.frame ≡ 0 = ap queue_count none in omega (arith, e)
+count_advance s (Some fault) none = let e : queue_count s.frame ≡ 0 = ap queue_count none in omega (arith, e)
+
 count_within : (s : PlayState) (line : Line) (f : Option Opened) → s.frame ≡ f → queue_count (reply_within s line f).state.frame ≤ queue_count f + 1
 count_within s Begin None none = omega arith
+count_within s Advance None none = count_advance s (schedule_fault s.machine.now.schema s.phases) none
 count_within s line None none = let e : queue_count s.frame ≡ 0 = ap queue_count none in omega (arith, e)
 count_within s (Do command) (Some f) some = count_queued s f command (push_of f.last command tt)
 count_within s Queue (Some f) some = omega (arith, length-append f.complete (f.last ∷ []))

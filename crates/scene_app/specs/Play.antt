@@ -3,6 +3,7 @@
 use Rattle.std.specs.Prelude.{ℕ, ◌+◌, List, [], ◌∷◌, ◌++◌, Option, Some, None, Result, Ok, Err, option_map, codes, decimal}
 use Rattle.std.specs.Str.Lines.{lines}
 use Rattle.scene_kinds.specs.declared.entity.Entity.{Entity}
+use Rattle.scene_kinds.specs.declared.fault.Fault.{Fault}
 use Rattle.scene_kinds.specs.declared.fault.Fault.TheVariants.{NoSuchEntity}
 use Rattle.scene_kinds.specs.declared.refusal.Refusal.{Refusal}
 use Rattle.scene_kinds.specs.declared.shape.Shape.{Shape}
@@ -10,12 +11,9 @@ use Rattle.scene_kinds.specs.Answers.{Outcome, refusal_of}
 use Rattle.scene_kinds.specs.Schema.{Kinds, with_kind}
 use Rattle.scene_model.specs.World.{World, new_world, row_of}
 use Rattle.scene_model.specs.Perform.{perform}
-use Rattle.scene_schedule.specs.Schedule.{schedule_fault}
-use Rattle.scene_schedule.specs.Systems.{advance_of}
-use Rattle.scene_kinds.specs.declared.fault.Fault.{Fault}
 use Rattle.scene_machine.specs.Machine.{Machine, opening}
 use Rattle.scene_machine.specs.Queue.{Request}
-use Rattle.scene_machine.specs.Frame.{Submit, Advance as Advancing, Undo as UndoCall, Redo as RedoCall, Reply as Answer, step}
+use Rattle.scene_machine.specs.Frame.{Submit, Advance as AdvanceCall, Undo as UndoCall, Redo as RedoCall, Reply as Answer, step}
 use Rattle.scene_queue.specs.Frames.{frame_of}
 use Rattle.scene_app.specs.Phases.{with_phase, with_system}
 use Rattle.scene_app.specs.OpenFrame.{Opened, new_frame, with_command, with_queue, queues_of, alone}
@@ -24,6 +22,8 @@ use Rattle.scene_pass.specs.Pass.{changed_since, added_since}
 use Rattle.scene_pass.specs.declared.cell_name.CellName.{CellName}
 use Rattle.scene_rules.specs.declared.filter.Filter.{Filter}
 use Rattle.scene_rules.specs.declared.system_rule.SystemRule.{SystemRule}
+use Rattle.scene_schedule.specs.Schedule.{ScheduleState, schedule_fault}
+use Rattle.scene_schedule.specs.Systems.{advance_of}
 use Rattle.scene_undo.specs.declared.cursor.Cursor.{Cursor}
 use Rattle.scene_undo.specs.Cursor.{cursor_of, since}
 use Rattle.scene_app.specs.declared.play_state.PlayState.{PlayState}
@@ -143,11 +143,22 @@ query_reply s text = record { text = text; bad = None; state = s }
 abbrev pub submit_reply : PlayState → List (List Request) → Reply
 submit_reply s queues = call_reply s made_text (step s.machine (Submit queues))
 
--- the reply to an advance, by the first fault of its phases: they make no schedule, or the machine takes a step by it
-abbrev pub advance_reply : PlayState → Option Fault → Reply
-advance_reply s (Some fault) = query_reply s (refused_text (refusal_of fault))
-advance_reply s None = call_reply s made_text
-    (step s.machine (Advancing (advance_of perform (λ w. w) (record { schema = s.machine.now.schema; phases = s.phases }))))
+-- the schedule that a script's phases make for its world's kinds
+abbrev pub schedule_of : PlayState → ScheduleState
+schedule_of s = record { schema = s.machine.now.schema; phases = s.phases }
+
+-- the reply to an advance by a schedule
+abbrev pub advanced_reply : PlayState → ScheduleState → Reply
+advanced_reply s schedule = call_reply s made_text (step s.machine (AdvanceCall (advance_of perform (λ w. w) schedule)))
+
+-- the reply to `advance` by the fault of its schedule, if there is one; then no call is made
+abbrev pub advance_by : PlayState → Option Fault → Reply
+advance_by s None = advanced_reply s (schedule_of s)
+advance_by s (Some fault) = query_reply s (refused_text (refusal_of fault))
+
+-- the reply to `advance`; the phases stay
+abbrev pub advance_reply : PlayState → Reply
+advance_reply s = advance_by s (schedule_fault s.machine.now.schema s.phases)
 
 -- the reply where no frame is open; a command is a frame by itself
 abbrev pub lone_reply : PlayState → Line → Reply
@@ -169,7 +180,7 @@ lone_reply s Added = query_reply s (added_text s)
 lone_reply s Phase = query_reply (with_phases s (with_phase s.phases)) (codes "ok\n")
 lone_reply s (System rule) = query_reply (with_phases s (with_system s.phases rule)) (codes "ok\n")
 lone_reply s Clear = query_reply (with_phases s []) (codes "ok\n")
-lone_reply s Advance = advance_reply s (schedule_fault s.machine.now.schema s.phases)
+lone_reply s Advance = advance_reply s
 lone_reply s Dump = query_reply s (dump_text s.machine.now)
 
 -- the reply to a command in a frame: it is queued, or else refused and the frame is as it was

@@ -25,6 +25,7 @@ use scene_script::{BadLine, Line, write_refusal};
 use scene_show::{write_entities, write_listed, write_row, write_show};
 use scene_world::World;
 use std::alloc::{AllocError, Global};
+use std::thread::Threads;
 
 /// Adds a refusal.
 fn write_refused(out: &mut String, refusal: Refusal) -> Result<(), AllocError>
@@ -204,8 +205,10 @@ pub(crate) fn answer_bad(out: &mut String, reason: BadLine) -> Result<Option<Bad
 }
 
 /// Answers a line after the setup where no frame is open, and gives why it is bad, where it is.
-fn answer_alone(
+fn answer_alone<T: Threads + Sync>(
+    rt: &T,
     alloc: Global,
+    workers: usize,
     out: &mut String,
     state: &mut PlayState,
     line: Line,
@@ -230,15 +233,17 @@ fn answer_alone(
         Line::Phase => answer_phase(out, state)?,
         Line::System(rule) => answer_system(out, state, rule)?,
         Line::Clear => answer_clear(out, state)?,
-        Line::Advance => answer_advance(alloc, out, state)?,
+        Line::Advance => answer_advance(rt, workers, out, state)?,
         Line::Dump => answer_dump(alloc, out, state.machine.now())?,
     }
     Ok(None)
 }
 
 /// Answers a line after the setup, and gives why it is bad, where it is.
-fn answer_line(
+fn answer_line<T: Threads + Sync>(
+    rt: &T,
     alloc: Global,
+    workers: usize,
     out: &mut String,
     state: &mut PlayState,
     line: Line,
@@ -247,14 +252,16 @@ fn answer_line(
     ensures { IfOk result (λ bad. Replies (string_bytes out.old) (string_bytes out.new) state.new bad (line_reply state.old line)) }
 {
     match state.frame.take() {
-        None => answer_alone(alloc, out, state, line),
+        None => answer_alone(rt, alloc, workers, out, state, line),
         Some(frame) => answer_in_frame(alloc, out, state, frame, line),
     }
 }
 
 /// Answers what a line after the setup says, and gives why it is bad, where it is.
-pub(crate) fn answer(
+pub(crate) fn answer<T: Threads + Sync>(
+    rt: &T,
     alloc: Global,
+    workers: usize,
     out: &mut String,
     state: &mut PlayState,
     said: Result<Line, BadLine>,
@@ -263,7 +270,7 @@ pub(crate) fn answer(
     ensures { IfOk result (λ bad. Replies (string_bytes out.old) (string_bytes out.new) state.new bad (said_reply state.old said)) }
 {
     match said {
-        Ok(line) => answer_line(alloc, out, state, line),
+        Ok(line) => answer_line(rt, alloc, workers, out, state, line),
         Err(reason) => answer_bad(out, reason),
     }
 }

@@ -1,9 +1,14 @@
 //! The phases of systems that a script has made.
-ghost use Rattle.std.specs.Prelude.{◌≡◌, ◌++◌, ◌∷◌, [], IfOk, OnOk};
+ghost use Rattle.std.specs.Prelude.{◌≡◌, ◌≢◌, ◌++◌, ◌∷◌, [], None, Some, IfOk, IfErr, OnOk};
+ghost use Rattle.scene_kinds.specs.Answers.{refusal_of};
+ghost use Rattle.scene_kinds.specs.declared.fault.Fault.TheVariants.{NoMemory};
+ghost use Rattle.scene_schedule.specs.Schedule.{schedule_fault};
 ghost use Rattle.scene_rules.specs.declared.system_rule.SystemRule.{SystemRule};
 ghost use Rattle.scene_app.specs.Phases.{with_phase, with_system};
 
+use scene_kinds::{Refusal, Schema};
 use scene_rules::{Phase, SystemRule as Rule};
+use scene_schedule::Schedule;
 use std::alloc::{AllocError, Global};
 use std::marker::Model;
 
@@ -21,6 +26,17 @@ impl Model for Phases {
     ghost Value = { List (List Data) };
 
     ghost view = { λ p. p.list.items };
+}
+
+/// Equal phases in the same order, or an error where no memory was found.
+fn clone_phases(alloc: Global, phases: &[Phase]) -> Result<Vec<Phase>, AllocError>
+    ensures { IfOk result (λ copies. copies.items ≡ phases.now) }
+{
+    let mut copies = Vec::new(alloc);
+    for phase in phases {
+        copies.push(phase.try_clone()?)?;
+    }
+    Ok(copies)
 }
 
 impl Phases {
@@ -63,21 +79,23 @@ impl Phases {
         Ok(())
     }
 
-    /// Equal phases in the same order, or an error where no memory was found.
-    pub(crate) fn copies(&self) -> Result<Vec<Phase>, AllocError>
-        ensures { IfOk result (λ copies. copies.items ≡ self.now) }
-    {
-        let mut copies = Vec::new(self.alloc);
-        for phase in &self.list {
-            copies.push(phase.try_clone()?)?;
-        }
-        Ok(copies)
-    }
-
     /// Drops all phases.
     pub(crate) fn clear(&mut self)
         ensures { self.new ≡ [] }
     {
         self.list = Vec::new(self.alloc);
+    }
+
+    /// The schedule that the phases make for worlds with this schema. The phases stay.
+    ///
+    /// Refused: `BadRule`, `Conflict` and `NoMemory`, as a schedule is.
+    pub(crate) fn schedule(&self, schema: &Schema) -> Result<Schedule, Refusal>
+        ensures answer { IfOk result (λ s. s ≡ record { schema = schema.now; phases = self.now }) }
+        ensures sound { OnOk result (schedule_fault schema.now self.now ≡ None) }
+        ensures refused { IfErr result (λ r. r ≢ refusal_of NoMemory
+            → (schedule_fault schema.now self.now ≡ Some r.fault) × (r ≡ refusal_of r.fault)) }
+    {
+        let phases = clone_phases(self.alloc, self.list.as_slice())?;
+        Schedule::new(self.alloc, schema, phases)
     }
 }

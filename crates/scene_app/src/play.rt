@@ -18,6 +18,7 @@ use scene_kinds::Schema;
 use scene_script::{BadLine, Line, LineError, first_line, read_line};
 use scene_world::World;
 use std::alloc::{AllocError, Global};
+use std::thread::Threads;
 
 /// What a line says, or why it is bad.
 fn said_in(
@@ -35,8 +36,10 @@ fn said_in(
 }
 
 /// Plays a line after the setup, and notes it where it is bad.
-fn play_line(
+fn play_line<T: Threads + Sync>(
+    rt: &T,
     alloc: Global,
+    workers: usize,
     state: &mut PlayState,
     number: usize,
     said: Result<Line, BadLine>,
@@ -50,13 +53,15 @@ fn play_line(
     ensures few { OnOk result (reports.new.count ≤ reports.old.count + 1) }
     ensures opened { OnOk result (queue_count state.new.frame ≤ queue_count state.old.frame + 1) }
 {
-    let bad = answer(alloc, out, state, said)?;
+    let bad = answer(rt, alloc, workers, out, state, said)?;
     reports.note(number, bad)
 }
 
 /// Plays lines after the setup, of which the first has a number.
-fn play_lines(
+fn play_lines<T: Threads + Sync>(
+    rt: &T,
     alloc: Global,
+    workers: usize,
     state: &mut PlayState,
     first: usize,
     script: &[u8],
@@ -75,7 +80,7 @@ fn play_lines(
     'lines: while !rest.is_empty() {
         let (bytes, after) = first_line(rest);
         let said = said_in(alloc, state.machine.now().schema(), bytes)?;
-        play_line(alloc, state, number, said, out, reports)?;
+        play_line(rt, alloc, workers, state, number, said, out, reports)?;
         rest = after;
         number += 1;
     }
@@ -83,8 +88,10 @@ fn play_lines(
 }
 
 /// Plays a line after the setup, and the lines after it.
-fn play_from(
+fn play_from<T: Threads + Sync>(
+    rt: &T,
     alloc: Global,
+    workers: usize,
     state: &mut PlayState,
     number: usize,
     line: Line,
@@ -99,13 +106,15 @@ fn play_from(
         (then_rest number (said_reply state.old (Ok line)) (λ s. run_from (number + 1) s (lines after.now)))) }
     ensures few { OnOk result (reports.new.count < number + 1 + length after.now) }
 {
-    play_line(alloc, state, number, Ok(line), out, reports)?;
-    play_lines(alloc, state, number + 1, after, out, reports)
+    play_line(rt, alloc, workers, state, number, Ok(line), out, reports)?;
+    play_lines(rt, alloc, workers, state, number + 1, after, out, reports)
 }
 
 /// Plays the line that ends the setup, and the lines after it.
-fn play_run(
+fn play_run<T: Threads + Sync>(
+    rt: &T,
     alloc: Global,
+    workers: usize,
     world: World,
     number: usize,
     line: Line,
@@ -120,7 +129,9 @@ fn play_run(
     ensures few { OnOk result (reports.new.count < number + 1 + length after.now) }
 {
     let mut state = PlayState::new(alloc, world);
-    play_from(alloc, &mut state, number, line, after, out, reports)
+    play_from(
+        rt, alloc, workers, &mut state, number, line, after, out, reports,
+    )
 }
 
 /// Plays a line of the setup, and notes it where it is bad. A line that ends the setup is handed back, and isn't played.
@@ -146,8 +157,10 @@ fn play_setup_line(
 }
 
 /// Plays the setup, line by line, and then the run that the line behind it begins.
-fn play_setup(
+fn play_setup<T: Threads + Sync>(
+    rt: &T,
     alloc: Global,
+    workers: usize,
     setup: &mut Setup,
     script: &[u8],
     out: &mut String,
@@ -165,7 +178,7 @@ fn play_setup(
         let (bytes, after) = first_line(rest);
         if let Some(line) = play_setup_line(alloc, setup, number, bytes, out, reports)? {
             let world = setup.take_world(alloc);
-            return play_run(alloc, world, number, line, after, out, reports);
+            return play_run(rt, alloc, workers, world, number, line, after, out, reports);
         }
         rest = after;
         number += 1;
@@ -174,8 +187,10 @@ fn play_setup(
 }
 
 /// Plays a script from the setup that has nothing yet.
-fn play_all(
+fn play_all<T: Threads + Sync>(
+    rt: &T,
     alloc: Global,
+    workers: usize,
     script: &[u8],
     out: &mut String,
     reports: &mut Reports,
@@ -186,15 +201,18 @@ fn play_all(
     ensures few { OnOk result (reports.new.count ≤ length script.now) }
 {
     let mut setup = Setup::new(alloc);
-    play_setup(alloc, &mut setup, script, out, reports)
+    play_setup(rt, alloc, workers, &mut setup, script, out, reports)
 }
 
 /// Plays a script from its first line, adds what it prints, and notes its bad lines (docs/SCRIPTS.md, "Lines").
 ///
 /// The first line that is no `kind`, `slots` or `load`, not empty and not bad ends the setup, and is played itself. Want
-/// of memory ends it with an error, and then a part of the text may be there. Each line costs what it asks for.
-pub(crate) fn play_script(
+/// of memory ends it with an error, and then a part of the text may be there. Each line costs what it asks for. An advance
+/// has so many workers, on which nothing that is printed depends.
+pub(crate) fn play_script<T: Threads + Sync>(
+    rt: &T,
     alloc: Global,
+    workers: usize,
     script: &[u8],
     out: &mut String,
 ) -> Result<Reports, AllocError>
@@ -203,6 +221,6 @@ pub(crate) fn play_script(
     ensures few { IfOk result (λ reports. reports.count ≤ length script.now) }
 {
     let mut reports = Reports::new(alloc);
-    play_all(alloc, script, out, &mut reports)?;
+    play_all(rt, alloc, workers, script, out, &mut reports)?;
     Ok(reports)
 }

@@ -14,6 +14,7 @@ use crate::report::BadLineReport;
 use scene_streams::{Sink, Source};
 use std::alloc::Global;
 use std::io::{Read, Write};
+use std::thread::Threads;
 
 /// How a run ended.
 #[derive(Debug, Drop)]
@@ -26,7 +27,12 @@ pub struct RunEnd {
 
 /// What a script's bytes print, and its bad lines.
 #[tactic(auto, using(crate::proofs::ReportLaws::noted_all))]
-fn played(alloc: Global, script: &[u8]) -> Result<(String, RunEnd), AppFault>
+fn played<T: Threads + Sync>(
+    rt: &T,
+    alloc: Global,
+    workers: usize,
+    script: &[u8],
+) -> Result<(String, RunEnd), AppFault>
     requires { length script.now ≤ most_bytes }
     ensures printed { IfOk result (λ p. string_bytes p.0 ≡ output script.now) }
     ensures bad { IfOk result (λ p. p.1.bad_lines ≡ length (bad_lines script.now)) }
@@ -34,7 +40,7 @@ fn played(alloc: Global, script: &[u8]) -> Result<(String, RunEnd), AppFault>
     ensures memory { IfErr result (λ f. f ≡ NoMemory) }
 {
     let mut out = String::new(alloc);
-    let reports = play_script(alloc, script, &mut out)?;
+    let reports = play_script(rt, alloc, workers, script, &mut out)?;
     let end = RunEnd {
         bad_lines: reports.count() as u32,
         reports: reports.into_first(),
@@ -43,15 +49,18 @@ fn played(alloc: Global, script: &[u8]) -> Result<(String, RunEnd), AppFault>
 }
 
 /// Reads a script to its end, plays it, and writes what it prints (docs/SCRIPTS.md, "Output"). Nothing is written
-/// before the whole script is played.
+/// before the whole script is played. An advance has so many workers, 1 to 16, on which nothing that is written depends; a
+/// number below is taken as 1, and one above as 16.
 ///
 /// Refused: `ReadFault` exactly where the source has failed, now or before, and where it hadn't then in a call of
 /// its reader; `TooLong` where the script is longer than 67,108,864 bytes or its end doesn't come in the turns of the
 /// source; `NoMemory`; and then nothing is written. `WriteFault` where the sink has failed, now or before; then a
 /// prefix of the output is written. A run costs what its lines ask for, and the memory of the script, of the output and
 /// of the records of its frames.
-pub fn run_script<R: Read, W: Write>(
+pub fn run_script<T: Threads + Sync, R: Read, W: Write>(
+    rt: &T,
     alloc: Global,
+    workers: usize,
     source: &mut Source<R>,
     sink: &mut Sink<W>,
 ) -> Result<RunEnd, AppFault>
@@ -74,7 +83,7 @@ pub fn run_script<R: Read, W: Write>(
     ensures unmarked { OnOk result (write_failed sink.new ≡ false) }
 {
     let script = source.read_all(alloc)?;
-    let (out, end) = played(alloc, script.as_slice())?;
+    let (out, end) = played(rt, alloc, workers, script.as_slice())?;
     sink.write_all(out.as_bytes())?;
     Ok(end)
 }

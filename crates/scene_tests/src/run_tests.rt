@@ -21,7 +21,7 @@ fn a_failed_read_writes_nothing(rt: HostRuntime) -> Result<(), Fail> {
     for fails_at in 1..=8 {
         let mut source = script_that_fails(fails_at, ErrorKind::Other);
         let mut sink = Sink::new(Taker::new(rt.alloc(), 0, true));
-        let end = run_script(rt.alloc(), &mut source, &mut sink).map(|end| end.bad_lines);
+        let end = run_script(&rt, rt.alloc(), 1, &mut source, &mut sink).map(|end| end.bad_lines);
         let failed = fails_at < 8;
         let wanted = if failed {
             Err(AppFault::ReadFault)
@@ -46,7 +46,7 @@ fn an_interrupted_read_is_made_again(rt: HostRuntime) -> Result<(), Fail> {
     for fails_at in 1..=7 {
         let mut source = script_that_fails(fails_at, ErrorKind::Interrupted);
         let mut sink = Sink::new(Taker::new(rt.alloc(), 0, true));
-        let end = run_script(rt.alloc(), &mut source, &mut sink).map(|end| end.bad_lines);
+        let end = run_script(&rt, rt.alloc(), 1, &mut source, &mut sink).map(|end| end.bad_lines);
         assert_eq!(rt; end, Ok(0), "call {fails_at}");
         assert_eq!(rt; source.get_ref().calls(), 8, "call {fails_at}");
         assert_eq!(rt;
@@ -65,7 +65,9 @@ fn a_stopped_write_leaves_a_prefix_of_the_output(rt: HostRuntime) -> Result<(), 
         for fails in [false, true] {
             let mut source = script_that_fails(0, ErrorKind::Other);
             let mut sink = Sink::new(Taker::new(rt.alloc(), before as u32 + 1, fails));
-            let end = run_script(rt.alloc(), &mut source, &mut sink).map(|end| end.bad_lines);
+            let end = run_script(&rt, rt.alloc(), 1, &mut source, &mut sink).map(
+                |end| end.bad_lines,
+            );
             let failed = before < calls;
             let wanted = if failed {
                 Err(AppFault::WriteFault)

@@ -5,7 +5,7 @@ use Rattle.scene_app.proofs.PlayLaws.{alone_within}
 use Rattle.scene_app.proofs.answer.answer_line.Goals as goal
 
 pub returns-in-None : goal.returns-in-None
-returns-in-None c =
+returns-in-None g c =
     let none : c.args.state.now.frame ≡ None = cc (c.in-None.ensures.value) in
     let after : c.take.new.self ≡ None = cc (c.in-None.ensures.after) in
     subst (λ (r : Reply). IfOk c.answer_alone.result (λ bad. Replies (string_bytes c.args.out.now) (string_bytes c.answer_alone.new.out) c.answer_alone.new.state bad r))

@@ -10,7 +10,7 @@ of_success (Ok a) p = p
 of_success (Err e) p = tt
 
 pub returns-clause-opened : goal.returns-clause-opened
-returns-clause-opened c =
+returns-clause-opened g c =
     let same = ap (λ (s : PlayState). queue_count s.frame) c.in_ok-bad.ensures.1 in
     let few = count_said c.args.state.now c.args.said in
     let more : queue_count c.answer.new.state.frame ≤ queue_count c.args.state.now.frame + 1 = omega (arith, same, few) in

@@ -8,7 +8,7 @@ use Rattle.scene_app.proofs.PlayLaws.{line_played}
 use Rattle.scene_app.proofs.play.play_lines.Goals as goal
 
 pub lines-preserved : goal.lines-preserved
-lines-preserved c =
+lines-preserved g c =
     let before = c.lines.state in
     let old = string_bytes c.lines.out in
     let new = string_bytes c.play_line.new.out in

@@ -6,7 +6,7 @@ use Rattle.scene_app.specs.Steps.{noted}
 use Rattle.scene_app.proofs.play.play_lines.Given as goal
 
 abbrev pub invariant-lines : goal.invariant-lines
-invariant-lines l = record {
+invariant-lines g l = record {
   text : string_bytes l.out ++ (run_from l.number l.state (lines l.rest)).text ≡ string_bytes l.initial.out ++ (run_from l.first l.initial.state (lines l.script)).text;
   bad : noted l.reports (run_from l.number l.state (lines l.rest)).bad ≡ noted l.initial.reports (run_from l.first l.initial.state (lines l.script)).bad;
   few : l.reports.count < l.number;
@@ -15,4 +15,4 @@ invariant-lines l = record {
 }
 
 abbrev pub decreases-lines : goal.decreases-lines
-decreases-lines l = length l.rest
+decreases-lines g l = length l.rest

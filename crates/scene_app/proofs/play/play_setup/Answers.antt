@@ -10,7 +10,7 @@ use Rattle.scene_app.proofs.PlayLaws.{mapped}
 use Rattle.scene_app.proofs.play.play_setup.Goals as goal
 
 pub lines-preserved : goal.lines-preserved
-lines-preserved c =
+lines-preserved g c =
     let old = string_bytes c.lines.out in
     let new = string_bytes c.play_setup_line.new.out in
     let before = setup_of c.lines.setup in
@@ -27,7 +27,7 @@ lines-preserved c =
     }
 
 pub returns-in-Some-clause-printed : goal.returns-in-Some-clause-printed
-returns-in-Some-clause-printed c =
+returns-in-Some-clause-printed g c =
     let old = string_bytes c.lines.out in
     let new = string_bytes c.play_setup_line.new.out in
     let end = string_bytes c.play_run.new.out in

@@ -7,7 +7,7 @@ use Rattle.scene_app.specs.Steps.{noted}
 use Rattle.scene_app.proofs.play.play_setup.Given as goal
 
 abbrev pub invariant-lines : goal.invariant-lines
-invariant-lines l = record {
+invariant-lines g l = record {
   text : string_bytes l.out ++ (setup_from l.number (setup_of l.setup) (lines l.rest)).text ≡ string_bytes l.initial.out ++ (setup_from 1 (setup_of l.initial.setup) (lines l.script)).text;
   bad : noted l.reports (setup_from l.number (setup_of l.setup) (lines l.rest)).bad ≡ noted no_bad_lines (setup_from 1 (setup_of l.initial.setup) (lines l.script)).bad;
   few : l.reports.count < l.number;
@@ -15,4 +15,4 @@ invariant-lines l = record {
 }
 
 abbrev pub decreases-lines : goal.decreases-lines
-decreases-lines l = length l.rest
+decreases-lines g l = length l.rest
