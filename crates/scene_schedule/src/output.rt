@@ -38,7 +38,7 @@ impl From<Vec<RowChange>> for RowChanges {
     }
 }
 
-/// What the systems of a phase made, by system: their rows, and their queues (docs/MODEL.md, "The rule of phases").
+/// What the systems of a phase made, by system: their rows, and their queues (docs/MODEL.md, "The rule of schedules").
 #[derive(Drop, Debug)]
 pub struct PhaseOutput {
     pub rows: Vec<RowChanges>,

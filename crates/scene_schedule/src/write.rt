@@ -100,7 +100,7 @@ fn write_systems<S: Stage>(rows: &[RowChanges], stage: &mut S) -> Result<(), Ref
 }
 
 /// Writes on a stage what the systems of a phase made of their rows: system by system, in a system row by row, and in a row by
-/// kind (docs/MODEL.md, "The rule of phases"). It costs what the inserts cost, and a copy of each value.
+/// kind (docs/MODEL.md, "The rule of schedules"). It costs what the inserts cost, and a copy of each value.
 ///
 /// Refused: `NoMemory`, and then the cells before the refused one are written; the room for the notes of all cells is made
 /// before the first. No cell is refused for another reason where the rows were made of the stage's own world. The world to
