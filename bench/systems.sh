@@ -1,0 +1,52 @@
+#!/usr/bin/env bash
+# What an advance takes on one worker and on more: by the clock, and in processor time.
+#
+#   bench/systems.sh [MOST [PROGRAM]]     at the top of the repository; worlds of 1,000 rows and more, up to MOST, 1000000 if none
+#                                         is given; by ./scene's program if none is given
+#
+# A row has four numbers, and each of four systems adds to one of them, so no two are in each other's way. For each size and
+# number of workers it prints the milliseconds of an advance, less those of the same script without advances, and how often they
+# take those of one worker. Each is the least of five runs. It needs python3.
+set -euo pipefail
+cd "$(dirname "$0")/.."
+program=${2:-crates/scene/out/scene}
+[ -x "$program" ] || tools/build
+python3 - "$program" "${1:-1000000}" <<'P'
+import os, subprocess, sys, tempfile, time
+
+program, most = sys.argv[1], int(sys.argv[2])
+KINDS = "ABCD"
+
+def script(rows, advances):
+    lines = [f"kind {kind} Int" for kind in KINDS] + [f"slots {rows}", "begin"]
+    lines += ["spawn " + " ".join(f"{kind}=1" for kind in KINDS)] * rows + ["commit"]
+    lines += [f"system s{kind} need={kind} addint:{kind}:1" for kind in KINDS] + ["advance"] * advances
+    return ("\n".join(lines) + "\n").encode()
+
+def least(text, workers):
+    """The least milliseconds of five runs by the clock, and of processor time."""
+    found = []
+    with tempfile.TemporaryFile() as file:
+        file.write(text)
+        for _ in range(5):
+            file.seek(0)
+            began = time.monotonic()
+            child = subprocess.Popen([program, "run", "--workers", str(workers)], stdin=file, stdout=subprocess.DEVNULL)
+            _, status, used = os.wait4(child.pid, 0)
+            if status:
+                sys.exit(f"{workers} workers: status {status}")
+            found.append((time.monotonic() - began, used.ru_utime + used.ru_stime))
+    return [1000 * min(each) for each in zip(*found)]
+
+print(f"{'rows':>9}{'workers':>9}{'clock':>11}{'factor':>8}{'processor':>11}{'factor':>8}")
+for rows in (1000, 10000, 100000, 1000000):
+    if rows > most:
+        break
+    advances = max(4, 200000 // rows)
+    with_them, without = script(rows, advances), script(rows, 0)
+    alone = None
+    for workers in (1, 2, 4, 8, 16):
+        each = [(a - b) / advances for a, b in zip(least(with_them, workers), least(without, workers))]
+        alone = alone or each
+        print(f"{rows:9}{workers:9}{each[0]:11.3f}{each[0] / alone[0]:8.2f}{each[1]:11.3f}{each[1] / alone[1]:8.2f}", flush=True)
+P
