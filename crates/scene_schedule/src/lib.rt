@@ -28,6 +28,8 @@ mod schedule_phase;
 mod systems;
 #[cfg(test)]
 mod tests;
+#[cfg(test)]
+mod thread_tests;
 mod turns;
 mod workers;
 mod write;

@@ -7,13 +7,13 @@ use std::alloc::Global;
 use std::test::*;
 
 // The kinds of the tests: two vectors, two numbers and a tag, and one that isn't there.
-const P: u8 = 0;
+pub(super) const P: u8 = 0;
 
-const V: u8 = 1;
+pub(super) const V: u8 = 1;
 
-const N: u8 = 2;
+pub(super) const N: u8 = 2;
 
-const L: u8 = 3;
+pub(super) const L: u8 = 3;
 
 const T: u8 = 4;
 
@@ -24,7 +24,7 @@ const ALL: KindSet = 0b1_1111;
 
 /// A step, in short: an `AddInt` adds 1, and the cells of a child are zeros.
 #[derive(Clone, Copy)]
-enum Do {
+pub(super) enum Do {
     AddVec(u8, u8),
     AddInt(u8),
     Zero(u8),
@@ -34,7 +34,7 @@ enum Do {
 
 /// A system, in short.
 #[derive(Clone, Copy)]
-struct System {
+pub(super) struct System {
     name: &'static str,
     need: KindSet,
     without: KindSet,
@@ -68,7 +68,7 @@ fn does(steps: &'static [Do]) -> System {
     }
 }
 
-fn needs(need: KindSet, steps: &'static [Do]) -> System {
+pub(super) fn needs(need: KindSet, steps: &'static [Do]) -> System {
     System {
         name: "a",
         need,
@@ -77,7 +77,7 @@ fn needs(need: KindSet, steps: &'static [Do]) -> System {
     }
 }
 
-fn kinds(alloc: Global) -> Result<Schema, Refusal> {
+pub(super) fn kinds(alloc: Global) -> Result<Schema, Refusal> {
     let mut schema = Schema::new(alloc);
     for (name, shape) in [
         ("P", Shape::Vec3),
@@ -140,7 +140,7 @@ fn phase(alloc: Global, systems: &[System]) -> Result<Phase, Refusal> {
     Ok(phase)
 }
 
-fn schedule(alloc: Global, phases: &[&[System]]) -> Result<Schedule, Refusal> {
+pub(super) fn schedule(alloc: Global, phases: &[&[System]]) -> Result<Schedule, Refusal> {
     let mut list = Vec::new(alloc);
     for systems in phases {
         list.push(phase(alloc, systems)?)?;
