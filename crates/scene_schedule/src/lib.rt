@@ -26,15 +26,9 @@ mod runner;
 mod schedule;
 mod schedule_phase;
 mod systems;
-#[cfg(test)]
-mod tests;
-#[cfg(test)]
-mod thread_tests;
 mod turns;
 mod workers;
 mod write;
-#[cfg(test)]
-mod write_tests;
 mod zero;
 
 pub use advance::{Advance, PhaseRunner};

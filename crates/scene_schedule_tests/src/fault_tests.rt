@@ -1,8 +1,8 @@
 //! Which lists of phases are refused, and by which fault, as the documents tell it.
-use super::*;
 use scene_commands::Components;
 use scene_kinds::{Fault, KindSet, Refusal, Schema, Shape, Text, Value};
 use scene_rules::{Filter, Phase, RowStep, Step, Steps, SystemRule};
+use scene_schedule::{Schedule, same_schema};
 use std::alloc::Global;
 use std::test::*;
 

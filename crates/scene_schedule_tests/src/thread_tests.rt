@@ -1,7 +1,7 @@
 //! Phases on several threads: what they make, and what is refused, hangs neither on the workers nor on the gate.
-use super::tests::{Do, L, N, P, System, V, kinds, needs, schedule};
-use super::{Gate, OpenGate, PhaseOutput, Schedule, run_phase, run_phase_alone};
+use super::fault_tests::{Do, L, N, P, System, V, kinds, needs, schedule};
 use scene_kinds::{Entity, Fault, Place, Refusal, Value};
+use scene_schedule::{Gate, OpenGate, PhaseOutput, Schedule, run_phase, run_phase_alone};
 use scene_world::World;
 use std::alloc::{AllocError, Global};
 use std::sync::atomic::{AtomicU64, Ordering};
