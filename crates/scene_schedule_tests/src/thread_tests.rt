@@ -1,9 +1,9 @@
 //! Phases on several threads: what they make, and what is refused, hangs neither on the workers nor on the gate.
-use super::fault_tests::{Do, L, N, P, System, V, kinds, needs, schedule};
+use super::schedule_tests::{Do, L, N, P, System, V, kinds, needs, schedule};
 use scene_kinds::{Entity, Fault, Place, Refusal, Value};
 use scene_schedule::{Gate, OpenGate, PhaseOutput, Schedule, run_phase, run_phase_alone};
 use scene_world::World;
-use std::alloc::{AllocError, Global};
+use std::alloc::Global;
 use std::sync::atomic::{AtomicU64, Ordering};
 use std::test::*;
 use std::thread;
@@ -49,20 +49,43 @@ fn resting() -> System {
     needs(1 << L, &[Do::AddInt(L)])
 }
 
-/// A world with a row that moves, one that counts, and one that does both and has a rest.
-fn world(alloc: Global, number: i64, rest: i64) -> Result<World, Refusal> {
-    let mut world = World::new(alloc, kinds(alloc)?, 8);
+/// Spawns a row that moves.
+fn spawn_moving(alloc: Global, world: &mut World) -> Result<(), Refusal> {
     let place = Value::Vec3([1, 2, 3]);
     let speed = Value::Vec3([0, -1, 1]);
-    let _moves = world.spawn(vec![in alloc; (P, place), (V, speed)]?)?;
-    let _counts = world.spawn(vec![in alloc; (N, Value::Int(0))]?)?;
-    let both = vec![in alloc;
+    let _entity = world.spawn(vec![in alloc; (P, place), (V, speed)]?)?;
+    Ok(())
+}
+
+/// Spawns a row that counts.
+fn spawn_counting(alloc: Global, world: &mut World) -> Result<(), Refusal> {
+    let _entity = world.spawn(vec![in alloc; (N, Value::Int(0))]?)?;
+    Ok(())
+}
+
+/// Spawns a row that moves, counts and has a rest.
+fn spawn_both(alloc: Global, world: &mut World, number: i64, rest: i64) -> Result<(), Refusal> {
+    let cells = vec![in alloc;
         (P, Value::Vec3([4, 5, 6])),
         (V, Value::Vec3([1, 1, 1])),
         (N, Value::Int(number)),
         (L, Value::Int(rest)),
     ]?;
-    let _does_both = world.spawn(both)?;
+    let _entity = world.spawn(cells)?;
+    Ok(())
+}
+
+/// Spawns a row that moves, one that counts, and one that does both.
+fn fill(alloc: Global, world: &mut World, number: i64, rest: i64) -> Result<(), Refusal> {
+    spawn_moving(alloc, world)?;
+    spawn_counting(alloc, world)?;
+    spawn_both(alloc, world, number, rest)
+}
+
+/// A world with these three rows.
+fn world(alloc: Global, number: i64, rest: i64) -> Result<World, Refusal> {
+    let mut world = World::new(alloc, kinds(alloc)?, 8);
+    fill(alloc, &mut world, number, rest)?;
     Ok(world)
 }
 
@@ -90,66 +113,94 @@ fn alone(alloc: Global, world: &World, schedule: &Schedule) -> Result<PhaseOutpu
     run_phase_alone(alloc, world, schedule, 0)
 }
 
-/// The rows and the queues of a phase, as a text that tells all of them.
-fn shown(alloc: Global, output: &PhaseOutput) -> Result<String, AllocError> {
-    format!(in alloc; "{output:?}")
+/// The rows and the queues that a phase makes on so many workers, as a text that tells all of them.
+fn shown_on<R: Threads + Sync, G: Gate + Sync>(
+    rt: &R,
+    alloc: Global,
+    world: &World,
+    schedule: &Schedule,
+    workers: usize,
+    gate: &G,
+) -> Result<String, Refusal> {
+    let made = on_workers(rt, alloc, world, schedule, workers, gate)?;
+    Ok(format!(in alloc; "{made:?}")?)
 }
 
-#[test]
-fn two_workers_meet_at_the_gate(rt: HostRuntime) -> Result<(), Fail> {
+/// The same in this thread.
+fn shown_alone(alloc: Global, world: &World, schedule: &Schedule) -> Result<String, Refusal> {
+    let made = alone(alloc, world, schedule)?;
+    Ok(format!(in alloc; "{made:?}")?)
+}
+
+/// Two workers meet at the gate, and make what one thread makes.
+fn meet(rt: &HostRuntime, world: &World, schedule: &Schedule) -> Result<(), Fail> {
     let alloc = rt.alloc();
-    let world = world(alloc, 5, 1)?;
-    let schedule = schedule(alloc, &[&[moving(), counting()]])?;
     let gate = Meeting {
         came: AtomicU64::new(0),
         gave_up: AtomicU64::new(0),
     };
-    let made = on_workers(&rt, alloc, &world, &schedule, 2, &gate)?;
+    let shown = shown_on(rt, alloc, world, schedule, 2, &gate)?;
     assert_eq!(rt; gate.came.load(Ordering::SeqCst), 2);
     assert_eq!(rt; gate.gave_up.load(Ordering::SeqCst), 0);
-    assert_eq!(rt;
-        shown(alloc, &made)?,
-        shown(alloc, &alone(alloc, &world, &schedule)?)?
-    );
+    assert_eq!(rt; shown, shown_alone(alloc, world, schedule)?);
     Ok(())
 }
 
-#[test]
-fn each_number_of_workers_makes_the_same(rt: HostRuntime) -> Result<(), Fail> {
+/// Each number of workers makes what one thread makes.
+fn compare(rt: &HostRuntime, world: &World, schedule: &Schedule) -> Result<(), Fail> {
     let alloc = rt.alloc();
-    let world = world(alloc, 5, 0)?;
-    let schedule = schedule(alloc, &[&[moving(), counting(), ending()]])?;
-    let made = alone(alloc, &world, &schedule)?;
-    assert_eq!(rt; (made.rows.len(), made.queues.len()), (3, 3));
-    let wanted = shown(alloc, &made)?;
+    let wanted = shown_alone(alloc, world, schedule)?;
     for workers in [1, 2, 3, 16] {
-        let made = on_workers(&rt, alloc, &world, &schedule, workers, &OpenGate)?;
-        assert_eq!(rt; shown(alloc, &made)?, wanted, "{workers} workers");
+        let shown = shown_on(rt, alloc, world, schedule, workers, &OpenGate)?;
+        assert_eq!(rt; shown, wanted, "{workers} workers");
+    }
+    Ok(())
+}
+
+/// Each number of workers is refused as one thread is.
+fn refuse(
+    rt: &HostRuntime,
+    world: &World,
+    schedule: &Schedule,
+    wanted: Refusal,
+) -> Result<(), Fail> {
+    let alloc = rt.alloc();
+    assert_eq!(rt; alone(alloc, world, schedule).err(), Some(wanted));
+    for workers in [1, 2, 3, 16] {
+        let made = on_workers(rt, alloc, world, schedule, workers, &OpenGate);
+        assert_eq!(rt; made.err(), Some(wanted), "{workers} workers");
     }
     Ok(())
 }
 
 #[test]
+fn two_workers_meet_at_the_gate(rt: HostRuntime) -> Result<(), Fail> {
+    let world = world(rt.alloc(), 5, 1)?;
+    let schedule = schedule(rt.alloc(), &[&[moving(), counting()]])?;
+    meet(&rt, &world, &schedule)
+}
+
+#[test]
+fn each_number_of_workers_makes_the_same(rt: HostRuntime) -> Result<(), Fail> {
+    let world = world(rt.alloc(), 5, 0)?;
+    let schedule = schedule(rt.alloc(), &[&[moving(), counting(), ending()]])?;
+    compare(&rt, &world, &schedule)
+}
+
+#[test]
 fn the_first_system_that_overflows_is_named(rt: HostRuntime) -> Result<(), Fail> {
-    let alloc = rt.alloc();
-    let world = world(alloc, i64::MAX, i64::MAX)?;
-    let schedule = schedule(alloc, &[&[moving(), counting(), resting()]])?;
-    let entity = Entity {
-        index: 2,
-        generation: 1,
-    };
+    let world = world(rt.alloc(), i64::MAX, i64::MAX)?;
+    let schedule = schedule(rt.alloc(), &[&[moving(), counting(), resting()]])?;
     let wanted = Refusal {
-        fault: Fault::Overflow(entity),
+        fault: Fault::Overflow(Entity {
+            index: 2,
+            generation: 1,
+        }),
         place: Some(Place {
             phase: 0,
             queue: 1,
             command: 0,
         }),
     };
-    assert_eq!(rt; alone(alloc, &world, &schedule).err(), Some(wanted));
-    for workers in [1, 2, 3, 16] {
-        let made = on_workers(&rt, alloc, &world, &schedule, workers, &OpenGate);
-        assert_eq!(rt; made.err(), Some(wanted), "{workers} workers");
-    }
-    Ok(())
+    refuse(&rt, &world, &schedule, wanted)
 }
