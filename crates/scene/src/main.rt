@@ -14,6 +14,7 @@ use scene_command_line::{Asked, mistake_in, read_words};
 use scene_streams::{Sink, Source};
 use std::io::ErrorKind;
 use std::process::ExitCode;
+use std::thread::Threads;
 use std::{env, io};
 
 /// The words of the command line, the program's own name first.
@@ -34,10 +35,16 @@ fn tell_bad_lines(rt: &HostRuntime, end: &RunEnd) -> io::Result<()> {
 }
 
 /// Plays the script on standard input, with so many workers for an advance.
-fn run(rt: &HostRuntime, workers: u8) -> Ending {
+fn run(rt: &HostRuntime, threads: &(impl Threads + Sync), workers: u8) -> Ending {
     let mut source = Source::new(rt.stdin());
     let mut sink = Sink::new(rt.stdout());
-    match run_script(rt, rt.alloc(), workers as usize, &mut source, &mut sink) {
+    match run_script(
+        threads,
+        rt.alloc(),
+        workers as usize,
+        &mut source,
+        &mut sink,
+    ) {
         Ok(end) => {
             // A standard error that can't be written changes no status.
             let _told = tell_bad_lines(rt, &end);
@@ -76,7 +83,7 @@ fn help(rt: &HostRuntime, text: &str) -> Ending {
 }
 
 /// Does what the command line asks for.
-fn end(rt: &HostRuntime) -> Ending {
+fn end(rt: &HostRuntime, threads: &(impl Threads + Sync)) -> Ending {
     let words = match words_given(rt) {
         Ok(words) => words,
         Err(error) if error.kind() == ErrorKind::OutOfMemory => {
@@ -85,7 +92,7 @@ fn end(rt: &HostRuntime) -> Ending {
         Err(_) => return Ending::BadCommandLine,
     };
     match read_words(rt.alloc(), words.as_slice()) {
-        Ok(Asked::Run(workers)) => run(rt, workers),
+        Ok(Asked::Run(workers)) => run(rt, threads, workers),
         Ok(Asked::Check) => check(rt),
         Ok(Asked::Print) => print(rt),
         Ok(Asked::Help(text)) => help(rt, text.as_str()),
@@ -114,7 +121,7 @@ fn tell(rt: &HostRuntime, ending: Ending) -> io::Result<()> {
 }
 
 fn main(rt: HostRuntime) -> ExitCode {
-    let ending = end(&rt);
+    let ending = end(&rt, &rt);
     match tell(&rt, ending) {
         Ok(()) => ending.exit_code(),
         Err(_) => ExitCode::from(3),

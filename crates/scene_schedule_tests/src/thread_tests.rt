@@ -4,6 +4,7 @@ use scene_kinds::{Entity, Fault, Place, Refusal, Value};
 use scene_schedule::{Gate, OpenGate, PhaseOutput, Schedule, run_phase, run_phase_alone};
 use scene_world::World;
 use std::alloc::Global;
+use std::process::Abort;
 use std::sync::atomic::{AtomicU64, Ordering};
 use std::test::*;
 use std::thread;
@@ -133,8 +134,12 @@ fn shown_alone(alloc: Global, world: &World, schedule: &Schedule) -> Result<Stri
 }
 
 /// Two workers meet at the gate, and make what one thread makes.
-fn meet(rt: &HostRuntime, world: &World, schedule: &Schedule) -> Result<(), Fail> {
-    let alloc = rt.alloc();
+fn meet<R: Threads + Abort + Sync>(
+    rt: &R,
+    alloc: Global,
+    world: &World,
+    schedule: &Schedule,
+) -> Result<(), Fail> {
     let gate = Meeting {
         came: AtomicU64::new(0),
         gave_up: AtomicU64::new(0),
@@ -147,8 +152,12 @@ fn meet(rt: &HostRuntime, world: &World, schedule: &Schedule) -> Result<(), Fail
 }
 
 /// Each number of workers makes what one thread makes.
-fn compare(rt: &HostRuntime, world: &World, schedule: &Schedule) -> Result<(), Fail> {
-    let alloc = rt.alloc();
+fn compare<R: Threads + Abort + Sync>(
+    rt: &R,
+    alloc: Global,
+    world: &World,
+    schedule: &Schedule,
+) -> Result<(), Fail> {
     let wanted = shown_alone(alloc, world, schedule)?;
     for workers in [1, 2, 3, 16] {
         let shown = shown_on(rt, alloc, world, schedule, workers, &OpenGate)?;
@@ -158,13 +167,13 @@ fn compare(rt: &HostRuntime, world: &World, schedule: &Schedule) -> Result<(), F
 }
 
 /// Each number of workers is refused as one thread is.
-fn refuse(
-    rt: &HostRuntime,
+fn refuse<R: Threads + Abort + Sync>(
+    rt: &R,
+    alloc: Global,
     world: &World,
     schedule: &Schedule,
     wanted: Refusal,
 ) -> Result<(), Fail> {
-    let alloc = rt.alloc();
     assert_eq!(rt; alone(alloc, world, schedule).err(), Some(wanted));
     for workers in [1, 2, 3, 16] {
         let made = on_workers(rt, alloc, world, schedule, workers, &OpenGate);
@@ -177,14 +186,14 @@ fn refuse(
 fn two_workers_meet_at_the_gate(rt: HostRuntime) -> Result<(), Fail> {
     let world = world(rt.alloc(), 5, 1)?;
     let schedule = schedule(rt.alloc(), &[&[moving(), counting()]])?;
-    meet(&rt, &world, &schedule)
+    meet(&rt, rt.alloc(), &world, &schedule)
 }
 
 #[test]
 fn each_number_of_workers_makes_the_same(rt: HostRuntime) -> Result<(), Fail> {
     let world = world(rt.alloc(), 5, 0)?;
     let schedule = schedule(rt.alloc(), &[&[moving(), counting(), ending()]])?;
-    compare(&rt, &world, &schedule)
+    compare(&rt, rt.alloc(), &world, &schedule)
 }
 
 #[test]
@@ -202,5 +211,5 @@ fn the_first_system_that_overflows_is_named(rt: HostRuntime) -> Result<(), Fail>
             command: 0,
         }),
     };
-    refuse(&rt, &world, &schedule, wanted)
+    refuse(&rt, rt.alloc(), &world, &schedule, wanted)
 }
