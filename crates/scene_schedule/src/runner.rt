@@ -21,6 +21,9 @@ use std::thread::Threads;
 /// The most workers that a phase has.
 const MOST_WORKERS: usize = 16;
 
+/// The least number of slots of a world whose phases are shared among threads: with fewer, the threads cost more than they save.
+const SHARED_SLOTS: usize = 16_384;
+
 /// Phases on the calling thread.
 #[derive(Clone, Copy, Debug)]
 pub struct Alone;
@@ -62,8 +65,8 @@ impl<F: Fn(&World, &[SystemRule]) -> Result<PhaseOutput, Refusal>> PhaseRunner f
 }
 
 /// What the systems of a phase make of the opening world, on so many workers: a number below 1 is taken as 1, and one above 16 as
-/// 16. No more threads are made than there are systems, and none for one system alone. What they make, and what is refused, is
-/// the same for every number (docs/MODEL.md, "Many threads, one answer").
+/// 16. No more threads are made than there are systems, and none for one system alone, nor in a world of fewer than 16,384
+/// slots. What they make, and what is refused, is the same for every number (docs/MODEL.md, "Many threads, one answer").
 ///
 /// Refused: the first `Overflow`, by system, then by row, placed by the system and the step; `NoMemory`.
 pub fn run_shared<R: Threads + Sync>(
@@ -78,7 +81,7 @@ pub fn run_shared<R: Threads + Sync>(
     ensures refused { IfErr result (λ r. r ≢ refusal_of NoMemory → systems_from perform (λ w. w) 0 rules.now world.now.world ≡ Err r) }
 {
     let workers = workers.min(MOST_WORKERS).min(rules.len());
-    if workers < 2 {
+    if workers < 2 || world.slots().len() < SHARED_SLOTS {
         return run_systems_alone(alloc, world, rules);
     }
     run_systems(rt, alloc, world, rules, workers, &OpenGate)
