@@ -8,7 +8,7 @@ ghost use Rattle.scene_app.specs.Phases.{with_phase, with_system};
 
 use scene_kinds::{Refusal, Schema};
 use scene_rules::{Phase, SystemRule as Rule};
-use scene_schedule::Schedule;
+use scene_schedule::{Schedule, clone_phases};
 use std::alloc::{AllocError, Global};
 use std::marker::Model;
 
@@ -26,17 +26,6 @@ impl Model for Phases {
     ghost Value = { List (List Data) };
 
     ghost view = { λ p. p.list.items };
-}
-
-/// Equal phases in the same order, or an error where no memory was found.
-fn clone_phases(alloc: Global, phases: &[Phase]) -> Result<Vec<Phase>, AllocError>
-    ensures { IfOk result (λ copies. copies.items ≡ phases.now) }
-{
-    let mut copies = Vec::new(alloc);
-    for phase in phases {
-        copies.push(phase.try_clone()?)?;
-    }
-    Ok(copies)
 }
 
 impl Phases {

@@ -26,6 +26,7 @@ Moves by PutChanged session before after = HasOneMore by session before (λ e. U
 Moves by PutAsItWas session before after = after ≡ before
 Moves by PutWanted session before after = after ≡ before
 
+-- a step by its four parts: whose, its kind, the words before and after
 abbrev pub step_of : ℕ → Kind → ℕ → ℕ → Step
 step_of session kind before after = record { session = session; kind = kind; before = before; after = after }
 

@@ -60,10 +60,11 @@ name index kind = record { entity = ent index; kind = kind }
 
 -- ---- row steps
 
--- a number, and a vector
+-- a number
 abbrev pub int : ℤ → Value
 int number = value.Int number
 
+-- a vector of three numbers
 abbrev pub vector : ℤ → ℤ → ℤ → Value
 vector x y z = value.Vec3 (x ∷ y ∷ z ∷ [])
 
@@ -79,23 +80,26 @@ row_of_four = record {
       ∷ [];
 }
 
--- the two steps
+-- a step that adds a vector
 abbrev pub add_vector : ℕ → ℕ → RowStep
 add_vector to by = AddVec to by
 
+-- a step that adds a number
 abbrev pub add_int : ℕ → ℤ → RowStep
 add_int to by = AddInt to by
 
--- the greatest number of 64 bits with sign, and what it is above 7
+-- the greatest number of 64 bits with sign
 abbrev pub greatest : ℤ
 greatest = pos 9223372036854775807
 
+-- how far it is above 7
 abbrev pub up_from_7 : ℤ
 up_from_7 = pos 9223372036854775800
 
--- what is made of the row of an entity, by its index
+-- what is made of the row of an entity, by its index: its values change
 abbrev pub changed : ℕ → Values → RowChange
 changed index values = record { entity = ent index; outcome = Changed values }
 
+-- the same: its step at a place overflows
 abbrev pub overflow : ℕ → ℕ → RowChange
 overflow index at = record { entity = ent index; outcome = Overflow at }

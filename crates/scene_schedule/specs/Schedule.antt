@@ -89,10 +89,11 @@ step_touches kind (Row (AddInt to by)) = nat_eq to kind
 step_touches kind (DespawnAtZero of) = nat_eq of kind
 step_touches kind s = false
 
--- a system writes a kind in one of its steps, or touches it in one
+-- a system writes a kind in one of its steps
 abbrev pub writes : SystemRule → ℕ → Bool
 writes rule kind = list_any (step_writes kind) rule.steps
 
+-- a system reads or writes a kind in one of its steps
 abbrev pub touches : SystemRule → ℕ → Bool
 touches rule kind = list_any (step_touches kind) rule.steps
 

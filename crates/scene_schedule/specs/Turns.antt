@@ -19,7 +19,7 @@ abbrev pub IsMade : World → ℕ → SystemRule → Made → Type 0
 IsMade w at rule (Ok made) = IsMadeOf w rule made.0 made.1.commands
 IsMade w at rule (Err r) = r ≢ refusal_of NoMemory → Overflows w at rule r
 
--- a system's turn with a worker: it is run where it is the worker's, and only there may it be left out
+-- a system's turn with a worker: where it is the worker's it is run, and only elsewhere may it be left out
 abbrev pub IsTurn : (workers worker : ℕ) → World → ℕ → SystemRule → Option Made → Type 0
 IsTurn workers worker w at rule None = at % workers ≢ worker
 IsTurn workers worker w at rule (Some made) = IsMade w at rule made

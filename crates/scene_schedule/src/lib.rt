@@ -39,5 +39,5 @@ pub use laws::{
 };
 pub use output::{PhaseOutput, RowChanges};
 pub use runner::{Alone, RunBy, run_shared};
-pub use schedule::{Schedule, same_schema};
+pub use schedule::{Schedule, clone_phases, same_schema};
 pub use schedule_phase::{run_phase, run_phase_alone};

@@ -66,8 +66,8 @@ fn schedule_fault(schema: &Schema, phases: &[Phase]) -> Option<Fault>
     first_clash(phases)
 }
 
-/// Equal phases in the same order, or an error where no memory was found.
-fn clone_phases(alloc: Global, phases: &[Phase]) -> Result<Vec<Phase>, AllocError>
+/// Equal phases in the same order, or an error where no memory was found. It costs the systems and their steps.
+pub fn clone_phases(alloc: Global, phases: &[Phase]) -> Result<Vec<Phase>, AllocError>
     ensures { IfOk result (λ copies. copies.items ≡ phases.now) }
 {
     let mut copies = Vec::new(alloc);
