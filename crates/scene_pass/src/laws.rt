@@ -47,16 +47,20 @@ pub fn worked_passes()
 pub fn worked_changes()
     ensures vector { change_of (add_vector 0 1 ∷ []) row_of_four ≡ changed 4 ((0, vector (pos 11) (pos 0) (pos 3)) ∷ []) }
     ensures twice { change_of (add_vector 0 1 ∷ add_vector 0 1 ∷ []) row_of_four ≡ changed 4 ((0, vector (pos 21) (negsuc 1) (pos 3)) ∷ []) }
-    ensures sees_the_last { change_of (add_vector 1 0 ∷ add_vector 0 1 ∷ []) row_of_four ≡ changed 4 ((0, vector (pos 12) (pos 2) (pos 6)) ∷ (1, vector (pos 11) (pos 0) (pos 3)) ∷ []) }
+    ensures sees_the_last { change_of (add_vector 1 0 ∷ add_vector 0 1 ∷ []) row_of_four
+        ≡ changed 4 ((0, vector (pos 12) (pos 2) (pos 6)) ∷ (1, vector (pos 11) (pos 0) (pos 3)) ∷ []) }
     ensures itself { change_of (add_vector 0 0 ∷ []) row_of_four ≡ changed 4 ((0, vector (pos 2) (pos 4) (pos 6)) ∷ []) }
-    ensures by_kind { change_of (add_int 2 (negsuc 7) ∷ add_vector 0 1 ∷ []) row_of_four ≡ changed 4 ((0, vector (pos 11) (pos 0) (pos 3)) ∷ (2, int (negsuc 0)) ∷ []) }
+    ensures by_kind { change_of (add_int 2 (negsuc 7) ∷ add_vector 0 1 ∷ []) row_of_four
+        ≡ changed 4 ((0, vector (pos 11) (pos 0) (pos 3)) ∷ (2, int (negsuc 0)) ∷ []) }
     ensures same_value { change_of (add_int 2 (pos 0) ∷ []) row_of_four ≡ changed 4 ((2, int (pos 7)) ∷ []) }
     ensures missing { change_of (add_int 5 (pos 1) ∷ add_vector 0 6 ∷ []) row_of_four ≡ changed 4 ((0, vector (pos 1) (pos 2) (pos 3)) ∷ []) }
     ensures no_steps { change_of [] row_of_four ≡ changed 4 [] }
     ensures fits { change_of (add_int 2 up_from_7 ∷ []) row_of_four ≡ changed 4 ((2, int greatest) ∷ []) }
     ensures overflow { change_of (add_vector 0 1 ∷ add_int 2 up_from_7 ∷ add_int 2 (pos 1) ∷ add_int 2 (pos 1) ∷ []) row_of_four ≡ overflow 4 2 }
-    ensures rows { changes three_tables (filter 1 0) (add_int 0 (pos 5) ∷ []) ≡ changed 2 ((0, int (pos 5)) ∷ []) ∷ changed 1 ((0, int (pos 5)) ∷ []) ∷ changed 0 ((0, int (pos 5)) ∷ []) ∷ [] }
-    ensures rows_of_both { changes three_tables (filter 3 0) (add_int 0 (negsuc 0) ∷ []) ≡ changed 1 ((0, int (negsuc 0)) ∷ []) ∷ changed 0 ((0, int (negsuc 0)) ∷ []) ∷ [] }
+    ensures rows { changes three_tables (filter 1 0) (add_int 0 (pos 5) ∷ [])
+        ≡ changed 2 ((0, int (pos 5)) ∷ []) ∷ changed 1 ((0, int (pos 5)) ∷ []) ∷ changed 0 ((0, int (pos 5)) ∷ []) ∷ [] }
+    ensures rows_of_both { changes three_tables (filter 3 0) (add_int 0 (negsuc 0) ∷ [])
+        ≡ changed 1 ((0, int (negsuc 0)) ∷ []) ∷ changed 0 ((0, int (negsuc 0)) ∷ []) ∷ [] }
     ensures no_rows { changes three_tables (filter 4 0) (add_int 0 (pos 5) ∷ []) ≡ [] }
     ensures no_fault { first_fault (changed 2 [] ∷ changed 1 [] ∷ []) ≡ None }
     ensures fault { first_fault (changed 2 [] ∷ overflow 1 3 ∷ overflow 0 2 ∷ []) ≡ Some (ent 1, 3) }

@@ -48,10 +48,12 @@ changes_of w rule = changes w rule.filter (row_steps rule.steps)
 abbrev pub writes_of_cells : Entity → List (ℕ × Value) → List Request
 writes_of_cells e cells = map (λ c. known (Insert e c.0 c.1)) cells
 
+-- the cells of what a row came to: none where a sum doesn't fit
 abbrev pub writes_of_outcome : Entity → RowOutcome → List Request
 writes_of_outcome e (Changed cells) = writes_of_cells e cells
 writes_of_outcome e (SumsOver at) = []
 
+-- the cells that a row's change writes
 abbrev pub writes_of_row : RowChange → List Request
 writes_of_row change = writes_of_outcome change.entity change.outcome
 
@@ -132,6 +134,7 @@ abbrev pub place_in : ℕ → Option Place → Option Place
 place_in phase None = None
 place_in phase (Some place) = Some (record place { phase = phase })
 
+-- a phase's outcome with its number in the refusal
 abbrev pub in_phase : {A S : Type 0} → ℕ → Outcome A S → Outcome A S
 in_phase phase (Ok p) = Ok p
 in_phase phase (Err r) = Err (record r { place = place_in phase r.place })

@@ -88,7 +88,8 @@ fn play_phase<S: Stage, P: PhaseRunner>(
     requires sound { IsSoundPhase (S.seen stage.old).world.schema rules.now }
     ensures played { IfOk result (λ es. in_phase number (phase (act S.note) (λ t. t.world) rules.now (S.seen stage.old))
         ≡ Ok (es.items, S.seen stage.new)) }
-    ensures refused { IfErr result (λ r. r ≢ refusal_of NoMemory → in_phase number (phase perform (λ w. w) rules.now (S.seen stage.old).world) ≡ Err r) }
+    ensures refused { IfErr result (λ r. r ≢ refusal_of NoMemory
+        → in_phase number (phase perform (λ w. w) rules.now (S.seen stage.old).world) ≡ Err r) }
     ensures schema { OnOk result ((S.seen stage.new).world.schema ≡ (S.seen stage.old).world.schema) }
     ensures opening { S.opening stage.new ≡ S.opening stage.old }
     ensures wide { IsWider (S.room stage.old) (S.room stage.new) }

@@ -64,7 +64,8 @@ fn push_despawns(
 
 /// Puts the spawn of an entity with copies of these components, and gives its local name.
 fn push_spawn(queue: &mut Queue, cells: &Components) -> Result<Target, Refusal>
-    ensures put { IfOk result (λ local. (queue.new.commands ≡ queue.old.commands ++ Spawn cells.now ∷ []) × (local ≡ New (spawns queue.old.commands))) }
+    ensures put { IfOk result (λ local. (queue.new.commands ≡ queue.old.commands ++ Spawn cells.now ∷ [])
+        × (local ≡ New (spawns queue.old.commands))) }
     ensures refused { IfErr result (λ r. r ≡ refusal_of NoMemory) }
 {
     let Ok(copy) = cells.try_clone() else {
@@ -78,7 +79,8 @@ fn push_spawn(queue: &mut Queue, cells: &Components) -> Result<Target, Refusal>
 
 /// Puts the child of a row.
 fn push_child(queue: &mut Queue, cells: &Components, parent: Entity) -> Result<(), Refusal>
-    ensures put { OnOk result (queue.new.commands ≡ queue.old.commands ++ Spawn cells.now ∷ SetParent (New (spawns queue.old.commands)) (Id parent) ∷ []) }
+    ensures put { OnOk result (queue.new.commands
+        ≡ queue.old.commands ++ Spawn cells.now ∷ SetParent (New (spawns queue.old.commands)) (Id parent) ∷ []) }
     ensures refused { IfErr result (λ r. r ≡ refusal_of NoMemory) }
 {
     let child = push_spawn(queue, cells)?;
@@ -121,7 +123,8 @@ fn push_step(
     step: &Step,
     changes: &[RowChange],
 ) -> Result<(), Refusal>
-    ensures put { OnOk result (queue.new.commands ≡ queue.old.commands ++ commands_after world.now.world (spawns queue.old.commands) (step.now ∷ []) changes.now) }
+    ensures put { OnOk result (queue.new.commands ≡ queue.old.commands
+        ++ commands_after world.now.world (spawns queue.old.commands) (step.now ∷ []) changes.now) }
     ensures refused { IfErr result (λ r. r ≡ refusal_of NoMemory) }
 {
     match step {

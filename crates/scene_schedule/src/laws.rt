@@ -54,6 +54,7 @@ pub fn worked_systems()
         ≡ Spawn [] ∷ SetParent (New 0) (Id (ent 1)) ∷ Spawn [] ∷ SetParent (New 1) (Id (ent 0))
         ∷ Spawn [] ∷ SetParent (New 2) (Id (ent 1)) ∷ Spawn [] ∷ SetParent (New 3) (Id (ent 0)) ∷ [] }
     ensures fits { first_overflow three_tables 0 (doing 1 (Row (AddInt 0 (pos 9223372036854775807)) ∷ []) ∷ []) ≡ None }
-    ensures overflow { first_overflow three_tables 0 (end_at_zero ∷ doing 1 (Row (AddInt 0 (pos 1)) ∷ Row (AddInt 0 (pos 9223372036854775807)) ∷ []) ∷ [])
+    ensures overflow { first_overflow three_tables 0
+        (end_at_zero ∷ doing 1 (Row (AddInt 0 (pos 1)) ∷ Row (AddInt 0 (pos 9223372036854775807)) ∷ []) ∷ [])
         ≡ Some (overflow_at 1 (ent 2, 1)) }
 {}
