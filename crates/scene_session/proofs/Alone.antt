@@ -59,15 +59,15 @@ module _ {E : Type 0} where
           let all = subst (All (λ x. by x < n)) is below in
           let front = All-left (λ x. by x < n) ((h ++ mid) ++ e ∷ []) later all in
           let before : (s : ℕ) → s < n → entries_of by s (h ++ mid) ≡ entries_of by s h = (λ s lt.
-              dite (ℕ_discrete (by e) s) (λ same. subst (λ k. entries_of by k (h ++ mid) ≡ entries_of by k h) same own)
-              (λ other. let rest = e ∷ [] ++ later in
-                  let both = sym (of-append s h (mid ++ rest)) ∙ ap (entries_of by s) (sym (is ∙ append_assoc (h ++ mid) (e ∷ []) later ∙ append_assoc h mid rest)) ∙ others s lt other in
-                  let none = added_none (entries_of by s h) (entries_of by s (mid ++ rest)) both in
-                  let mid_none = first_none (entries_of by s mid) (entries_of by s rest) (sym (of-append s mid rest) ∙ none) in
-                  of-append s h mid ∙ ap (λ l. entries_of by s h ++ l) mid_none ∙ append-nil (entries_of by s h))) in
+          dite (ℕ_discrete (by e) s) (λ same. subst (λ k. entries_of by k (h ++ mid) ≡ entries_of by k h) same own)
+          (λ other. let rest = e ∷ [] ++ later in
+          let both = sym (of-append s h (mid ++ rest)) ∙ ap (entries_of by s) (sym (is ∙ append_assoc (h ++ mid) (e ∷ []) later ∙ append_assoc h mid rest)) ∙ others s lt other in
+          let none = added_none (entries_of by s h) (entries_of by s (mid ++ rest)) both in
+          let mid_none = first_none (entries_of by s mid) (entries_of by s rest) (sym (of-append s mid rest) ∙ none) in
+          of-append s h mid ∙ ap (λ l. entries_of by s h ++ l) mid_none ∙ append-nil (entries_of by s h))) in
           let mid_is = nothing_more h mid (All-right (λ x. by x < n) h mid (All-left (λ x. by x < n) (h ++ mid) (e ∷ []) front)) before in
           let later_is = nothing_more ((h ++ mid) ++ e ∷ []) later (All-right (λ x. by x < n) ((h ++ mid) ++ e ∷ []) later all) (λ s lt.
-              ap (entries_of by s) (sym is) ∙ dite (ℕ_discrete (by e) s) (λ same. subst (λ k. entries_of by k whole ≡ entries_of by k ((h ++ mid) ++ e ∷ [])) same own')
-              (λ other. others s lt other ∙ sym (of-append s (h ++ mid) (e ∷ []) ∙ ap (λ l. entries_of by s (h ++ mid) ++ l) (of-other s e other)
-                  ∙ append-nil (entries_of by s (h ++ mid)) ∙ before s lt))) in
+          ap (entries_of by s) (sym is) ∙ dite (ℕ_discrete (by e) s) (λ same. subst (λ k. entries_of by k whole ≡ entries_of by k ((h ++ mid) ++ e ∷ [])) same own')
+          (λ other. others s lt other ∙ sym (of-append s (h ++ mid) (e ∷ []) ∙ ap (λ l. entries_of by s (h ++ mid) ++ l) (of-other s e other)
+          ∙ append-nil (entries_of by s (h ++ mid)) ∙ before s lt))) in
           is ∙ (λ i. ((h ++ mid_is i) ++ e ∷ []) ++ later_is i) ∙ append-nil ((h ++ []) ++ e ∷ []) ∙ ap (λ l. l ++ e ∷ []) (append-nil h)

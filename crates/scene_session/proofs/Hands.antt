@@ -56,10 +56,10 @@ module _ (lock : LockView Beginning) (pass after : P) (others : List P) (F : Lis
   of_others : (s : ℕ) → s < n → pass.session ≢ s → entries_of by_session s F ≡ entries_of by_session s pass.seen
   of_others s lt other = let found = all s lt in let q = found.0 in
       ⊎_elim (λ there.
-          let f = All-among (λ (q : P). Follows IsLegal by_session lock q (record q { seen = F })) others q
-              (All-left (λ (q : P). Follows IsLegal by_session lock q (record q { seen = F })) others (after ∷ []) met) there in
-          subst (λ k. entries_of by_session k F ≡ entries_of by_session k pass.seen) found.2
-              (f.1.1 ∙ ap (entries_of by_session q.session) (All-among (λ (q : P). q.seen ≡ pass.seen) others q together there)))
+      let f = All-among (λ (q : P). Follows IsLegal by_session lock q (record q { seen = F })) others q
+      (All-left (λ (q : P). Follows IsLegal by_session lock q (record q { seen = F })) others (after ∷ []) met) there in
+      subst (λ k. entries_of by_session k F ≡ entries_of by_session k pass.seen) found.2
+      (f.1.1 ∙ ap (entries_of by_session q.session) (All-among (λ (q : P). q.seen ≡ pass.seen) others q together there)))
       (λ same. absurd (other (ap (λ (x : P). x.session) (sym same) ∙ found.2))) (among-last others pass q found.1)
 
   -- what was entered, was entered right after what all had seen
@@ -68,9 +68,9 @@ module _ (lock : LockView Beginning) (pass after : P) (others : List P) (F : Lis
   done c d t = let u = t.1 in let e = u.1 in let h = pass.seen in let mid = u.2.0.0 in let later = follows.1.0.0 in
       let seen : after.seen ≡ (h ++ mid) ++ e ∷ [] = u.4 ∙ ap (λ l. l ++ e ∷ []) u.2.0.1 in
       let is : F ≡ h ++ e ∷ [] = between by_session n h mid later F e (follows.1.0.1 ∙ ap (λ l. l ++ later) seen) follows.2.1
-          (subst (λ k. entries_of by_session k (h ++ mid) ≡ entries_of by_session k h) (sym u.5) (ap (entries_of by_session pass.session) (sym u.2.0.1) ∙ u.2.1))
-          (subst (λ k. entries_of by_session k F ≡ entries_of by_session k ((h ++ mid) ++ e ∷ [])) (still.1 ∙ sym u.5) (follows.1.1 ∙ ap (entries_of by_session after.session) seen))
-          (λ s lt other. of_others s lt (λ same. other (u.5 ∙ same))) in
+      (subst (λ k. entries_of by_session k (h ++ mid) ≡ entries_of by_session k h) (sym u.5) (ap (entries_of by_session pass.session) (sym u.2.0.1) ∙ u.2.1))
+      (subst (λ k. entries_of by_session k F ≡ entries_of by_session k ((h ++ mid) ++ e ∷ [])) (still.1 ∙ sym u.5) (follows.1.1 ∙ ap (entries_of by_session after.session) seen))
+      (λ s lt other. of_others s lt (λ same. other (u.5 ∙ same))) in
       ((e, is, u.5, u.6.0, u.6.1), sym u.6.1 ∙ last_answer lock.terms.opening h F e follows.2.0 is ∙ ap (answer_after lock.terms.opening h) u.6.0)
 
   -- where the pass has entered nothing, all have seen just what they had seen
@@ -78,10 +78,10 @@ module _ (lock : LockView Beginning) (pass after : P) (others : List P) (F : Lis
   nothing_came f = let h = pass.seen in let mid = f.1.0.0 in let later = follows.1.0.0 in
       let is : F ≡ h ++ (mid ++ later) = follows.1.0.1 ∙ ap (λ l. l ++ later) f.1.0.1 ∙ append_assoc h mid later in
       let none = nothing_more by_session n h (mid ++ later) (All-right (λ (e : Entry). e.session < n) h (mid ++ later) (subst (All (λ (e : Entry). e.session < n)) is follows.2.1))
-          (λ s lt. ap (entries_of by_session s) (sym is) ∙ dite (ℕ_discrete pass.session s)
-              (λ same. subst (λ k. entries_of by_session k F ≡ entries_of by_session k h) same
-                  (subst (λ k. entries_of by_session k F ≡ entries_of by_session k after.seen) still.1 follows.1.1 ∙ f.1.1))
-              (λ other. of_others s lt other)) in (
+      (λ s lt. ap (entries_of by_session s) (sym is) ∙ dite (ℕ_discrete pass.session s)
+      (λ same. subst (λ k. entries_of by_session k F ≡ entries_of by_session k h) same
+      (subst (λ k. entries_of by_session k F ≡ entries_of by_session k after.seen) still.1 follows.1.1 ∙ f.1.1))
+      (λ other. of_others s lt other)) in (
         is ∙ ap (λ l. h ++ l) none ∙ append-nil h,
         f.1.0.1 ∙ ap (λ l. h ++ l) (first_none mid later none) ∙ append-nil h,
       )
@@ -94,14 +94,14 @@ module _ (lock : LockView Beginning) (pass after : P) (others : List P) (F : Lis
 
   stopped : (c : Call) (x : Stopped)
       → FollowsTo (λ (s : StateView). IsLegal s.opening s.history) (λ (s : StateView). s.opening) (λ (s : StateView). s.history) IsLegal by_session lock pass
-          (λ s. IsStopped s.opening s.history c x) after
+      (λ s. IsStopped s.opening s.history c x) after
       → (F ≡ pass.seen) × IsStopped lock.terms.opening pass.seen c x
   stopped c x t = ((nothing_came t.0).0, at_same (λ s. IsStopped s.opening s.history c x) t.0 t.1)
 
   -- a call through the pass is the only one
   pub only_call : (c : Call) (r : Result Reply Stopped) → IfOk r (λ d. Enters IsLegal by_session lock pass (IsEntryOf c d) after)
       → IfErr r (λ x. FollowsTo (λ (s : StateView). IsLegal s.opening s.history) (λ (s : StateView). s.opening) (λ (s : StateView). s.history) IsLegal by_session lock pass
-          (λ s. IsStopped s.opening s.history c x) after)
+      (λ s. IsStopped s.opening s.history c x) after)
       → IsOnlyCall lock.terms.opening pass.session c pass.seen r F
   only_call c (Ok d) t e = done c d t
   only_call c (Err x) t e = stopped c x e

@@ -19,6 +19,15 @@ pub enum Call {
     Redo,
 }
 
+/// Gives back the memory that queues have beyond what their commands need.
+fn shrink_each(queues: &mut [Queue])
+    ensures { queues.new ≡ queues.old }
+{
+    for queue in queues.iter_mut() {
+        queue.shrink_to_fit();
+    }
+}
+
 impl Call {
     /// The same call, whose lists take no more memory than their items need, since a history keeps it.
     pub(crate) fn shrunk(self) -> Call
@@ -26,6 +35,7 @@ impl Call {
     {
         match self {
             Call::Submit(mut queues) => {
+                shrink_each(queues.as_mut_slice());
                 queues.shrink_to_fit();
                 Call::Submit(queues)
             }

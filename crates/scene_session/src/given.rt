@@ -1,10 +1,29 @@
 //! The queries that are given.
 use crate::query::Query;
 use crate::state::State;
-use scene_kinds::Refusal;
-use scene_pass::{CellName, Filter, added_since, changed_since};
+use scene_kinds::{Refusal, Row};
+use scene_pass::{CellName, Filter, added_since, changed_since, rows};
 use scene_undo::Cursor;
-use std::alloc::Global;
+use std::alloc::{AllocError, Global};
+
+/// The rows that a filter matches, by ascending kind set, then by their places in the table (docs/MODEL.md, "The rule of
+/// queries"). The answer is a copy of them, or an error where no memory was found for it.
+#[derive(Clone, Copy)]
+pub struct RowsOf(pub Filter);
+
+impl Query for RowsOf {
+    type Answer = Result<Vec<Row>, AllocError>;
+
+    ghost use Rattle.std.specs.Prelude.{◌≡◌, IfOk};
+    ghost use Rattle.scene_pass.specs.Pass.{matching_rows};
+    ghost use Rattle.scene_session.specs.Queries.{machine_at};
+
+    ghost answers = { λ q s a. IfOk a (λ rows. rows.items ≡ matching_rows (machine_at s).now q.0) };
+
+    fn answer(&self, alloc: Global, state: &State) -> Result<Vec<Row>, AllocError> {
+        rows(alloc, state.editor().world(), self.0)
+    }
+}
 
 /// The cursor of now: how many undos there were, and the tick of the world (docs/MODEL.md, "The rule of queries"). It takes
 /// no memory.

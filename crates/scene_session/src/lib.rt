@@ -22,7 +22,7 @@ mod step;
 
 pub use call::{Call, Reply, Stopped};
 pub use entry::Entry;
-pub use given::{AddedSince, ChangedSince, CursorNow};
+pub use given::{AddedSince, ChangedSince, CursorNow, RowsOf};
 pub use hand::{ask_in_hand, perform_in_hand};
 pub use query::Query;
 pub use session::Session;

@@ -176,7 +176,11 @@ impl<'a> Session<'a> {
     ///
     /// Stopped where `submit` is, and by `Busy` where another session is inside or waits to change the state. Then nothing is
     /// entered, and the queues come back.
-    pub fn try_submit(self, alloc: Global, queues: Vec<Queue>) -> (Session<'a>, Result<Reply, Stopped>)
+    pub fn try_submit(
+        self,
+        alloc: Global,
+        queues: Vec<Queue>,
+    ) -> (Session<'a>, Result<Reply, Stopped>)
         requires { length queues.items ≤ 4294967295 }
         ensures same { IsSame self.entry result.0 }
         ensures performed { IfOk result.1 (λ r. Performed self.entry (Submit queues) (told r) result.0) }
@@ -190,7 +194,11 @@ impl<'a> Session<'a> {
     ///
     /// Stopped where `advance` is, and by `Busy` where another session is inside or waits to change the state. Then nothing is
     /// entered, and the schedule comes back.
-    pub fn try_advance(self, alloc: Global, schedule: Schedule) -> (Session<'a>, Result<Reply, Stopped>)
+    pub fn try_advance(
+        self,
+        alloc: Global,
+        schedule: Schedule,
+    ) -> (Session<'a>, Result<Reply, Stopped>)
         ensures same { IsSame self.entry result.0 }
         ensures performed { IfOk result.1 (λ r. Performed self.entry (Advance schedule) (told r) result.0) }
         ensures stopped { IfErr result.1 (λ x. NotPerformed self.entry (Advance schedule) x result.0
@@ -226,7 +234,12 @@ impl<'a> Session<'a> {
     /// The answer to a query, by a state that has all that this session has seen, once none changes it. So a session reads what
     /// it has written (docs/SESSIONS.md, "What it has seen"). Queries of other sessions may be answered at the same time. It
     /// takes no memory but what the query takes.
-    pub fn ask<Q: Query, R: Wait>(self, rt: &R, alloc: Global, query: &Q) -> (Session<'a>, Q::Answer)
+    pub fn ask<Q: Query, R: Wait>(
+        self,
+        rt: &R,
+        alloc: Global,
+        query: &Q,
+    ) -> (Session<'a>, Q::Answer)
         ensures same { IsSame self.entry result.0 }
         ensures more { SeesMore self.entry result.0 }
         ensures answer { Q.answers query.now (state_seen result.0) result.1 }

@@ -16,7 +16,7 @@ returns-clause-only g c =
     let all = subst (All (λ (q : PassView Entry Beginning). Follows IsLegal by_session lock q (record q { seen = h }))) c.push_reserved.ensures.items met.2 in (
       after.steps,
       met.1 ∙ ap (all_seen h) c.push_reserved.ensures.items ∙ passes_met lock h others pass after c.requires.lock.0 c.read-pass.ensures.pass.0
-      ∙ ap (λ l. passes_after l after.steps others pass)
+          ∙ ap (λ l. passes_after l after.steps others pass)
           (nothing_came lock pass after others h all c.requires.together c.requires.all c.read-pass.ensures.pass.0 c.read-pass.ensures.pass).0,
     )
 
@@ -26,4 +26,4 @@ returns-clause-answer g c =
     let met = c.meet_all-passes.ensures.met in let h = met.0 in
     let all = subst (All (λ (q : PassView Entry Beginning). Follows IsLegal by_session lock q (record q { seen = h }))) c.push_reserved.ensures.items met.2 in
     at_same lock pass after others h all c.requires.together c.requires.all c.read-pass.ensures.pass.0 (λ (s : StateView). g.Q.Query.answers c.args.query.now s c.read-pass.result.1)
-        c.read-pass.ensures.pass c.read-pass.ensures.answer
+    c.read-pass.ensures.pass c.read-pass.ensures.answer
