@@ -1,5 +1,6 @@
 //! A job of a session: what changes the state, or is stopped.
 ghost use Rattle.std.specs.Prelude.{◌≡◌, ℕ, IfOk, IfErr};
+ghost use Rattle.std.specs.Thread.{IsSync};
 ghost use Rattle.scene_lock.specs.History.{HasOneMore};
 
 use crate::kept::Kept;
@@ -31,6 +32,7 @@ pub trait Change<S: Kept>: Sized {
 
     /// The same, for a caller that may start threads and wait for them. `WordLock::write` runs it. Without a body of its own it
     /// is `change`.
+    // An `impl` knows the bound `Sync` by its clause alone.
     fn change_with<R: Threads + Wait + Sync>(
         self,
         _rt: &R,
@@ -38,7 +40,8 @@ pub trait Change<S: Kept>: Sized {
         state: &mut S,
         session: u32,
     ) -> Result<Self::Done, Self::Stopped>
-        requires { S.good state.old }
+        requires good { S.good state.old }
+        requires sync { IsSync R.row }
         ensures good { S.good state.new × (S.opening state.new ≡ S.opening state.old) }
         ensures done { IfOk result (λ d. HasOneMore S.session session (S.entries state.old) (λ e. enters self session d e) (S.entries state.new)) }
         ensures stopped { IfErr result (λ x. (S.entries state.new ≡ S.entries state.old) × stops self state.old x) }

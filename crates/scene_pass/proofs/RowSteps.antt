@@ -64,3 +64,9 @@ pub entities_joined : {X : Type 0} (f : X → List Row) (xs : List X) → flat_m
 entities_joined f [] = refl
 entities_joined f (x ∷ xs) =
     ap (λ es. map (λ (row : Row). row.entity) (f x) ++ es) (entities_joined f xs) ∙ sym (map-append (λ (row : Row). row.entity) (f x) (flat_map f xs))
+
+-- one more element of a list is taken over
+pub taken_over : {X : Type 0} (xs : List X) (at : ℕ) (x : X) (old new all : List X) → slice_get xs at ≡ Some x → new ≡ old ++ x ∷ [] → old ++ drop at xs ≡ all → new ++ drop (at + 1) xs ≡ all
+taken_over xs at x old new all there pushed before =
+    let rest = drop (at + 1) xs in
+    ap (λ ys. ys ++ rest) pushed ∙ append_assoc old (x ∷ []) rest ∙ ap (λ ys. old ++ ys) (sym (drop_at (λ l. l) xs at x there)) ∙ before

@@ -1,7 +1,7 @@
 //! Passes over a world: calls that read the rows of the archetypes that a filter matches, and change nothing.
 //!
-//! A `Filter` says which kind sets match. `matching` lists the entities of the matching rows; `changed_since` and
-//! `added_since` list the cells of those rows that were changed or added after a tick. Rows come by ascending kind
+//! A `Filter` says which kind sets match. `matching` lists the entities of the matching rows, and `rows` copies the rows;
+//! `changed_since` and `added_since` list the cells of those rows that were changed or added after a tick. Rows come by ascending kind
 //! set, and in a table by place; the cells of a row by kind. A pass costs the number of kind sets times its logarithm,
 //! and the matching rows, or their cells where it lists cells.
 //!
@@ -22,6 +22,7 @@ mod entities;
 mod fault;
 mod laws;
 mod row_change;
+mod row_copies;
 mod row_in_place;
 mod sums;
 mod tables;
@@ -34,6 +35,7 @@ pub use entities::matching;
 pub use fault::first_fault;
 pub use laws::{passes_list_just_what_matches, worked_changes, worked_passes};
 pub use row_change::{Outcome, RowChange};
+pub use row_copies::rows;
 pub use scene_rules::{Filter, RowStep};
 
 #[cfg(test)]

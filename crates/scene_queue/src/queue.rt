@@ -113,6 +113,27 @@ fn clone_commands(alloc: Global, commands: &[Command]) -> Result<Vec<Command>, A
     Ok(copies)
 }
 
+/// Gives back the memory that a command's list of components has beyond what these need.
+fn shrink(alloc: Global, command: &mut Command)
+    ensures { command.new ≡ command.old }
+{
+    if let Command::Spawn(components) = command {
+        let nothing = Components::from(Vec::new(alloc));
+        let mut cells = std::mem::replace(components, nothing).into_vec();
+        cells.shrink_to_fit();
+        *components = Components::from(cells);
+    }
+}
+
+/// The same of each command of a list.
+fn shrink_each(alloc: Global, commands: &mut [Command])
+    ensures { commands.new ≡ commands.old }
+{
+    for command in commands.iter_mut() {
+        shrink(alloc, command);
+    }
+}
+
 impl Queue {
     /// A queue without commands, which takes at most 67,108,864. It takes no memory.
     pub fn new(alloc: Global) -> Queue
@@ -182,6 +203,15 @@ impl Queue {
                 value: components,
             }),
         }
+    }
+
+    /// Gives back the memory that the queue has beyond what its commands and their components need: for a queue that is to be
+    /// kept. The commands stay as they are. It has no error, and may cost a move of them.
+    pub fn shrink_to_fit(&mut self)
+        ensures { self.new ≡ self.old }
+    {
+        shrink_each(self.alloc, self.commands.as_mut_slice());
+        self.commands.shrink_to_fit();
     }
 
     /// An equal queue, or an error where no memory was found. It costs the commands.

@@ -18,7 +18,8 @@ use std::marker::Model;
 #[derive(Drop, Debug)]
 pub struct Schedule {
     alloc: Global,
-    schema: Schema,
+    /// In a box, since a call that advances is kept in a history beside calls that need less room.
+    schema: Box<Schema>,
     phases: Vec<Phase>,
 }
 
@@ -27,9 +28,9 @@ impl Model for Schedule {
 
     ghost Value = { ScheduleState };
 
-    ghost view = { λ s. record { schema = s.schema; phases = s.phases.items } };
+    ghost view = { λ s. record { schema = s.schema.value; phases = s.phases.items } };
 
-    ghost invariant = { λ s. IsSchedule (record { schema = s.schema; phases = s.phases.items }) };
+    ghost invariant = { λ s. IsSchedule (record { schema = s.schema.value; phases = s.phases.items }) };
 }
 
 /// Whether a kind has the same name and shape in both schemas, or is in neither.
@@ -94,7 +95,7 @@ impl Schedule {
             Some(fault) => Err(Refusal::from(fault)),
             None => Ok(Schedule {
                 alloc,
-                schema: schema.try_clone()?,
+                schema: Box::new(alloc, schema.try_clone()?)?,
                 phases,
             }),
         }
@@ -104,7 +105,7 @@ impl Schedule {
     pub fn is_for(&self, schema: &Schema) -> bool
         ensures { IsTrue result ↔ (self.now.schema ≡ schema.now) }
     {
-        same_schema(&self.schema, schema)
+        same_schema(&*self.schema, schema)
     }
 
     /// The phases, first to last, and what always holds of them.
@@ -119,7 +120,7 @@ impl Schedule {
     pub fn schema(&self) -> &Schema
         ensures { result.now ≡ self.now.schema }
     {
-        &self.schema
+        &*self.schema
     }
 
     /// An equal schedule, or an error where no memory was found.
@@ -128,7 +129,7 @@ impl Schedule {
     {
         Ok(Schedule {
             alloc: self.alloc,
-            schema: self.schema.try_clone()?,
+            schema: Box::new(self.alloc, self.schema.try_clone()?)?,
             phases: clone_phases(self.alloc, self.phases.as_slice())?,
         })
     }

@@ -1,0 +1,7 @@
+pub mod History
+pub mod Calls
+pub mod Whole
+pub mod State
+pub mod Queries
+pub mod Session
+pub mod Hand
