@@ -37,6 +37,3 @@ pub use laws::{passes_list_just_what_matches, worked_changes, worked_passes};
 pub use row_change::{Outcome, RowChange};
 pub use row_copies::rows;
 pub use scene_rules::{Filter, RowStep};
-
-#[cfg(test)]
-mod tests;

@@ -1,6 +1,6 @@
 //! Row steps where they succeed: over vectors, over more rows than a thread gets alone, and over sums that don't fit.
-use crate::{Filter, Outcome, RowChange, RowStep, first_fault, map_rows, map_rows_alone};
 use scene_kinds::{Entity, Refusal, Schema, Shape, Value};
+use scene_pass::{Filter, Outcome, RowChange, RowStep, first_fault, map_rows, map_rows_alone};
 use scene_world::World;
 use std::alloc::Global;
 use std::test::Fail;
