@@ -46,8 +46,13 @@ impl<S: Kept> WordLock<S> {
         requires out { Carries seat.me.1 }
         requires holds { (seat.me.0.holding ≡ true) × (seat.me.0.members ≡ member number (seen_of seat.me.0.members) (made_by seat.me.0.members) ∷ []) }
         ensures state { seat.me.1 ≡ (0, Some result.0) ∷ [] }
-        ensures holder { result.1 ≡ record { id = self.now.id; terms = seat.me.0.terms; session = number;
-            seen = seen_of seat.me.0.members; steps = made_by seat.me.0.members } }
+        ensures holder { result.1 ≡ record {
+          id = self.now.id;
+          terms = seat.me.0.terms;
+          session = number;
+          seen = seen_of seat.me.0.members;
+          steps = made_by seat.me.0.members;
+        } }
     {
         let mut seat = seat;
         let state = self.table.shared.exchange(&mut seat, 0, None).unwrap();
@@ -115,8 +120,10 @@ impl<S: Kept> WordLock<S> {
         requires lock { IsPassOf self.now holder }
         requires good { IsStateOf S.good S.opening self.now.terms.opening (arc_value state) }
         requires moved { Moves S.session PutChanged holder.session holder.seen (S.entries (arc_value state)) }
-        ensures pass { result ≡ record holder { seen = S.entries (arc_value state);
-            steps = holder.steps ++ step_of holder.session PutChanged 1 0 ∷ [] } }
+        ensures pass { result ≡ record holder {
+          seen = S.entries (arc_value state);
+          steps = holder.steps ++ step_of holder.session PutChanged 1 0 ∷ [];
+        } }
         ensures legal { IsLegal S.legal S.session self.now.terms (S.entries (arc_value state)) }
     {
         let (mut seat, number) = self.fill(holder, state);
@@ -129,8 +136,10 @@ impl<S: Kept> WordLock<S> {
         requires lock { IsPassOf self.now holder }
         requires good { IsStateOf S.good S.opening self.now.terms.opening (arc_value state) }
         requires moved { Moves S.session PutAsItWas holder.session holder.seen (S.entries (arc_value state)) }
-        ensures pass { result ≡ record holder { seen = S.entries (arc_value state);
-            steps = holder.steps ++ step_of holder.session PutAsItWas 1 0 ∷ [] } }
+        ensures pass { result ≡ record holder {
+          seen = S.entries (arc_value state);
+          steps = holder.steps ++ step_of holder.session PutAsItWas 1 0 ∷ [];
+        } }
         ensures legal { IsLegal S.legal S.session self.now.terms (S.entries (arc_value state)) }
     {
         let (mut seat, number) = self.fill(holder, state);
@@ -143,8 +152,10 @@ impl<S: Kept> WordLock<S> {
         requires lock { IsPassOf self.now holder }
         requires good { IsStateOf S.good S.opening self.now.terms.opening (arc_value state) }
         requires moved { Moves S.session PutWanted holder.session holder.seen (S.entries (arc_value state)) }
-        ensures pass { result ≡ record holder { seen = S.entries (arc_value state);
-            steps = holder.steps ++ step_of holder.session PutWanted 1 2 ∷ [] } }
+        ensures pass { result ≡ record holder {
+          seen = S.entries (arc_value state);
+          steps = holder.steps ++ step_of holder.session PutWanted 1 2 ∷ [];
+        } }
         ensures legal { IsLegal S.legal S.session self.now.terms (S.entries (arc_value state)) }
     {
         let (mut seat, number) = self.fill(holder, state);

@@ -66,8 +66,10 @@ impl<S: Kept> WordLock<S> {
         requires lock { IsPassOf self.now holder }
         requires good { IsStateOf S.good S.opening self.now.terms.opening (arc_value state) }
         requires moved { Moves S.session (put_after reply.now) holder.session holder.seen (S.entries (arc_value state)) }
-        ensures pass { result ≡ record holder { seen = S.entries (arc_value state);
-            steps = holder.steps ++ step_of holder.session (put_after reply.now) 1 0 ∷ [] } }
+        ensures pass { result ≡ record holder {
+          seen = S.entries (arc_value state);
+          steps = holder.steps ++ step_of holder.session (put_after reply.now) 1 0 ∷ [];
+        } }
         ensures legal { IsLegal S.legal S.session self.now.terms (S.entries (arc_value state)) }
     {
         match reply {
