@@ -44,9 +44,15 @@ fn a_history_is_read_and_played_again(rt: HostRuntime) -> Result<(), Fail> {
         assert!(rt; tell_the_same(&entry.reply, &other.reply));
     }
     let (one, other) = (state.editor(), again.editor());
-    assert_eq!(rt; (one.undo_len(), one.redo_len()), (other.undo_len(), other.redo_len()));
+    assert_eq!(rt;
+        (one.undo_len(), one.redo_len()),
+        (other.undo_len(), other.redo_len())
+    );
     assert_eq!(rt; one.cursor(), other.cursor());
-    let (live, others) = (matching(alloc, one.world(), ALL)?, matching(alloc, other.world(), ALL)?);
+    let (live, others) = (
+        matching(alloc, one.world(), ALL)?,
+        matching(alloc, other.world(), ALL)?,
+    );
     assert_eq!(rt; live.as_slice(), others.as_slice());
     Ok(())
 }
