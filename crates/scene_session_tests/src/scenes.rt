@@ -1,0 +1,61 @@
+//! Small states and frames.
+ghost use Rattle.std.specs.Prelude.{◌≡◌, ◌≤◌, [], IfOk, length};
+ghost use Rattle.scene_session.specs.State.{IsLegal};
+
+use scene_commands::{Command, Components};
+use scene_kinds::{Refusal, Schema, Shape, Value};
+use scene_pass::Filter;
+use scene_queue::Queue;
+use scene_schedule::Schedule;
+use scene_session::State;
+use scene_undo::Editor;
+use scene_world::World;
+use std::alloc::Global;
+
+/// Every row.
+pub const ALL: Filter = Filter {
+    need: 0,
+    without: 0,
+};
+
+/// The one kind A, of whole numbers.
+fn one_kind(alloc: Global) -> Result<Schema, Refusal> {
+    let mut schema = Schema::new(alloc);
+    schema.add("A".to_string(alloc)?, Shape::Int)?;
+    Ok(schema)
+}
+
+/// A schedule of no phases for that kind.
+pub fn empty_schedule(alloc: Global) -> Result<Schedule, Refusal> {
+    let schema = one_kind(alloc)?;
+    Schedule::new(alloc, &schema, Vec::new(alloc))
+}
+
+/// A state of a world with that kind and no entities, with no history so far.
+pub fn empty_state(alloc: Global, limit: u32) -> Result<State, Refusal>
+    requires { (1 ≤ limit) × (limit ≤ 1048576) }
+    ensures legal { IfOk result (λ s. IsLegal s.opening s.history) }
+    ensures empty { IfOk result (λ s. s.history ≡ []) }
+{
+    let world = World::new(alloc, one_kind(alloc)?, 1024);
+    Ok(State::new(alloc, Editor::new(alloc, world), limit))
+}
+
+/// A queue that spawns an entity with a number.
+fn spawn(alloc: Global, number: i64) -> Result<Queue, Refusal> {
+    let mut cells = Vec::new(alloc);
+    cells.push((0, Value::Int(number)))?;
+    let mut queue = Queue::new(alloc);
+    queue.push(Command::Spawn(Components::from(cells)))?;
+    Ok(queue)
+}
+
+/// The queues of a frame that spawns an entity with a number.
+pub fn spawning(alloc: Global, number: i64) -> Result<Vec<Queue>, Refusal>
+    ensures { IfOk result (λ queues. length queues.items ≡ 1) }
+{
+    let queue = spawn(alloc, number)?;
+    let mut queues = Vec::new(alloc);
+    queues.push(queue)?;
+    Ok(queues)
+}
