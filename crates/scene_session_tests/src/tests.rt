@@ -3,7 +3,6 @@ use super::*;
 use scene_commands::Command;
 use scene_kinds::{Entity, Fault, Value};
 use scene_lock::WordLock;
-use scene_pass::matching;
 use scene_queue::Queue;
 use scene_session::{Call, CursorNow, Entry, Reply, Session};
 use std::mem::size_of;
@@ -23,37 +22,6 @@ fn a_full_history_stops_calls(rt: HostRuntime) -> Result<(), Fail> {
         }
     }
     assert_eq!(rt; state.history().len(), 2);
-    Ok(())
-}
-
-#[test]
-fn a_history_is_read_and_played_again(rt: HostRuntime) -> Result<(), Fail> {
-    let alloc = rt.alloc();
-    let mut state = empty_state(alloc, 9)?;
-    let _done = state.perform(0, Call::Submit(spawning(alloc, 1)?));
-    let _done = state.perform(1, Call::Submit(spawning(alloc, 2)?));
-    let _done = state.perform(0, Call::Undo);
-    let _done = state.perform(1, Call::Advance(empty_schedule(alloc)?));
-    let _done = state.perform(1, Call::Redo);
-    let mut again = empty_state(alloc, 9)?;
-    play_again(alloc, state.history(), &mut again)?;
-
-    assert_eq!(rt; (state.history().len(), again.history().len()), (5, 5));
-    for (entry, other) in state.history().iter().zip(again.history()) {
-        assert_eq!(rt; entry.session, other.session);
-        assert!(rt; tell_the_same(&entry.reply, &other.reply));
-    }
-    let (one, other) = (state.editor(), again.editor());
-    assert_eq!(rt;
-        (one.undo_len(), one.redo_len()),
-        (other.undo_len(), other.redo_len())
-    );
-    assert_eq!(rt; one.cursor(), other.cursor());
-    let (live, others) = (
-        matching(alloc, one.world(), ALL)?,
-        matching(alloc, other.world(), ALL)?,
-    );
-    assert_eq!(rt; live.as_slice(), others.as_slice());
     Ok(())
 }
 
@@ -96,32 +64,6 @@ fn two_sessions_share_a_state(rt: HostRuntime) -> Result<(), Fail> {
         (state.editor().rewinds(), state.editor().world().tick()),
         (2, 2)
     );
-    Ok(())
-}
-
-#[test]
-fn eight_threads_enter_one_history(rt: HostRuntime) -> Result<(), Fail> {
-    let alloc = rt.alloc();
-    let (lock, passes) = WordLock::new(alloc, empty_state(alloc, 1000)?, 8)?;
-    let mut met = Vec::new(alloc);
-    for (pass, listed) in submit_all(&rt, alloc, &lock, passes, 100)? {
-        assert!(rt; listed);
-        met.push(pass)?;
-    }
-    let mut met = lock.meet_all(met);
-    let state = lock
-        .finish(met.pop().expect(&rt, "a pass"))
-        .expect(&rt, "the state, once all have ended");
-    assert_eq!(rt; state.history().len(), 800);
-    assert_eq!(rt; state.editor().world().tick(), 800);
-    for session in 0..8u32 {
-        let count = state
-            .history()
-            .iter()
-            .filter(|entry| entry.session == session)
-            .count();
-        assert_eq!(rt; count, 100);
-    }
     Ok(())
 }
 
