@@ -1,0 +1,3 @@
+pub mod GoesOn
+pub mod Laws
+pub mod Order
