@@ -14,6 +14,7 @@ use scene_command_line::{Asked, mistake_in, read_words};
 use scene_streams::{Sink, Source};
 use std::io::ErrorKind;
 use std::process::ExitCode;
+use std::sync::Wait;
 use std::thread::Threads;
 use std::{env, io};
 
@@ -35,7 +36,7 @@ fn tell_bad_lines(rt: &HostRuntime, end: &RunEnd) -> io::Result<()> {
 }
 
 /// Plays the script on standard input, with so many workers for an advance.
-fn run(rt: &HostRuntime, threads: &(impl Threads + Sync), workers: u8) -> Ending {
+fn run(rt: &HostRuntime, threads: &(impl Threads + Wait + Sync), workers: u8) -> Ending {
     let mut source = Source::new(rt.stdin());
     let mut sink = Sink::new(rt.stdout());
     match run_script(
@@ -83,7 +84,7 @@ fn help(rt: &HostRuntime, text: &str) -> Ending {
 }
 
 /// Does what the command line asks for.
-fn end(rt: &HostRuntime, threads: &(impl Threads + Sync)) -> Ending {
+fn end(rt: &HostRuntime, threads: &(impl Threads + Wait + Sync)) -> Ending {
     let words = match words_given(rt) {
         Ok(words) => words,
         Err(error) if error.kind() == ErrorKind::OutOfMemory => {

@@ -1,5 +1,5 @@
 -- A line that is played, and then the others.
-use Rattle.std.proofs.Common.{◌≡◌, ℕ, ◌+◌, ◌≤◌, List, [], ◌∷◌, ◌++◌, Option, Some, None, Result, Ok, Err, OnOk, refl, sym, ap, ◌∙◌, arith}
+use Rattle.std.proofs.Common.{◌≡◌, ℕ, ◌+◌, ◌≤◌, List, [], ◌∷◌, ◌++◌, Option, Some, None, Result, Ok, Err, IfOk, OnOk, is_ok, if◌then◌else◌, refl, sym, ap, ◌∙◌, arith}
 use Rattle.std.proofs.lemmas.List.{append_assoc, length-append}
 use Rattle.scene_app.specs.declared.play_state.PlayState.{PlayState}
 use Rattle.scene_script.specs.declared.script_line.Line.{Line}
@@ -13,6 +13,7 @@ use Rattle.scene_kinds.specs.declared.fault.Fault.{Fault}
 use Rattle.scene_schedule.specs.Schedule.{schedule_fault}
 use Rattle.scene_app.specs.Play.{with_frame, advance_by, lone_reply, line_reply, queued_reply, frame_reply, reply_within, Reply, Printed, said_reply, reports_at, then_rest, run_from}
 use Rattle.scene_app.specs.Reports.{Tally}
+use Rattle.scene_hand.specs.Hand.{HandState}
 use Rattle.scene_app.specs.Steps.{LinePlayed, Prints, noted}
 use Rattle.scene_app.proofs.ReportLaws.{noted-append}
 use Rattle.scene_script.specs.Script.{line_in}
@@ -27,25 +28,37 @@ pub both : {A E P Q R : Type 0} (r : Result A E) → (P → Q → R) → OnOk r 
 both (Ok a) f p q = f p q
 both (Err e) f p q = tt
 
+-- and from what holds of the value of a success
+pub mapped_value : {A E : Type 0} (P Q : A → Type 0) (r : Result A E) → ((a : A) → P a → Q a) → IfOk r P → IfOk r Q
+mapped_value P Q (Ok a) f h = f a h
+mapped_value P Q (Err e) f h = tt
+
+-- a text that was added where that succeeded
+pub pushed : {A E : Type 0} (r : Result A E) (old new text wanted : List ℕ) → new ≡ (if is_ok r then old ++ text else old) → text ≡ wanted
+    → OnOk r (new ≡ old ++ wanted)
+pushed (Ok a) old new text wanted is same = is ∙ ap (λ t. old ++ t) same
+pushed (Err e) old new text wanted is same = tt
+
 -- a line that is played, and then the rest from its state
-pub printed_more : (a b c : List ℕ) (r s t : Tally) (number : ℕ) (reply : Reply) (rest : PlayState → Printed) (after : PlayState)
-    → LinePlayed a b r s after number reply → Prints b c s t (rest after) → Prints a c r t (then_rest number reply rest)
-printed_more a b c r s t number reply rest after line others =
+pub printed_more : (a b c : List ℕ) (r s t : Tally) (hand : HandState) (number : ℕ) (reply : Reply) (rest : PlayState → Printed) (after : PlayState)
+    → LinePlayed a b r s after number reply → Prints b c s t hand (rest after) → Prints a c r t hand (then_rest number reply rest)
+printed_more a b c r s t hand number reply rest after line others =
     let text : (rest after).text ≡ (rest reply.state).text = ap (λ z. (rest z).text) line.2 in
     let bad : (rest after).bad ≡ (rest reply.state).bad = ap (λ z. (rest z).bad) line.2 in (
       cc (append_assoc a reply.text (rest reply.state).text, line.0, text, others.0),
       cc (noted-append r (reports_at number reply.bad) (rest reply.state).bad, line.1, bad, others.1),
+      others.2 ∙ ap (λ z. (rest z).hand) line.2,
     )
 
 -- a line that is played leaves the run to the lines after it
 pub line_played : (before after : PlayState) (number : ℕ) (line : List ℕ) (others : List (List ℕ)) (old new : List ℕ) (r s : Tally)
-    → LinePlayed old new r s after number (said_reply before (line_in before.machine.now.schema line))
+    → LinePlayed old new r s after number (said_reply before (line_in before.schema line))
     → (new ++ (run_from (number + 1) after others).text ≡ old ++ (run_from number before (line ∷ others)).text)
     × (noted s (run_from (number + 1) after others).bad ≡ noted r (run_from number before (line ∷ others)).bad)
+    × ((run_from (number + 1) after others).hand ≡ (run_from number before (line ∷ others)).hand)
 line_played before after number line others old new r s h =
     let rest : PlayState → Printed = λ t. run_from (number + 1) t others in
-    let more = printed_more old new (new ++ (rest after).text) r s (noted s (rest after).bad) number (said_reply before (line_in before.machine.now.schema line)) rest after h (refl, refl) in
-    more
+    printed_more old new (new ++ (rest after).text) r s (noted s (rest after).bad) (rest after).hand number (said_reply before (line_in before.schema line)) rest after h (refl, refl, refl)
 
 -- where no frame is open, the reply is the one outside a frame
 pub alone_within : (s : PlayState) (f : Option Opened) (line : Line) → s.frame ≡ None → f ≡ None
@@ -65,7 +78,7 @@ count_advance s (Some fault) none = let e : queue_count s.frame ≡ 0 = ap queue
 
 count_within : (s : PlayState) (line : Line) (f : Option Opened) → s.frame ≡ f → queue_count (reply_within s line f).state.frame ≤ queue_count f + 1
 count_within s Begin None none = omega arith
-count_within s Advance None none = count_advance s (schedule_fault s.machine.now.schema s.phases) none
+count_within s Advance None none = count_advance s (schedule_fault s.schema s.phases) none
 count_within s line None none = let e : queue_count s.frame ≡ 0 = ap queue_count none in omega (arith, e)
 count_within s (Do command) (Some f) some = count_queued s f command (push_of f.last command tt)
 count_within s Queue (Some f) some = omega (arith, length-append f.complete (f.last ∷ []))

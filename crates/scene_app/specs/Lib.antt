@@ -1,10 +1,10 @@
 pub mod Checked
 pub mod Fault
 pub mod FileFaultText
-pub mod MachineCode
 pub mod OpenFrame
 pub mod Phases
 pub mod Play
+pub mod Questions
 pub mod Reports
 pub mod SetupSteps
 pub mod Steps

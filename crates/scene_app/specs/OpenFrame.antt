@@ -1,10 +1,8 @@
 -- A frame that a script has opened.
 use Rattle.std.specs.Prelude.{ℕ, ◌+◌, List, [], ◌∷◌, ◌++◌, Option, Some, None, Ok, Err, length}
 use Rattle.scene_kinds.specs.Answers.{Outcome}
-use Rattle.scene_machine.specs.Queue.{Request}
 use Rattle.scene_commands.specs.declared.command.Command.{Command}
 use Rattle.scene_queue.specs.Queue.{QueueState, usual_limit, empty_queue, push_of}
-use Rattle.scene_queue.specs.Requests.{requests}
 
 -- the queues that are complete, and the last one, into which commands go
 pub record Opened : Type 0 where
@@ -38,5 +36,5 @@ queue_count None = 0
 queue_count (Some f) = length f.complete + 1
 
 -- the queues of a frame of one command
-abbrev pub alone : Command → List (List Request)
-alone command = requests (command ∷ []) ∷ []
+abbrev pub alone : Command → List QueueState
+alone command = record { limit = 1; commands = command ∷ [] } ∷ []

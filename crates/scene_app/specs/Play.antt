@@ -1,6 +1,6 @@
--- A script as a function of its lines: the setup, the machine of saved worlds line by line, the printed text, and the bad lines
--- with their reasons.
-use Rattle.std.specs.Prelude.{ℕ, ◌+◌, List, [], ◌∷◌, ◌++◌, Option, Some, None, Result, Ok, Err, option_map, codes, decimal}
+-- A script as a function of its lines: the setup, the calls on the machine of saved worlds line by line, the printed text, and the
+-- bad lines with their reasons.
+use Rattle.std.specs.Prelude.{ℕ, ◌+◌, List, [], ◌∷◌, ◌++◌, length, Option, Some, None, Result, Ok, Err, option_map, codes, decimal}
 use Rattle.std.specs.Str.Lines.{lines}
 use Rattle.scene_kinds.specs.declared.entity.Entity.{Entity}
 use Rattle.scene_kinds.specs.declared.fault.Fault.{Fault}
@@ -10,11 +10,9 @@ use Rattle.scene_kinds.specs.declared.shape.Shape.{Shape}
 use Rattle.scene_kinds.specs.Answers.{Outcome, refusal_of}
 use Rattle.scene_kinds.specs.Schema.{Kinds, with_kind}
 use Rattle.scene_model.specs.World.{World, new_world, row_of}
-use Rattle.scene_model.specs.Perform.{perform}
-use Rattle.scene_machine.specs.Machine.{Machine, opening}
-use Rattle.scene_machine.specs.Queue.{Request}
-use Rattle.scene_machine.specs.Frame.{Submit, Advance as AdvanceCall, Undo as UndoCall, Redo as RedoCall, Reply as Answer, step}
-use Rattle.scene_queue.specs.Frames.{frame_of}
+use Rattle.scene_machine.specs.Machine.{opening}
+use Rattle.scene_session.specs.Calls.{Answer, Asked, Done, Undone, Redone, Refused, Submit, Advance as AdvanceCall, Undo as UndoCall, Redo as RedoCall}
+use Rattle.scene_hand.specs.Hand.{HandState, machine_at, opening_hand, performed, with_session}
 use Rattle.scene_app.specs.Phases.{with_phase, with_system}
 use Rattle.scene_app.specs.OpenFrame.{Opened, new_frame, with_command, with_queue, queues_of, alone}
 use Rattle.scene_kinds.specs.declared.cells.Row.{Row}
@@ -23,12 +21,11 @@ use Rattle.scene_pass.specs.declared.cell_name.CellName.{CellName}
 use Rattle.scene_rules.specs.declared.filter.Filter.{Filter}
 use Rattle.scene_rules.specs.declared.system_rule.SystemRule.{SystemRule}
 use Rattle.scene_schedule.specs.Schedule.{ScheduleState, schedule_fault}
-use Rattle.scene_schedule.specs.Systems.{advance_of}
 use Rattle.scene_undo.specs.declared.cursor.Cursor.{Cursor}
 use Rattle.scene_undo.specs.Cursor.{cursor_of, since}
 use Rattle.scene_app.specs.declared.play_state.PlayState.{PlayState}
 use Rattle.scene_script.specs.declared.script_line.Line.{Line}
-use Rattle.scene_script.specs.declared.script_line.Line.TheVariants.{Empty, Kind, Slots, Load, Do, Begin, Queue, Commit, Undo, Redo, Show, Get, Mark, Changed, Added, Phase, System, Clear, Advance, Dump}
+use Rattle.scene_script.specs.declared.script_line.Line.TheVariants.{Empty, Kind, Slots, Load, Calls, Do, Begin, Queue, Commit, Undo, Redo, Show, Get, Mark, Changed, Added, Phase, System, Clear, Advance, As, History, Dump}
 use Rattle.scene_script.specs.declared.bad_line.BadLine.{BadLine}
 use Rattle.scene_script.specs.declared.bad_line.BadLine.TheVariants.{SetupEnded, SceneLoaded, NoFrame, FrameOpen}
 use Rattle.scene_app.specs.declared.report.BadLineReport.{BadLineReport}
@@ -43,13 +40,17 @@ use Rattle.scene_show.specs.Shown.{entities_text, show_text}
 
 -- ---- the state between two lines, and cursors
 
--- the machine at first, the cursor from before the first mark, no frame and no phases
-abbrev pub opening_state : World → PlayState
-opening_state w = record { machine = opening w; cursor = record { rewinds = 0; tick = 0 }; frame = None; phases = [] }
+-- the hand at first, the kinds, the cursor from before the first mark, no frame and no phases
+abbrev pub opening_state : HandState → Kinds → PlayState
+opening_state h kinds = record { hand = h; schema = kinds; cursor = record { rewinds = 0; tick = 0 }; frame = None; phases = [] }
 
--- the state with another machine
-abbrev pub with_machine : PlayState → Machine World → PlayState
-with_machine s m = record s { machine = m }
+-- the state with another hand
+abbrev pub with_hand : PlayState → HandState → PlayState
+with_hand s h = record s { hand = h }
+
+-- the world now
+abbrev pub now : PlayState → World
+now s = (machine_at s.hand).now
 
 -- the state with another cursor
 abbrev pub with_cursor : PlayState → Cursor → PlayState
@@ -69,14 +70,6 @@ with_phases s phases = record s { phases = phases }
 abbrev pub made_text : List Entity → List ℕ
 made_text es = codes "done" ++ (entities_text es ++ codes "\n")
 
--- what an undo prints; it spawns nothing
-abbrev pub undone_text : List Entity → List ℕ
-undone_text es = codes "undone\n"
-
--- what a redo prints
-abbrev pub redone_text : List Entity → List ℕ
-redone_text es = codes "redone\n"
-
 -- the line of a refusal: its fault by number and name, and its place where it has one
 abbrev pub refused_text : Refusal → List ℕ
 refused_text r = codes "refused " ++ (refusal_line r ++ codes "\n")
@@ -85,6 +78,10 @@ refused_text r = codes "refused " ++ (refusal_line r ++ codes "\n")
 abbrev pub row_answer : Kinds → Option Row → List ℕ
 row_answer kinds None = refused_text (refusal_of NoSuchEntity)
 row_answer kinds (Some row) = row_text kinds row ++ codes "\n"
+
+-- and of a world
+abbrev pub get_text : World → Entity → List ℕ
+get_text w e = row_answer w.schema (option_map (λ p. p.1) (row_of w e))
 
 -- what `mark` prints: the cursor's count of rewinds, then its tick
 abbrev pub mark_text : Cursor → List ℕ
@@ -101,11 +98,11 @@ since_text word kinds cells (Err r) = refused_text r
 
 -- what `changed` prints
 abbrev pub changed_text : PlayState → List ℕ
-changed_text s = since_text (codes "changed") s.machine.now.schema (changed_since s.machine.now no_filter) (since s.cursor s.machine)
+changed_text s = since_text (codes "changed") s.schema (changed_since (now s) no_filter) (since s.cursor (machine_at s.hand))
 
 -- what `added` prints
 abbrev pub added_text : PlayState → List ℕ
-added_text s = since_text (codes "added") s.machine.now.schema (added_since s.machine.now no_filter) (since s.cursor s.machine)
+added_text s = since_text (codes "added") s.schema (added_since (now s) no_filter) (since s.cursor (machine_at s.hand))
 
 -- a scene text as it is written, with its newline, or the line of the fault
 abbrev pub saved_text : Result (List ℕ) FileFault → List ℕ
@@ -122,14 +119,24 @@ pub record Reply : Type 0 where
   pub bad : Option BadLine
   pub state : PlayState
 
--- the machine's answer: the text of what an accepted call spawned, or the refusal
-abbrev pub answer_text : (List Entity → List ℕ) → Answer → List ℕ
-answer_text text (Ok es) = text es
-answer_text text (Err r) = refused_text r
+-- what `history` prints: how many calls there were
+abbrev pub history_text : ℕ → List ℕ
+history_text count = codes "history " ++ (decimal count ++ codes "\n")
 
--- the reply to a call, by the text of an accepted one, after the machine's step
-abbrev pub call_reply : PlayState → (List Entity → List ℕ) → Machine World × Answer → Reply
-call_reply s text p = record { text = answer_text text p.1; bad = None; state = with_machine s p.0 }
+-- what a call prints, by its answer
+abbrev pub answer_text : Answer → List ℕ
+answer_text (Done es) = made_text es
+answer_text Undone = codes "undone\n"
+answer_text Redone = codes "redone\n"
+answer_text (Refused r) = refused_text r
+
+-- the reply to a call, by what it came to
+abbrev pub answer_reply : PlayState → HandState × Answer → Reply
+answer_reply s p = record { text = answer_text p.1; bad = None; state = with_hand s p.0 }
+
+-- the reply to a call of the session whose turn it is
+abbrev pub call_reply : PlayState → Asked → Reply
+call_reply s a = answer_reply s (performed s.hand a)
 
 -- the reply to a bad line, which says no reason
 abbrev pub bad_reply : PlayState → BadLine → Reply
@@ -139,26 +146,18 @@ bad_reply s reason = record { text = codes "bad line\n"; bad = Some reason; stat
 abbrev pub query_reply : PlayState → List ℕ → Reply
 query_reply s text = record { text = text; bad = None; state = s }
 
--- the reply to a submitted frame
-abbrev pub submit_reply : PlayState → List (List Request) → Reply
-submit_reply s queues = call_reply s made_text (step s.machine (Submit queues))
-
--- the schedule that a script's phases make for its world's kinds
+-- the schedule that a script's phases make for its kinds
 abbrev pub schedule_of : PlayState → ScheduleState
-schedule_of s = record { schema = s.machine.now.schema; phases = s.phases }
-
--- the reply to an advance by a schedule
-abbrev pub advanced_reply : PlayState → ScheduleState → Reply
-advanced_reply s schedule = call_reply s made_text (step s.machine (AdvanceCall (advance_of perform (λ w. w) schedule)))
+schedule_of s = record { schema = s.schema; phases = s.phases }
 
 -- the reply to `advance` by the fault of its schedule, if there is one; then no call is made
 abbrev pub advance_by : PlayState → Option Fault → Reply
-advance_by s None = advanced_reply s (schedule_of s)
+advance_by s None = call_reply s (AdvanceCall (schedule_of s))
 advance_by s (Some fault) = query_reply s (refused_text (refusal_of fault))
 
 -- the reply to `advance`; the phases stay
 abbrev pub advance_reply : PlayState → Reply
-advance_reply s = advance_by s (schedule_fault s.machine.now.schema s.phases)
+advance_reply s = advance_by s (schedule_fault s.schema s.phases)
 
 -- the reply where no frame is open; a command is a frame by itself
 abbrev pub lone_reply : PlayState → Line → Reply
@@ -166,22 +165,25 @@ lone_reply s Empty = query_reply s []
 lone_reply s (Kind name shape) = bad_reply s SetupEnded
 lone_reply s (Slots n) = bad_reply s SetupEnded
 lone_reply s (Load text) = bad_reply s SetupEnded
-lone_reply s (Do command) = submit_reply s (alone command)
+lone_reply s (Calls n) = bad_reply s SetupEnded
+lone_reply s (Do command) = call_reply s (Submit (alone command))
 lone_reply s Begin = query_reply (with_frame s (Some new_frame)) (codes "ok\n")
 lone_reply s Queue = bad_reply s NoFrame
 lone_reply s Commit = bad_reply s NoFrame
-lone_reply s Undo = call_reply s undone_text (step s.machine UndoCall)
-lone_reply s Redo = call_reply s redone_text (step s.machine RedoCall)
-lone_reply s Show = query_reply s (show_text s.machine.now)
-lone_reply s (Get e) = query_reply s (row_answer s.machine.now.schema (option_map (λ p. p.1) (row_of s.machine.now e)))
-lone_reply s Mark = record { text = mark_text (cursor_of s.machine); bad = None; state = with_cursor s (cursor_of s.machine) }
+lone_reply s Undo = call_reply s UndoCall
+lone_reply s Redo = call_reply s RedoCall
+lone_reply s Show = query_reply s (show_text (now s))
+lone_reply s (Get e) = query_reply s (get_text (now s) e)
+lone_reply s Mark = record { text = mark_text (cursor_of (machine_at s.hand)); bad = None; state = with_cursor s (cursor_of (machine_at s.hand)) }
 lone_reply s Changed = query_reply s (changed_text s)
 lone_reply s Added = query_reply s (added_text s)
 lone_reply s Phase = query_reply (with_phases s (with_phase s.phases)) (codes "ok\n")
 lone_reply s (System rule) = query_reply (with_phases s (with_system s.phases rule)) (codes "ok\n")
 lone_reply s Clear = query_reply (with_phases s []) (codes "ok\n")
 lone_reply s Advance = advance_reply s
-lone_reply s Dump = query_reply s (dump_text s.machine.now)
+lone_reply s (As n) = query_reply (with_hand s (with_session s.hand n)) (codes "ok\n")
+lone_reply s History = query_reply s (history_text (length s.hand.history))
+lone_reply s Dump = query_reply s (dump_text (now s))
 
 -- the reply to a command in a frame: it is queued, or else refused and the frame is as it was
 abbrev pub queued_reply : PlayState → Opened → Outcome (Unit {0}) Opened → Reply
@@ -193,10 +195,11 @@ abbrev pub frame_reply : PlayState → Opened → Line → Reply
 frame_reply s f Empty = query_reply (with_frame s (Some f)) []
 frame_reply s f (Do command) = queued_reply s f (with_command f command)
 frame_reply s f Queue = query_reply (with_frame s (Some (with_queue f))) (codes "ok\n")
-frame_reply s f Commit = submit_reply (with_frame s None) (frame_of (queues_of f))
+frame_reply s f Commit = call_reply (with_frame s None) (Submit (queues_of f))
 frame_reply s f (Kind name shape) = bad_reply (with_frame s (Some f)) SetupEnded
 frame_reply s f (Slots n) = bad_reply (with_frame s (Some f)) SetupEnded
 frame_reply s f (Load text) = bad_reply (with_frame s (Some f)) SetupEnded
+frame_reply s f (Calls n) = bad_reply (with_frame s (Some f)) SetupEnded
 frame_reply s f line = bad_reply (with_frame s (Some f)) FrameOpen
 
 -- the reply to a line after the setup, by the frame that is open, if one is
@@ -215,14 +218,15 @@ said_reply s (Err reason) = bad_reply s reason
 
 -- ---- the run
 
--- what a run prints, and its bad lines, each by its number from 1, with the reason
+-- what a run prints, its bad lines, each by its number from 1, with the reason, and the hand at its end
 pub record Printed : Type 0 where
   pub text : List ℕ
   pub bad : List BadLineReport
+  pub hand : HandState
 
 -- where no line is left, nothing is printed
-abbrev pub nothing : Printed
-nothing = record { text = []; bad = [] }
+abbrev pub nothing : HandState → Printed
+nothing h = record { text = []; bad = []; hand = h }
 
 -- the report of a line of this number, where it is bad
 abbrev pub reports_at : ℕ → Option BadLine → List BadLineReport
@@ -231,7 +235,7 @@ reports_at number (Some reason) = record { line = number; reason = reason } ∷ 
 
 -- a text, perhaps of a bad line, before the rest
 abbrev pub and_more : List ℕ → List BadLineReport → Printed → Printed
-and_more text bad rest = record { text = text ++ rest.text; bad = bad ++ rest.bad }
+and_more text bad rest = record { text = text ++ rest.text; bad = bad ++ rest.bad; hand = rest.hand }
 
 -- what a reply adds before the rest, which goes on from its state
 abbrev pub then_rest : ℕ → Reply → (PlayState → Printed) → Printed
@@ -239,25 +243,41 @@ then_rest number r rest = and_more r.text (reports_at number r.bad) (rest r.stat
 
 -- the lines after the setup, one after another, the first of this number
 abbrev pub run_from : ℕ → PlayState → List (List ℕ) → Printed
-run_from number s [] = nothing
-run_from number s (l ∷ ls) = then_rest number (said_reply s (line_in s.machine.now.schema l)) (λ t. run_from (number + 1) t ls)
+run_from number s [] = nothing s.hand
+run_from number s (l ∷ ls) = then_rest number (said_reply s (line_in s.schema l)) (λ t. run_from (number + 1) t ls)
 
 -- ---- the setup
 
 -- what the setup has come to: the kinds and the slot limit so far, or the world that was loaded last
-pub data SetupState : Type 0 where
-  Declared : Kinds → ℕ → SetupState
-  Loaded : World → SetupState
+pub data Base : Type 0 where
+  Declared : Kinds → ℕ → Base
+  Loaded : World → Base
+
+-- and how many calls there may be
+pub record SetupState : Type 0 where
+  pub base : Base
+  pub calls : ℕ
 
 -- the kinds so far
+abbrev pub base_kinds : Base → Kinds
+base_kinds (Declared kinds limit) = kinds
+base_kinds (Loaded w) = w.schema
+
 abbrev pub setup_kinds : SetupState → Kinds
-setup_kinds (Declared kinds limit) = kinds
-setup_kinds (Loaded w) = w.schema
+setup_kinds s = base_kinds s.base
 
 -- the world in which the run begins
-abbrev pub first_world : SetupState → World
+abbrev pub first_world : Base → World
 first_world (Declared kinds limit) = new_world kinds limit
 first_world (Loaded w) = w
+
+-- the hand with which the run begins
+abbrev pub first_hand : SetupState → HandState
+first_hand s = opening_hand (opening (first_world s.base)) s.calls
+
+-- the state in which the run begins
+abbrev pub first_state : SetupState → PlayState
+first_state s = opening_state (first_hand s) (setup_kinds s)
 
 -- what a line of the setup prints, why it is bad where it is, and the setup after it
 pub record SetupReply : Type 0 where
@@ -273,33 +293,42 @@ setup_answer text s = record { text = text; bad = None; setup = s }
 abbrev pub setup_bad : SetupState → BadLine → SetupReply
 setup_bad s reason = record { text = codes "bad line\n"; bad = Some reason; setup = s }
 
+-- the setup with another base
+abbrev pub with_base : SetupState → Base → SetupState
+with_base s base = record s { base = base }
+
 -- the reply to a declaration; a refused one leaves the kinds as they were
-abbrev pub declared_reply : Kinds → ℕ → Outcome ℕ Kinds → SetupReply
-declared_reply kinds limit (Ok p) = setup_answer (codes "ok\n") (Declared p.1 limit)
-declared_reply kinds limit (Err r) = setup_answer (refused_text r) (Declared kinds limit)
+abbrev pub declared_reply : SetupState → Kinds → ℕ → Outcome ℕ Kinds → SetupReply
+declared_reply s kinds limit (Ok p) = setup_answer (codes "ok\n") (with_base s (Declared p.1 limit))
+declared_reply s kinds limit (Err r) = setup_answer (refused_text r) (with_base s (Declared kinds limit))
 
 -- the reply to `kind`; a loaded scene has its kinds
-abbrev pub kind_reply : SetupState → List ℕ → Shape → SetupReply
-kind_reply (Declared kinds limit) name shape = declared_reply kinds limit (with_kind kinds name shape)
-kind_reply (Loaded w) name shape = setup_bad (Loaded w) SceneLoaded
+abbrev pub kind_reply : SetupState → Base → List ℕ → Shape → SetupReply
+kind_reply s (Declared kinds limit) name shape = declared_reply s kinds limit (with_kind kinds name shape)
+kind_reply s (Loaded w) name shape = setup_bad s SceneLoaded
 
 -- the reply to `slots`; a loaded scene has its limit
-abbrev pub slots_reply : SetupState → ℕ → SetupReply
-slots_reply (Declared kinds limit) n = setup_answer (codes "ok\n") (Declared kinds n)
-slots_reply (Loaded w) n = setup_bad (Loaded w) SceneLoaded
+abbrev pub slots_reply : SetupState → Base → ℕ → SetupReply
+slots_reply s (Declared kinds limit) n = setup_answer (codes "ok\n") (with_base s (Declared kinds n))
+slots_reply s (Loaded w) n = setup_bad s SceneLoaded
 
 -- the reply to `load`, by the world that its text says or the first fault, which leaves the setup as it was
 abbrev pub load_reply : SetupState → Result World FileFault → SetupReply
-load_reply s (Ok w) = setup_answer (codes "ok\n") (Loaded w)
+load_reply s (Ok w) = setup_answer (codes "ok\n") (with_base s (Loaded w))
 load_reply s (Err fault) = setup_answer (file_fault_text fault) s
+
+-- the reply to `calls`
+abbrev pub calls_reply : SetupState → ℕ → SetupReply
+calls_reply s n = setup_answer (codes "ok\n") (record s { calls = n })
 
 -- the reply to a line of the setup, and none where the line ends it; an empty one and a comment don't end it, nor does a line
 -- of a frame, which is bad here
 abbrev pub setup_reply : SetupState → Line → Option SetupReply
 setup_reply s Empty = Some (setup_answer [] s)
-setup_reply s (Kind name shape) = Some (kind_reply s name shape)
-setup_reply s (Slots n) = Some (slots_reply s n)
+setup_reply s (Kind name shape) = Some (kind_reply s s.base name shape)
+setup_reply s (Slots n) = Some (slots_reply s s.base n)
 setup_reply s (Load text) = Some (load_reply s (loaded text))
+setup_reply s (Calls n) = Some (calls_reply s n)
 setup_reply s Queue = Some (setup_bad s NoFrame)
 setup_reply s Commit = Some (setup_bad s NoFrame)
 setup_reply s line = None
@@ -316,14 +345,18 @@ then_setup number rest begin None = begin
 
 -- the lines from the start, the first of this number, after what the setup has come to
 abbrev pub setup_from : ℕ → SetupState → List (List ℕ) → Printed
-setup_from number s [] = nothing
+setup_from number s [] = nothing (first_hand s)
 setup_from number s (l ∷ ls) =
-    then_setup number (λ t. setup_from (number + 1) t ls) (run_from number (opening_state (first_world s)) (l ∷ ls))
+    then_setup number (λ t. setup_from (number + 1) t ls) (run_from number (first_state s) (l ∷ ls))
     (setup_said s (line_in (setup_kinds s) l))
 
--- all of a script, from its first line, with no kinds yet and the greatest slot limit
+-- no kinds yet, and the greatest limits
+abbrev pub first_setup : SetupState
+first_setup = record { base = Declared [] 1048576; calls = 1048576 }
+
+-- all of a script, from its first line
 abbrev pub printed : List ℕ → Printed
-printed script = setup_from 1 (Declared [] 1048576) (lines script)
+printed script = setup_from 1 first_setup (lines script)
 
 -- what a script prints
 abbrev pub output : List ℕ → List ℕ
@@ -332,3 +365,7 @@ output script = (printed script).text
 -- its bad lines, first to last
 abbrev pub bad_lines : List ℕ → List BadLineReport
 bad_lines script = (printed script).bad
+
+-- the hand that it leaves: the calls of all its sessions, with their answers
+abbrev pub hand_after : List ℕ → HandState
+hand_after script = (printed script).hand

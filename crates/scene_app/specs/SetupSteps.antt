@@ -3,17 +3,22 @@ use Rattle.std.specs.Prelude.{◌≡◌, ℕ, ◌+◌, List, ◌∷◌, ◌++◌
 use Rattle.scene_script.specs.declared.script_line.Line.{Line}
 use Rattle.scene_script.specs.declared.bad_line.BadLine.{BadLine}
 use Rattle.scene_app.specs.declared.setup.Setup.{Setup}
-use Rattle.scene_app.specs.declared.setup.Setup.TheVariants as code
+use Rattle.scene_app.specs.declared.setup.Base.{Base as Code}
+use Rattle.scene_app.specs.declared.setup.Base.TheVariants as code
 use Rattle.scene_app.specs.declared.setup_answer.SetupAnswer.{SetupAnswer}
 use Rattle.scene_app.specs.declared.setup_answer.SetupAnswer.TheVariants.{Given, Ends}
-use Rattle.scene_app.specs.Play.{SetupState, Declared, Loaded, SetupReply, first_world, setup_from, opening_state, said_reply, then_rest, run_from}
+use Rattle.scene_app.specs.Play.{Base, SetupState, Declared, Loaded, SetupReply, first_state, setup_from, said_reply, then_rest, run_from}
 use Rattle.scene_app.specs.Reports.{Tally}
 use Rattle.scene_app.specs.Steps.{noted}
 
--- what a setup in the code has come to; of a loaded world the room doesn't matter
+-- what the base of a setup in the code has come to; of a loaded world the room doesn't matter
+abbrev pub base_of : Code → Base
+base_of (code.Declared kinds limit) = Declared kinds limit
+base_of (code.Loaded w) = Loaded w.world
+
+-- and a setup
 abbrev pub setup_of : Setup → SetupState
-setup_of (code.Declared kinds limit) = Declared kinds limit
-setup_of (code.Loaded w) = Loaded w.world
+setup_of s = record { base = base_of s.base; calls = s.calls }
 
 -- a body that answers a line of the setup added the text, this is why the line is bad, and this is the setup after it
 abbrev pub SetupReplies : (old new : List ℕ) → SetupState → Option BadLine → SetupReply → Type 0
@@ -31,6 +36,7 @@ abbrev pub PlaysSetup : (old new : List ℕ) → (before after : Tally) → (s t
 PlaysSetup old new before after s t number bytes None = (others : List (List ℕ))
     → (new ++ (setup_from (number + 1) t others).text ≡ old ++ (setup_from number s (bytes ∷ others)).text)
     × (noted after (setup_from (number + 1) t others).bad ≡ noted before (setup_from number s (bytes ∷ others)).bad)
+    × ((setup_from (number + 1) t others).hand ≡ (setup_from number s (bytes ∷ others)).hand)
 PlaysSetup old new before after s t number bytes (Some line) = (new ≡ old) × (after ≡ before)
     × ((others : List (List ℕ)) → setup_from number s (bytes ∷ others)
-    ≡ then_rest number (said_reply (opening_state (first_world t)) (Ok line)) (λ z. run_from (number + 1) z others))
+    ≡ then_rest number (said_reply (first_state t) (Ok line)) (λ z. run_from (number + 1) z others))

@@ -2,6 +2,7 @@
 use Rattle.std.specs.Prelude.{◌≡◌, ℕ, ◌+◌, List, [], ◌∷◌, ◌++◌, Option, length, nat_lt, if◌then◌else◌}
 use Rattle.scene_script.specs.declared.bad_line.BadLine.{BadLine}
 use Rattle.scene_app.specs.declared.report.BadLineReport.{BadLineReport}
+use Rattle.scene_hand.specs.Hand.{HandState}
 use Rattle.scene_app.specs.declared.play_state.PlayState.{PlayState}
 use Rattle.scene_app.specs.Play.{Reply, Printed, reports_at}
 use Rattle.scene_app.specs.Reports.{Tally}
@@ -19,9 +20,9 @@ abbrev pub noted : Tally → List BadLineReport → Tally
 noted t [] = t
 noted t (r ∷ rs) = noted (noted_one t r) rs
 
--- a body that plays lines added their text, and noted their bad lines
-abbrev pub Prints : (old new : List ℕ) → (before after : Tally) → Printed → Type 0
-Prints old new before after p = (new ≡ old ++ p.text) × (after ≡ noted before p.bad)
+-- a body that plays lines added their text, noted their bad lines, and left this hand
+abbrev pub Prints : (old new : List ℕ) → (before after : Tally) → HandState → Printed → Type 0
+Prints old new before after hand p = (new ≡ old ++ p.text) × (after ≡ noted before p.bad) × (hand ≡ p.hand)
 
 -- a body that plays a line added its text, noted it where it is bad, and left its state
 abbrev pub LinePlayed : (old new : List ℕ) → (before after : Tally) → PlayState → ℕ → Reply → Type 0

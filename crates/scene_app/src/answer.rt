@@ -1,34 +1,34 @@
 //! The answer to one line after the setup.
-ghost use Rattle.std.specs.Prelude.{◌≡◌, ◌≢◌, ◌≤◌, ◌+◌, ◌++◌, length, OnOk, IfOk, Some, None, codes, string_bytes, option_map};
+ghost use Rattle.std.specs.Prelude.{◌≡◌, ◌≢◌, ◌≤◌, ◌++◌, length, OnOk, IfOk, Some, None, codes, string_bytes};
 ghost use Rattle.scene_kinds.specs.Answers.{refusal_of};
 ghost use Rattle.scene_kinds.specs.declared.fault.Fault.TheVariants.{NoMemory};
-ghost use Rattle.scene_machine.specs.Frame.{Undo as UndoCall, Redo as RedoCall, step};
-ghost use Rattle.scene_script.specs.declared.script_line.Line.TheVariants.{Begin};
-ghost use Rattle.scene_queue.specs.Frames.{frame_of};
-ghost use Rattle.scene_app.specs.OpenFrame.{alone, queue_count};
-ghost use Rattle.scene_model.specs.World.{row_of};
-ghost use Rattle.scene_app.specs.Play.{line_reply, lone_reply, said_reply, call_reply, submit_reply, made_text, refused_text, row_answer, undone_text, redone_text, mark_text, changed_text, added_text, dump_text, with_cursor};
+ghost use Rattle.scene_script.specs.declared.script_line.Line.TheVariants.{As, Begin};
 ghost use Rattle.scene_undo.specs.Cursor.{cursor_of};
+ghost use Rattle.scene_session.specs.Calls.{Submit, asked, queue_count, told};
+ghost use Rattle.scene_hand.specs.Hand.{machine_at};
+ghost use Rattle.scene_app.specs.OpenFrame.{alone, queue_count as open_queues};
+ghost use Rattle.scene_app.specs.Play.{added_text, answer_text, call_reply, changed_text, history_text, line_reply, lone_reply, made_text, mark_text, now, refused_text, said_reply, with_cursor};
+ghost use Rattle.scene_app.specs.Questions.{asked_text};
 ghost use Rattle.scene_app.specs.Steps.{Replies};
 
-use crate::file_fault_text::answer_file_fault;
 use crate::framed_answer::answer_in_frame;
 use crate::open_frame::OpenFrame;
 use crate::play_state::PlayState;
+use crate::question::{CallCount, WorldText};
 use crate::systems_answer::{answer_advance, answer_clear, answer_phase, answer_system};
 use scene_commands::Command;
-use scene_file::save_text;
 use scene_kinds::{Entity, Fault, Refusal};
-use scene_pass::{Filter, added_since, changed_since};
+use scene_pass::Filter;
 use scene_queue::Queue;
-use scene_script::{BadLine, Line, write_refusal};
-use scene_show::{write_entities, write_listed, write_row, write_show};
-use scene_world::World;
+use scene_script::{BadLine, Line, SessionNumber, write_refusal};
+use scene_session::{AddedSince, Call, ChangedSince, CursorNow, Reply};
+use scene_show::{write_entities, write_listed};
 use std::alloc::{AllocError, Global};
+use std::sync::Wait;
 use std::thread::Threads;
 
 /// Adds a refusal.
-fn write_refused(out: &mut String, refusal: Refusal) -> Result<(), AllocError>
+pub(crate) fn write_refused(out: &mut String, refusal: Refusal) -> Result<(), AllocError>
     ensures { OnOk result (string_bytes out.new ≡ string_bytes out.old ++ refused_text refusal) }
 {
     out.push_str("refused ")?;
@@ -48,7 +48,7 @@ pub(crate) fn answer_refused(out: &mut String, refusal: Refusal) -> Result<(), A
 }
 
 /// Adds what a frame made: the entities that it spawned.
-pub(crate) fn write_made(out: &mut String, entities: &[Entity]) -> Result<(), AllocError>
+fn write_made(out: &mut String, entities: &[Entity]) -> Result<(), AllocError>
     ensures { OnOk result (string_bytes out.new ≡ string_bytes out.old ++ made_text entities.now) }
 {
     out.push_str("done")?;
@@ -56,26 +56,39 @@ pub(crate) fn write_made(out: &mut String, entities: &[Entity]) -> Result<(), Al
     out.push_str("\n")
 }
 
-/// A frame of these queues.
-pub(crate) fn answer_frame(
+/// Adds what a call prints.
+fn write_reply(out: &mut String, reply: &Reply) -> Result<(), AllocError>
+    ensures { OnOk result (string_bytes out.new ≡ string_bytes out.old ++ answer_text (told reply.now)) }
+{
+    match reply {
+        Reply::Done(entities) => write_made(out, entities.as_slice()),
+        Reply::Undone => out.push_str("undone\n"),
+        Reply::Redone => out.push_str("redone\n"),
+        Reply::Refused(refusal) => write_refused(out, *refusal),
+    }
+}
+
+/// A call of the session whose turn it is.
+pub(crate) fn answer_call<T: Threads + Wait + Sync>(
+    rt: &T,
     alloc: Global,
+    workers: usize,
     out: &mut String,
     state: &mut PlayState,
-    queues: &[Queue],
+    call: Call,
 ) -> Result<(), AllocError>
-    requires { length queues.now ≤ 4294967295 }
-    ensures { OnOk result (Replies (string_bytes out.old) (string_bytes out.new) state.new None (submit_reply state.old (frame_of queues.now))) }
+    requires { queue_count call ≤ 4294967295 }
+    ensures { OnOk result (Replies (string_bytes out.old) (string_bytes out.new) state.new None (call_reply state.old (asked call))) }
 {
-    match state.machine.editor.submit(queues) {
-        Ok(made) => write_made(out, made.entities.as_slice()),
-        Err(refusal) => answer_refused(out, refusal),
+    match state.hand.perform(rt, alloc, call, workers) {
+        Ok(reply) => write_reply(out, &reply),
+        Err(stopped) => answer_refused(out, stopped.refusal),
     }
 }
 
 /// The queues of a frame of one command. An empty queue has room for it, so only memory can be wanting.
 fn lone_queue(alloc: Global, command: Command) -> Result<Vec<Queue>, AllocError>
-    ensures queues { IfOk result (λ queues. frame_of queues.items ≡ alone command) }
-    ensures one { IfOk result (λ queues. length queues.items ≡ 1) }
+    ensures { IfOk result (λ queues. queues.items ≡ alone command) }
 {
     let mut queue = Queue::with_limit(alloc, 1);
     if queue.push(command).is_err() {
@@ -87,16 +100,18 @@ fn lone_queue(alloc: Global, command: Command) -> Result<Vec<Queue>, AllocError>
 }
 
 /// A command where no frame is open.
-fn answer_command(
+fn answer_command<T: Threads + Wait + Sync>(
+    rt: &T,
     alloc: Global,
+    workers: usize,
     out: &mut String,
     state: &mut PlayState,
     command: Command,
 ) -> Result<(), AllocError>
-    ensures { OnOk result (Replies (string_bytes out.old) (string_bytes out.new) state.new None (submit_reply state.old (alone command))) }
+    ensures { OnOk result (Replies (string_bytes out.old) (string_bytes out.new) state.new None (call_reply state.old (Submit (alone command)))) }
 {
     let queues = lone_queue(alloc, command)?;
-    answer_frame(alloc, out, state, queues.as_slice())
+    answer_call(rt, alloc, workers, out, state, Call::Submit(queues))
 }
 
 /// `begin`.
@@ -107,91 +122,95 @@ fn answer_begin(alloc: Global, out: &mut String, state: &mut PlayState) -> Resul
     out.push_str("ok\n")
 }
 
-/// `undo`.
-fn answer_undo(out: &mut String, state: &mut PlayState) -> Result<(), AllocError>
-    ensures { OnOk result (Replies (string_bytes out.old) (string_bytes out.new) state.new None
-        (call_reply state.old undone_text (step state.old.machine UndoCall))) }
+/// `as`.
+fn answer_as(
+    out: &mut String,
+    state: &mut PlayState,
+    session: SessionNumber,
+) -> Result<(), AllocError>
+    ensures { OnOk result (Replies (string_bytes out.old) (string_bytes out.new) state.new None (lone_reply state.old (As session))) }
 {
-    match state.machine.editor.undo() {
-        Ok(()) => out.push_str("undone\n"),
-        Err(refusal) => answer_refused(out, refusal),
-    }
+    state.hand.turn_to(session.get());
+    out.push_str("ok\n")
 }
 
-/// `redo`.
-fn answer_redo(out: &mut String, state: &mut PlayState) -> Result<(), AllocError>
-    ensures { OnOk result (Replies (string_bytes out.old) (string_bytes out.new) state.new None
-        (call_reply state.old redone_text (step state.old.machine RedoCall))) }
-{
-    match state.machine.editor.redo() {
-        Ok(()) => out.push_str("redone\n"),
-        Err(refusal) => answer_refused(out, refusal),
-    }
-}
-
-/// `get`.
-fn answer_get(
+/// A text of the world.
+fn answer_world<T: Wait>(
+    rt: &T,
     alloc: Global,
     out: &mut String,
-    world: &World,
-    entity: Entity,
+    state: &mut PlayState,
+    asked: WorldText,
 ) -> Result<(), AllocError>
-    ensures { OnOk result (string_bytes out.new ≡ string_bytes out.old ++ row_answer world.now.world.schema
-        (option_map (λ p. p.1) (row_of world.now.world entity))) }
+    ensures text { OnOk result (string_bytes out.new ≡ string_bytes out.old ++ asked_text asked (now state.old)) }
+    ensures state { state.new ≡ state.old }
 {
-    match world.row_of(entity) {
-        None => write_refused(out, Refusal::from(Fault::NoSuchEntity)),
-        Some((table, at)) => {
-            write_row(alloc, out, world.schema(), table, at)?;
-            out.push('\n')
-        }
-    }
+    let text = state.hand.ask(rt, alloc, &asked)?;
+    out.push_str(text.as_str())
+}
+
+/// `history`.
+fn answer_history<T: Wait>(
+    rt: &T,
+    alloc: Global,
+    out: &mut String,
+    state: &mut PlayState,
+) -> Result<(), AllocError>
+    ensures text { OnOk result (string_bytes out.new ≡ string_bytes out.old ++ history_text (length state.old.hand.history)) }
+    ensures state { state.new ≡ state.old }
+{
+    let count = state.hand.ask(rt, alloc, &CallCount);
+    write!(out, "history {count}\n")?;
+    Ok(())
 }
 
 /// `mark`.
-fn answer_mark(out: &mut String, state: &mut PlayState) -> Result<(), AllocError>
-    ensures text { OnOk result (string_bytes out.new ≡ string_bytes out.old ++ mark_text (cursor_of state.old.machine)) }
-    ensures state { state.new ≡ with_cursor state.old (cursor_of state.old.machine) }
+fn answer_mark<T: Wait>(
+    rt: &T,
+    alloc: Global,
+    out: &mut String,
+    state: &mut PlayState,
+) -> Result<(), AllocError>
+    ensures text { OnOk result (string_bytes out.new ≡ string_bytes out.old ++ mark_text (cursor_of (machine_at state.old.hand))) }
+    ensures state { state.new ≡ with_cursor state.old (cursor_of (machine_at state.old.hand)) }
 {
-    let cursor = state.mark();
+    let cursor = state.hand.ask(rt, alloc, &CursorNow);
+    state.cursor = cursor;
     write!(out, "mark {} {}\n", cursor.rewinds, cursor.tick)?;
     Ok(())
 }
 
 /// `changed`.
-fn answer_changed(alloc: Global, out: &mut String, state: &PlayState) -> Result<(), AllocError>
-    ensures { OnOk result (string_bytes out.new ≡ string_bytes out.old ++ changed_text state.now) }
+fn answer_changed<T: Wait>(
+    rt: &T,
+    alloc: Global,
+    out: &mut String,
+    state: &mut PlayState,
+) -> Result<(), AllocError>
+    ensures text { OnOk result (string_bytes out.new ≡ string_bytes out.old ++ changed_text state.old) }
+    ensures state { state.new ≡ state.old }
 {
-    let tick = match state.since() {
-        Ok(tick) => tick,
-        Err(refusal) => return write_refused(out, refusal),
-    };
-    let world = state.machine.now();
-    let cells = changed_since(alloc, world, Filter::all(), tick)?;
-    write_listed(out, "changed", world.schema(), cells.as_slice())
+    let query = ChangedSince(state.cursor, Filter::all());
+    match state.hand.ask(rt, alloc, &query) {
+        Ok(cells) => write_listed(out, "changed", &state.schema, cells.as_slice()),
+        Err(refusal) => answer_refused(out, refusal),
+    }
 }
 
 /// `added`.
-fn answer_added(alloc: Global, out: &mut String, state: &PlayState) -> Result<(), AllocError>
-    ensures { OnOk result (string_bytes out.new ≡ string_bytes out.old ++ added_text state.now) }
+fn answer_added<T: Wait>(
+    rt: &T,
+    alloc: Global,
+    out: &mut String,
+    state: &mut PlayState,
+) -> Result<(), AllocError>
+    ensures text { OnOk result (string_bytes out.new ≡ string_bytes out.old ++ added_text state.old) }
+    ensures state { state.new ≡ state.old }
 {
-    let tick = match state.since() {
-        Ok(tick) => tick,
-        Err(refusal) => return write_refused(out, refusal),
-    };
-    let world = state.machine.now();
-    let cells = added_since(alloc, world, Filter::all(), tick)?;
-    write_listed(out, "added", world.schema(), cells.as_slice())
-}
-
-/// `dump`.
-#[tactic(auto, using(crate::proofs::FileFaultLaws::is_wanted))]
-fn answer_dump(alloc: Global, out: &mut String, world: &World) -> Result<(), AllocError>
-    ensures { OnOk result (string_bytes out.new ≡ string_bytes out.old ++ dump_text world.now.world) }
-{
-    match save_text(alloc, world) {
-        Ok(text) => out.push_str(text.as_str()),
-        Err(fault) => answer_file_fault(alloc, out, fault),
+    let query = AddedSince(state.cursor, Filter::all());
+    match state.hand.ask(rt, alloc, &query) {
+        Ok(cells) => write_listed(out, "added", &state.schema, cells.as_slice()),
+        Err(refusal) => answer_refused(out, refusal),
     }
 }
 
@@ -205,7 +224,7 @@ pub(crate) fn answer_bad(out: &mut String, reason: BadLine) -> Result<Option<Bad
 }
 
 /// Answers a line after the setup where no frame is open, and gives why it is bad, where it is.
-fn answer_alone<T: Threads + Sync>(
+fn answer_alone<T: Threads + Wait + Sync>(
     rt: &T,
     alloc: Global,
     workers: usize,
@@ -217,30 +236,32 @@ fn answer_alone<T: Threads + Sync>(
 {
     match line {
         Line::Empty => {}
-        Line::Kind(..) | Line::Slots(_) | Line::Load(_) => {
+        Line::Kind(..) | Line::Slots(_) | Line::Load(_) | Line::Calls(_) => {
             return answer_bad(out, BadLine::SetupEnded);
         }
         Line::Queue | Line::Commit => return answer_bad(out, BadLine::NoFrame),
-        Line::Do(command) => answer_command(alloc, out, state, command)?,
+        Line::Do(command) => answer_command(rt, alloc, workers, out, state, command)?,
         Line::Begin => answer_begin(alloc, out, state)?,
-        Line::Undo => answer_undo(out, state)?,
-        Line::Redo => answer_redo(out, state)?,
-        Line::Show => write_show(alloc, out, state.machine.now())?,
-        Line::Get(entity) => answer_get(alloc, out, state.machine.now(), entity)?,
-        Line::Mark => answer_mark(out, state)?,
-        Line::Changed => answer_changed(alloc, out, state)?,
-        Line::Added => answer_added(alloc, out, state)?,
+        Line::Undo => answer_call(rt, alloc, workers, out, state, Call::Undo)?,
+        Line::Redo => answer_call(rt, alloc, workers, out, state, Call::Redo)?,
+        Line::Show => answer_world(rt, alloc, out, state, WorldText::Show)?,
+        Line::Get(entity) => answer_world(rt, alloc, out, state, WorldText::Get(entity))?,
+        Line::Mark => answer_mark(rt, alloc, out, state)?,
+        Line::Changed => answer_changed(rt, alloc, out, state)?,
+        Line::Added => answer_added(rt, alloc, out, state)?,
         Line::Phase => answer_phase(out, state)?,
         Line::System(rule) => answer_system(out, state, rule)?,
         Line::Clear => answer_clear(out, state)?,
-        Line::Advance => answer_advance(rt, workers, out, state)?,
-        Line::Dump => answer_dump(alloc, out, state.machine.now())?,
+        Line::Advance => answer_advance(rt, alloc, workers, out, state)?,
+        Line::As(session) => answer_as(out, state, session)?,
+        Line::History => answer_history(rt, alloc, out, state)?,
+        Line::Dump => answer_world(rt, alloc, out, state, WorldText::Dump)?,
     }
     Ok(None)
 }
 
 /// Answers a line after the setup, and gives why it is bad, where it is.
-fn answer_line<T: Threads + Sync>(
+fn answer_line<T: Threads + Wait + Sync>(
     rt: &T,
     alloc: Global,
     workers: usize,
@@ -248,17 +269,17 @@ fn answer_line<T: Threads + Sync>(
     state: &mut PlayState,
     line: Line,
 ) -> Result<Option<BadLine>, AllocError>
-    requires { queue_count state.old.frame ≤ 4294967295 }
+    requires { open_queues state.old.frame ≤ 4294967295 }
     ensures { IfOk result (λ bad. Replies (string_bytes out.old) (string_bytes out.new) state.new bad (line_reply state.old line)) }
 {
     match state.frame.take() {
         None => answer_alone(rt, alloc, workers, out, state, line),
-        Some(frame) => answer_in_frame(alloc, out, state, frame, line),
+        Some(frame) => answer_in_frame(rt, alloc, workers, out, state, frame, line),
     }
 }
 
 /// Answers what a line after the setup says, and gives why it is bad, where it is.
-pub(crate) fn answer<T: Threads + Sync>(
+pub(crate) fn answer<T: Threads + Wait + Sync>(
     rt: &T,
     alloc: Global,
     workers: usize,
@@ -266,7 +287,7 @@ pub(crate) fn answer<T: Threads + Sync>(
     state: &mut PlayState,
     said: Result<Line, BadLine>,
 ) -> Result<Option<BadLine>, AllocError>
-    requires { queue_count state.old.frame ≤ 4294967295 }
+    requires { open_queues state.old.frame ≤ 4294967295 }
     ensures { IfOk result (λ bad. Replies (string_bytes out.old) (string_bytes out.new) state.new bad (said_reply state.old said)) }
 {
     match said {

@@ -5,12 +5,15 @@ ghost use Rattle.scene_app.specs.OpenFrame.{with_command};
 ghost use Rattle.scene_app.specs.Play.{frame_reply, queued_reply, bad_reply, with_frame};
 ghost use Rattle.scene_app.specs.Steps.{Replies};
 
-use crate::answer::{answer_bad, answer_frame, answer_refused};
+use crate::answer::{answer_bad, answer_call, answer_refused};
 use crate::open_frame::OpenFrame;
 use crate::play_state::PlayState;
 use scene_commands::Command;
 use scene_script::{BadLine, Line};
+use scene_session::Call;
 use std::alloc::{AllocError, Global};
+use std::sync::Wait;
+use std::thread::Threads;
 
 /// A command, which goes into the last queue.
 fn answer_queued(
@@ -47,8 +50,10 @@ fn answer_queue(
 }
 
 /// `commit`. The frame is over, whatever the answer is.
-fn answer_commit(
+fn answer_commit<T: Threads + Wait + Sync>(
+    rt: &T,
     alloc: Global,
+    workers: usize,
     out: &mut String,
     state: &mut PlayState,
     frame: OpenFrame,
@@ -58,7 +63,7 @@ fn answer_commit(
 {
     state.frame = None;
     let queues = frame.into_queues()?;
-    answer_frame(alloc, out, state, queues.as_slice())
+    answer_call(rt, alloc, workers, out, state, Call::Submit(queues))
 }
 
 /// A line that may not come in a frame, which stays open.
@@ -76,8 +81,10 @@ fn answer_unfit(
 }
 
 /// Answers a line in a frame that was taken out of the state, and gives why it is bad, where it is.
-pub(crate) fn answer_in_frame(
+pub(crate) fn answer_in_frame<T: Threads + Wait + Sync>(
+    rt: &T,
     alloc: Global,
+    workers: usize,
     out: &mut String,
     state: &mut PlayState,
     frame: OpenFrame,
@@ -90,8 +97,8 @@ pub(crate) fn answer_in_frame(
         Line::Empty => state.frame = Some(frame),
         Line::Do(command) => answer_queued(out, state, frame, command)?,
         Line::Queue => answer_queue(alloc, out, state, frame)?,
-        Line::Commit => answer_commit(alloc, out, state, frame)?,
-        Line::Kind(..) | Line::Slots(_) | Line::Load(_) => {
+        Line::Commit => answer_commit(rt, alloc, workers, out, state, frame)?,
+        Line::Kind(..) | Line::Slots(_) | Line::Load(_) | Line::Calls(_) => {
             return answer_unfit(out, state, frame, BadLine::SetupEnded);
         }
         _ => return answer_unfit(out, state, frame, BadLine::FrameOpen),

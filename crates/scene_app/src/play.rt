@@ -1,8 +1,8 @@
-//! A whole script: the setup, and then line after line on the machine of saved worlds.
+//! A whole script: the setup, and then line after line on the sessions of one state.
 ghost use Rattle.std.specs.Prelude.{◌≡◌, ◌++◌, ◌+◌, ◌<◌, ◌≤◌, ◌^◌, OnOk, IfOk, length, string_bytes, Ok};
 ghost use Rattle.std.specs.Str.Lines.{lines};
 ghost use Rattle.scene_script.specs.Script.{line_in};
-ghost use Rattle.scene_app.specs.Play.{said_reply, opening_state, then_rest, run_from, setup_from, printed};
+ghost use Rattle.scene_app.specs.Play.{printed, run_from, said_reply, setup_from, then_rest};
 ghost use Rattle.scene_app.specs.OpenFrame.{queue_count};
 ghost use Rattle.scene_streams.specs.Limits.{most_bytes};
 ghost use Rattle.scene_app.specs.Steps.{Prints, LinePlayed};
@@ -14,10 +14,11 @@ use crate::play_state::PlayState;
 use crate::report::Reports;
 use crate::setup::Setup;
 use crate::setup_answer::{SetupAnswer, answer_setup};
+use scene_hand::Hand;
 use scene_kinds::Schema;
 use scene_script::{BadLine, Line, LineError, first_line, read_line};
-use scene_world::World;
 use std::alloc::{AllocError, Global};
+use std::sync::Wait;
 use std::thread::Threads;
 
 /// What a line says, or why it is bad.
@@ -36,7 +37,7 @@ fn said_in(
 }
 
 /// Plays a line after the setup, and notes it where it is bad.
-fn play_line<T: Threads + Sync>(
+fn play_line<T: Threads + Wait + Sync>(
     rt: &T,
     alloc: Global,
     workers: usize,
@@ -58,7 +59,7 @@ fn play_line<T: Threads + Sync>(
 }
 
 /// Plays lines after the setup, of which the first has a number.
-fn play_lines<T: Threads + Sync>(
+fn play_lines<T: Threads + Wait + Sync>(
     rt: &T,
     alloc: Global,
     workers: usize,
@@ -71,7 +72,7 @@ fn play_lines<T: Threads + Sync>(
     requires few { reports.old.count < first }
     requires opened { queue_count state.old.frame < first }
     requires room { first + length script.now < 2 ^ 32 }
-    ensures printed { OnOk result (Prints (string_bytes out.old) (string_bytes out.new) reports.old reports.new
+    ensures printed { OnOk result (Prints (string_bytes out.old) (string_bytes out.new) reports.old reports.new state.new.hand
         (run_from first state.old (lines script.now))) }
     ensures few { OnOk result (reports.new.count < first + length script.now) }
 {
@@ -79,7 +80,7 @@ fn play_lines<T: Threads + Sync>(
     let mut number = first;
     'lines: while !rest.is_empty() {
         let (bytes, after) = first_line(rest);
-        let said = said_in(alloc, state.machine.now().schema(), bytes)?;
+        let said = said_in(alloc, &state.schema, bytes)?;
         play_line(rt, alloc, workers, state, number, said, out, reports)?;
         rest = after;
         number += 1;
@@ -88,7 +89,7 @@ fn play_lines<T: Threads + Sync>(
 }
 
 /// Plays a line after the setup, and the lines after it.
-fn play_from<T: Threads + Sync>(
+fn play_from<T: Threads + Wait + Sync>(
     rt: &T,
     alloc: Global,
     workers: usize,
@@ -102,7 +103,7 @@ fn play_from<T: Threads + Sync>(
     requires few { reports.old.count < number }
     requires opened { queue_count state.old.frame < number }
     requires room { number + 1 + length after.now < 2 ^ 32 }
-    ensures printed { OnOk result (Prints (string_bytes out.old) (string_bytes out.new) reports.old reports.new
+    ensures printed { OnOk result (Prints (string_bytes out.old) (string_bytes out.new) reports.old reports.new state.new.hand
         (then_rest number (said_reply state.old (Ok line)) (λ s. run_from (number + 1) s (lines after.now)))) }
     ensures few { OnOk result (reports.new.count < number + 1 + length after.now) }
 {
@@ -110,28 +111,31 @@ fn play_from<T: Threads + Sync>(
     play_lines(rt, alloc, workers, state, number + 1, after, out, reports)
 }
 
-/// Plays the line that ends the setup, and the lines after it.
-fn play_run<T: Threads + Sync>(
+/// Plays the line that ends the setup, and the lines after it, and gives the hand that they leave.
+fn play_run<T: Threads + Wait + Sync>(
     rt: &T,
     alloc: Global,
     workers: usize,
-    world: World,
+    state: PlayState,
     number: usize,
     line: Line,
     after: &[u8],
     out: &mut String,
     reports: &mut Reports,
-) -> Result<(), AllocError>
+) -> Result<Hand, AllocError>
     requires few { reports.old.count < number }
+    requires opened { queue_count state.frame < number }
     requires room { number + 1 + length after.now < 2 ^ 32 }
-    ensures printed { OnOk result (Prints (string_bytes out.old) (string_bytes out.new) reports.old reports.new
-        (then_rest number (said_reply (opening_state world.world) (Ok line)) (λ s. run_from (number + 1) s (lines after.now)))) }
+    ensures printed { IfOk result (λ hand. Prints (string_bytes out.old) (string_bytes out.new) reports.old reports.new hand
+        (then_rest number (said_reply state (Ok line)) (λ s. run_from (number + 1) s (lines after.now)))) }
     ensures few { OnOk result (reports.new.count < number + 1 + length after.now) }
 {
-    let mut state = PlayState::new(alloc, world);
+    let mut state = state;
     play_from(
         rt, alloc, workers, &mut state, number, line, after, out, reports,
-    )
+    )?;
+    let PlayState { hand, .. } = state;
+    Ok(hand)
 }
 
 /// Plays a line of the setup, and notes it where it is bad. A line that ends the setup is handed back, and isn't played.
@@ -156,8 +160,8 @@ fn play_setup_line(
     Ok(None)
 }
 
-/// Plays the setup, line by line, and then the run that the line behind it begins.
-fn play_setup<T: Threads + Sync>(
+/// Plays the setup, line by line, and then the run that the line behind it begins. It gives the hand that they leave.
+fn play_setup<T: Threads + Wait + Sync>(
     rt: &T,
     alloc: Global,
     workers: usize,
@@ -165,10 +169,10 @@ fn play_setup<T: Threads + Sync>(
     script: &[u8],
     out: &mut String,
     reports: &mut Reports,
-) -> Result<(), AllocError>
+) -> Result<Hand, AllocError>
     requires none { reports.old ≡ no_bad_lines }
     requires room { length script.now ≤ most_bytes }
-    ensures printed { OnOk result (Prints (string_bytes out.old) (string_bytes out.new) no_bad_lines reports.new
+    ensures printed { IfOk result (λ hand. Prints (string_bytes out.old) (string_bytes out.new) no_bad_lines reports.new hand
         (setup_from 1 (setup_of setup.old) (lines script.now))) }
     ensures few { OnOk result (reports.new.count ≤ length script.now) }
 {
@@ -177,27 +181,27 @@ fn play_setup<T: Threads + Sync>(
     'lines: while !rest.is_empty() {
         let (bytes, after) = first_line(rest);
         if let Some(line) = play_setup_line(alloc, setup, number, bytes, out, reports)? {
-            let world = setup.take_world(alloc);
-            return play_run(rt, alloc, workers, world, number, line, after, out, reports);
+            let state = setup.begin(alloc)?;
+            return play_run(rt, alloc, workers, state, number, line, after, out, reports);
         }
         rest = after;
         number += 1;
     }
-    Ok(())
+    setup.take_hand(alloc)
 }
 
-/// Plays a script from the setup that has nothing yet.
-fn play_all<T: Threads + Sync>(
+/// Plays a script from the setup that has nothing yet, and gives the hand that it leaves.
+fn play_all<T: Threads + Wait + Sync>(
     rt: &T,
     alloc: Global,
     workers: usize,
     script: &[u8],
     out: &mut String,
     reports: &mut Reports,
-) -> Result<(), AllocError>
+) -> Result<Hand, AllocError>
     requires none { reports.old ≡ no_bad_lines }
     requires room { length script.now ≤ most_bytes }
-    ensures printed { OnOk result (Prints (string_bytes out.old) (string_bytes out.new) no_bad_lines reports.new (printed script.now)) }
+    ensures printed { IfOk result (λ hand. Prints (string_bytes out.old) (string_bytes out.new) no_bad_lines reports.new hand (printed script.now)) }
     ensures few { OnOk result (reports.new.count ≤ length script.now) }
 {
     let mut setup = Setup::new(alloc);
@@ -206,21 +210,22 @@ fn play_all<T: Threads + Sync>(
 
 /// Plays a script from its first line, adds what it prints, and notes its bad lines (docs/SCRIPTS.md, "Lines").
 ///
-/// The first line that is no `kind`, `slots` or `load`, not empty and not bad ends the setup, and is played itself. Want
-/// of memory ends it with an error, and then a part of the text may be there. Each line costs what it asks for. An advance
-/// has so many workers, on which nothing that is printed depends.
-pub(crate) fn play_script<T: Threads + Sync>(
+/// The first line that is no `kind`, `slots`, `load` or `calls`, not empty and not bad ends the setup, and is played itself.
+/// Want of memory ends it with an error, and then a part of the text may be there. Each line costs what it asks for. An
+/// advance has so many workers, on which nothing that is printed depends. It gives the sessions with their state, and the
+/// bad lines.
+pub(crate) fn play_script<T: Threads + Wait + Sync>(
     rt: &T,
     alloc: Global,
     workers: usize,
     script: &[u8],
     out: &mut String,
-) -> Result<Reports, AllocError>
+) -> Result<(Hand, Reports), AllocError>
     requires { length script.now ≤ most_bytes }
-    ensures printed { IfOk result (λ reports. Prints (string_bytes out.old) (string_bytes out.new) no_bad_lines reports (printed script.now)) }
-    ensures few { IfOk result (λ reports. reports.count ≤ length script.now) }
+    ensures printed { IfOk result (λ p. Prints (string_bytes out.old) (string_bytes out.new) no_bad_lines p.1 p.0 (printed script.now)) }
+    ensures few { IfOk result (λ p. p.1.count ≤ length script.now) }
 {
     let mut reports = Reports::new(alloc);
-    play_all(rt, alloc, workers, script, out, &mut reports)?;
-    Ok(reports)
+    let hand = play_all(rt, alloc, workers, script, out, &mut reports)?;
+    Ok((hand, reports))
 }

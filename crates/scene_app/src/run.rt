@@ -5,29 +5,38 @@ ghost use Rattle.scene_streams.specs.Known.{AppendsPrefix};
 ghost use Rattle.scene_streams.specs.Source.{reader_of, turns_left, read_failed};
 ghost use Rattle.scene_streams.specs.Sink.{writer_of, write_failed};
 ghost use Rattle.scene_streams.specs.Limits.{most_bytes};
-ghost use Rattle.scene_app.specs.Play.{output, bad_lines};
+ghost use Rattle.scene_hand.specs.Hand.{HandState};
+ghost use Rattle.scene_hand.specs.Passes.{AreOf};
+ghost use Rattle.scene_app.specs.Play.{bad_lines, hand_after, output};
 ghost use Rattle.scene_app.specs.declared.fault.AppFault.TheVariants.{NoMemory, ReadFault, WriteFault, TooLong};
 
 use crate::fault::AppFault;
 use crate::play::play_script;
 use crate::report::BadLineReport;
+use scene_lock::{Pass, WordLock};
+use scene_session::State;
 use scene_streams::{Sink, Source};
 use std::alloc::Global;
 use std::io::{Read, Write};
+use std::sync::Wait;
 use std::thread::Threads;
 
 /// How a run ended.
-#[derive(Debug, Drop)]
+#[derive(Drop)]
 pub struct RunEnd {
     /// How many lines of the script were bad.
     pub bad_lines: u32,
     /// The first ten of them, each with its number and its first mistake.
     pub reports: Vec<BadLineReport>,
+    /// The lock over the state that the script leaves.
+    pub lock: WordLock<State>,
+    /// The passes of its eight sessions, 0 first. Each has seen all calls of the script.
+    pub passes: Vec<Pass<State>>,
 }
 
-/// What a script's bytes print, and its bad lines.
+/// What a script's bytes print, its bad lines, and what it leaves.
 #[tactic(auto, using(crate::proofs::ReportLaws::noted_all))]
-fn played<T: Threads + Sync>(
+fn played<T: Threads + Wait + Sync>(
     rt: &T,
     alloc: Global,
     workers: usize,
@@ -37,27 +46,32 @@ fn played<T: Threads + Sync>(
     ensures printed { IfOk result (λ p. string_bytes p.0 ≡ output script.now) }
     ensures bad { IfOk result (λ p. p.1.bad_lines ≡ length (bad_lines script.now)) }
     ensures reports { IfOk result (λ p. p.1.reports.items ≡ take 10 (bad_lines script.now)) }
+    ensures passes { IfOk result (λ p. AreOf p.1.lock p.1.passes.items (hand_after script.now)) }
     ensures memory { IfErr result (λ f. f ≡ NoMemory) }
 {
     let mut out = String::new(alloc);
-    let reports = play_script(rt, alloc, workers, script, &mut out)?;
+    let (hand, reports) = play_script(rt, alloc, workers, script, &mut out)?;
+    let (lock, passes) = hand.into_parts();
     let end = RunEnd {
         bad_lines: reports.count() as u32,
         reports: reports.into_first(),
+        lock,
+        passes,
     };
     Ok((out, end))
 }
 
 /// Reads a script to its end, plays it, and writes what it prints (docs/SCRIPTS.md, "Output"). Nothing is written
 /// before the whole script is played. An advance has so many workers, 1 to 16, on which nothing that is written depends; a
-/// number below is taken as 1, and one above as 16.
+/// number below is taken as 1, and one above as 16. The passes that come back have seen the calls of the script with their
+/// answers, each of the session that `as` named (docs/SCRIPTS.md, "Sessions").
 ///
 /// Refused: `ReadFault` exactly where the source has failed, now or before, and where it hadn't then in a call of
 /// its reader; `TooLong` where the script is longer than 67,108,864 bytes or its end doesn't come in the turns of the
 /// source; `NoMemory`; and then nothing is written. `WriteFault` where the sink has failed, now or before; then a
-/// prefix of the output is written. A run costs what its lines ask for, and the memory of the script, of the output and
-/// of the records of its frames.
-pub fn run_script<T: Threads + Sync, R: Read, W: Write>(
+/// prefix of the output is written. A run costs what its lines ask for, some thirty loads of a word a line, and the memory of
+/// the script, of the output, of its calls and of the records of its frames.
+pub fn run_script<T: Threads + Wait + Sync, R: Read, W: Write>(
     rt: &T,
     alloc: Global,
     workers: usize,
@@ -68,6 +82,8 @@ pub fn run_script<T: Threads + Sync, R: Read, W: Write>(
         (λ script. Appends (W.contents (writer_of sink.old)) (W.contents (writer_of sink.new)) (output script))) }
     ensures bad { IfOk result (λ end. IfSome (R.remaining (reader_of source.old)) (λ script. end.bad_lines ≡ length (bad_lines script))) }
     ensures reports { IfOk result (λ end. IfSome (R.remaining (reader_of source.old)) (λ script. end.reports.items ≡ take 10 (bad_lines script))) }
+    ensures passes { IfOk result (λ end. IfSome (R.remaining (reader_of source.old)) (λ script. AreOf end.lock end.passes.items (hand_after script))) }
+    ensures eight { IfOk result (λ end. (hand : HandState) × AreOf end.lock end.passes.items hand) }
     ensures within { OnOk result (IfSome (R.remaining (reader_of source.old)) (λ script. length script ≤ most_bytes)) }
     ensures end { OnOk result (IsAtEnd (R.remaining (reader_of source.new))) }
     ensures prefix { OnErr result (IfSome (R.remaining (reader_of source.old))

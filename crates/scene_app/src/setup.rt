@@ -1,55 +1,84 @@
 //! What the setup of a script has come to.
-ghost use Rattle.std.specs.Prelude.{◌≡◌, []};
-ghost use Rattle.scene_app.specs.Play.{Declared, first_world, setup_kinds};
-ghost use Rattle.scene_app.specs.SetupSteps.{setup_of};
+ghost use Rattle.std.specs.Prelude.{◌≡◌, IfOk};
+ghost use Rattle.scene_app.specs.Play.{first_hand, first_setup, first_state, first_world, setup_kinds};
+ghost use Rattle.scene_app.specs.SetupSteps.{base_of, setup_of};
 
+use crate::play_state::PlayState;
+use scene_hand::Hand;
 use scene_kinds::Schema;
-use scene_script::SlotLimit;
+use scene_script::Limit;
+use scene_undo::Editor;
 use scene_world::World;
-use std::alloc::Global;
+use std::alloc::{AllocError, Global};
+use std::mem;
 
-/// The setup of a script between two lines (docs/SCRIPTS.md, "Setup").
+/// In what world the run begins.
 #[derive(Drop)]
-pub(crate) enum Setup {
+pub(crate) enum Base {
     /// The kinds and the slot limit so far.
-    Declared(Schema, SlotLimit),
+    Declared(Schema, Limit),
     /// The world of the scene text that was loaded last.
     Loaded(World),
 }
 
-impl Setup {
-    /// The setup before the first line: no kinds, and the greatest slot limit. It takes no memory.
-    pub(crate) fn new(alloc: Global) -> Self
-        ensures { setup_of result ≡ Declared [] 1048576 }
+impl Base {
+    /// The world in which the run begins: without entities, or the loaded one. It takes no memory.
+    fn into_world(self, alloc: Global) -> World
+        ensures { result.world ≡ first_world (base_of self) }
     {
-        Setup::Declared(Schema::new(alloc), SlotLimit::most())
+        match self {
+            Base::Declared(schema, limit) => World::new(alloc, schema, limit.get()),
+            Base::Loaded(world) => world,
+        }
+    }
+}
+
+/// The setup of a script between two lines (docs/SCRIPTS.md, "Setup"), with the number of calls that there may be.
+#[derive(Drop)]
+pub(crate) struct Setup {
+    pub(crate) base: Base,
+    pub(crate) calls: Limit,
+}
+
+impl Setup {
+    /// The setup before the first line: no kinds, and the greatest limits. It takes no memory.
+    pub(crate) fn new(alloc: Global) -> Self
+        ensures { setup_of result ≡ first_setup }
+    {
+        Setup {
+            base: Base::Declared(Schema::new(alloc), Limit::most()),
+            calls: Limit::most(),
+        }
     }
 
     /// The kinds so far.
     pub(crate) fn schema(&self) -> &Schema
         ensures { result.now ≡ setup_kinds (setup_of self.now) }
     {
-        match self {
-            Setup::Declared(schema, _) => schema,
-            Setup::Loaded(world) => world.schema(),
+        match &self.base {
+            Base::Declared(schema, _) => schema,
+            Base::Loaded(world) => world.schema(),
         }
     }
 
-    /// The world in which the run begins: without entities, or the loaded one. It takes no memory.
-    fn into_world(self, alloc: Global) -> World
-        ensures { result.world ≡ first_world (setup_of self) }
+    /// The hand with which the run begins. It leaves a setup without kinds.
+    pub(crate) fn take_hand(&mut self, alloc: Global) -> Result<Hand, AllocError>
+        ensures { IfOk result (λ hand. hand ≡ first_hand (setup_of self.old)) }
     {
-        match self {
-            Setup::Declared(schema, limit) => World::new(alloc, schema, limit.get()),
-            Setup::Loaded(world) => world,
-        }
+        let base = mem::replace(
+            &mut self.base,
+            Base::Declared(Schema::new(alloc), Limit::most()),
+        );
+        let editor = Editor::new(alloc, base.into_world(alloc));
+        Hand::new(alloc, editor, self.calls.get())
     }
 
-    /// `into_world` of a setup that is lent. It leaves the setup before the first line.
-    pub(crate) fn take_world(&mut self, alloc: Global) -> World
-        ensures { result.world ≡ first_world (setup_of self.old) }
+    /// The state in which the run begins. It leaves a setup without kinds.
+    pub(crate) fn begin(&mut self, alloc: Global) -> Result<PlayState, AllocError>
+        ensures { IfOk result (λ state. state ≡ first_state (setup_of self.old)) }
     {
-        let setup = std::mem::replace(self, Setup::new(alloc));
-        setup.into_world(alloc)
+        let schema = self.schema().try_clone()?;
+        let hand = self.take_hand(alloc)?;
+        Ok(PlayState::new(alloc, hand, schema))
     }
 }

@@ -1,15 +1,15 @@
 //! The answer to one line of the setup.
 ghost use Rattle.std.specs.Prelude.{◌≡◌, ◌++◌, OnOk, IfOk, string_bytes};
-ghost use Rattle.scene_app.specs.Play.{kind_reply, slots_reply, load_reply, setup_said};
-ghost use Rattle.scene_app.specs.SetupSteps.{setup_of, SetupReplies, AnswersSetup};
+ghost use Rattle.scene_app.specs.Play.{calls_reply, kind_reply, load_reply, setup_said, slots_reply};
+ghost use Rattle.scene_app.specs.SetupSteps.{AnswersSetup, SetupReplies, base_of, setup_of};
 ghost use Rattle.scene_file.specs.Scene.{loaded};
 
 use crate::answer::{answer_bad, answer_refused};
 use crate::file_fault_text::answer_file_fault;
-use crate::setup::Setup;
+use crate::setup::{Base, Setup};
 use scene_file::load_text;
 use scene_kinds::Shape;
-use scene_script::{BadLine, Line, SlotLimit};
+use scene_script::{BadLine, Limit, Line};
 use std::alloc::{AllocError, Global};
 
 /// What became of a line in the setup.
@@ -30,9 +30,9 @@ fn answer_kind(
     shape: Shape,
 ) -> Result<Option<BadLine>, AllocError>
     ensures { IfOk result (λ bad. SetupReplies (string_bytes out.old) (string_bytes out.new) (setup_of setup.new) bad
-        (kind_reply (setup_of setup.old) name.now shape)) }
+        (kind_reply (setup_of setup.old) (base_of setup.old.base) name.now shape)) }
 {
-    let Setup::Declared(schema, _) = setup else {
+    let Base::Declared(schema, _) = &mut setup.base else {
         return answer_bad(out, BadLine::SceneLoaded);
     };
     let name = String::from_str(alloc, name)?;
@@ -47,12 +47,12 @@ fn answer_kind(
 fn answer_slots(
     out: &mut String,
     setup: &mut Setup,
-    slots: SlotLimit,
+    slots: Limit,
 ) -> Result<Option<BadLine>, AllocError>
     ensures { IfOk result (λ bad. SetupReplies (string_bytes out.old) (string_bytes out.new) (setup_of setup.new) bad
-        (slots_reply (setup_of setup.old) slots)) }
+        (slots_reply (setup_of setup.old) (base_of setup.old.base) slots)) }
 {
-    let Setup::Declared(_, limit) = setup else {
+    let Base::Declared(_, limit) = &mut setup.base else {
         return answer_bad(out, BadLine::SceneLoaded);
     };
     *limit = slots;
@@ -74,11 +74,25 @@ fn answer_load(
     let loaded = load_text(alloc, text.as_bytes());
     match loaded {
         Ok(world) => {
-            *setup = Setup::Loaded(world);
+            setup.base = Base::Loaded(world);
             out.push_str("ok\n")?;
         }
         Err(fault) => answer_file_fault(alloc, out, fault)?,
     }
+    Ok(None)
+}
+
+/// `calls`.
+fn answer_calls(
+    out: &mut String,
+    setup: &mut Setup,
+    calls: Limit,
+) -> Result<Option<BadLine>, AllocError>
+    ensures { IfOk result (λ bad. SetupReplies (string_bytes out.old) (string_bytes out.new) (setup_of setup.new) bad
+        (calls_reply (setup_of setup.old) calls)) }
+{
+    setup.calls = calls;
+    out.push_str("ok\n")?;
     Ok(None)
 }
 
@@ -99,6 +113,7 @@ pub(crate) fn answer_setup(
         Ok(Line::Kind(name, shape)) => answer_kind(alloc, out, setup, name.as_str(), shape)?,
         Ok(Line::Slots(slots)) => answer_slots(out, setup, slots)?,
         Ok(Line::Load(text)) => answer_load(alloc, out, setup, text.as_str())?,
+        Ok(Line::Calls(calls)) => answer_calls(out, setup, calls)?,
         Ok(line) => return Ok(SetupAnswer::Ends(line)),
     };
     Ok(SetupAnswer::Given(bad))

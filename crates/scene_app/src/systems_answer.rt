@@ -1,14 +1,15 @@
 //! The answers to the lines of systems.
 ghost use Rattle.std.specs.Prelude.{OnOk, None, string_bytes};
 ghost use Rattle.scene_script.specs.declared.script_line.Line.TheVariants.{Phase, System, Clear};
-ghost use Rattle.scene_app.specs.Play.{lone_reply, advanced_reply, advance_reply};
+ghost use Rattle.scene_app.specs.Play.{advance_reply, lone_reply};
 ghost use Rattle.scene_app.specs.Steps.{Replies};
 
-use crate::answer::{answer_refused, write_made};
+use crate::answer::{answer_call, answer_refused};
 use crate::play_state::PlayState;
 use scene_rules::SystemRule;
-use scene_schedule::Schedule;
-use std::alloc::AllocError;
+use scene_session::Call;
+use std::alloc::{AllocError, Global};
+use std::sync::Wait;
 use std::thread::Threads;
 
 /// `phase`.
@@ -39,33 +40,18 @@ pub(crate) fn answer_clear(out: &mut String, state: &mut PlayState) -> Result<()
     out.push_str("ok\n")
 }
 
-/// An advance by a schedule.
-fn answer_scheduled<T: Threads + Sync>(
-    rt: &T,
-    workers: usize,
-    out: &mut String,
-    state: &mut PlayState,
-    schedule: &Schedule,
-) -> Result<(), AllocError>
-    ensures { OnOk result (Replies (string_bytes out.old) (string_bytes out.new) state.new None (advanced_reply state.old schedule.now)) }
-{
-    match state.machine.editor.advance(rt, schedule, workers) {
-        Ok(made) => write_made(out, made.entities.as_slice()),
-        Err(refusal) => answer_refused(out, refusal),
-    }
-}
-
 /// `advance`.
-pub(crate) fn answer_advance<T: Threads + Sync>(
+pub(crate) fn answer_advance<T: Threads + Wait + Sync>(
     rt: &T,
+    alloc: Global,
     workers: usize,
     out: &mut String,
     state: &mut PlayState,
 ) -> Result<(), AllocError>
     ensures { OnOk result (Replies (string_bytes out.old) (string_bytes out.new) state.new None (advance_reply state.old)) }
 {
-    match state.phases.schedule(state.machine.now().schema()) {
-        Ok(schedule) => answer_scheduled(rt, workers, out, state, &schedule),
+    match state.phases.schedule(&state.schema) {
+        Ok(schedule) => answer_call(rt, alloc, workers, out, state, Call::Advance(schedule)),
         Err(refusal) => answer_refused(out, refusal),
     }
 }

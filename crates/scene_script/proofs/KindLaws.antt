@@ -1,5 +1,5 @@
 -- A kind that a name names has its bit in a set of kinds.
-use Rattle.std.proofs.Common.{◌≡◌, ℕ, ◌<◌, List, length, ◌∙◌, arith, Option, Some, None, Ok}
+use Rattle.std.proofs.Common.{◌≡◌, ℕ, ◌<◌, List, length, arith, Option, Some, None, Ok}
 use Rattle.std.specs.Str.{bytes_eq}
 use Rattle.scene_kinds.specs.declared.shape.Shape.{Shape}
 use Rattle.scene_kinds.specs.Schema.{Kinds, IsSchema, number_of}

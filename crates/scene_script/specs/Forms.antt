@@ -10,6 +10,7 @@ form_named word =
     if bytes_eq word (codes "kind") then Some form.Kind
     else if bytes_eq word (codes "slots") then Some form.Slots
     else if bytes_eq word (codes "load") then Some form.Load
+    else if bytes_eq word (codes "calls") then Some form.Calls
     else if bytes_eq word (codes "spawn") then Some form.Spawn
     else if bytes_eq word (codes "insert") then Some form.Insert
     else if bytes_eq word (codes "despawn") then Some form.Despawn
@@ -35,13 +36,12 @@ form_named word =
     else if bytes_eq word (codes "clear") then Some form.Clear
     else if bytes_eq word (codes "advance") then Some form.Advance
     else if bytes_eq word (codes "dump") then Some form.Dump
+    else if bytes_eq word (codes "as") then Some form.As
+    else if bytes_eq word (codes "history") then Some form.History
     else None
 
 -- whether a first word is one of the language that doesn't run yet
 abbrev pub runs_later : List ℕ → Bool
 runs_later word =
-    if bytes_eq word (codes "calls") then true
-    else if bytes_eq word (codes "depth") then true
-    else if bytes_eq word (codes "dumpall") then true
-    else if bytes_eq word (codes "as") then true
-    else bytes_eq word (codes "history")
+    if bytes_eq word (codes "depth") then true
+    else bytes_eq word (codes "dumpall")

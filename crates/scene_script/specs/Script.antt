@@ -1,11 +1,10 @@
 -- What a line of a script says, or why it is bad: the first mistake, read from the left.
 use Rattle.std.specs.Prelude.{ℕ, List, [], ◌∷◌, ◌==◌, Bool, false, ◌&&◌, Option, Some, None, Result, Ok, Err, pos, nat_lt, nat_le, if◌then◌else◌, option_and_then}
 use Rattle.std.specs.Str.{is_utf8}
-use Rattle.scene_kinds.specs.declared.value.Value.{Value}
 use Rattle.scene_kinds.specs.Schema.{Kinds}
 use Rattle.scene_commands.specs.declared.command.Command.TheVariants.{Spawn, Insert, Despawn, Remove, SetParent, RemoveParent, DespawnAll, DespawnAllIfAlive, PutResource, RemoveResource}
 use Rattle.scene_script.specs.declared.script_line.Line.{Line}
-use Rattle.scene_script.specs.declared.script_line.Line.TheVariants.{Empty, Kind, Slots, Load, Do, Begin, Queue, Commit, Undo, Redo, Show, Get, Mark, Changed, Added, Phase, System, Clear, Advance, Dump}
+use Rattle.scene_script.specs.declared.script_line.Line.TheVariants.{Empty, Kind, Slots, Load, Calls, Do, Begin, Queue, Commit, Undo, Redo, Show, Get, Mark, Changed, Added, Phase, System, Clear, Advance, Dump, As, History}
 use Rattle.scene_script.specs.declared.form.Form.{Form}
 use Rattle.scene_script.specs.declared.form.Form.TheVariants as form
 use Rattle.scene_script.specs.declared.bad_line.BadLine.{BadLine}
@@ -25,11 +24,11 @@ kind_line words = do
   s ← shape_said shape.0
   ended form.Kind shape.1 (Kind name.0 s)
 
--- the slot limit that a number is
+-- the limit that a number is, of slots or of calls
 abbrev pub limit_of : ℕ → Option ℕ
 limit_of n = if nat_lt 0 n && nat_le n 1048576 then Some n else None
 
--- the slot limit that a word is
+-- the limit that a word is
 abbrev pub limit_said : List ℕ → Result ℕ BadLine
 limit_said word = or_bad (bad_number word (pos 1) (pos 1048576)) (option_and_then limit_of (count_in word))
 
@@ -39,6 +38,13 @@ slots_line words = do
   word ← next_word form.Slots words
   n ← limit_said word.0
   ended form.Slots word.1 (Slots n)
+
+-- `calls N`
+abbrev pub calls_line : List (List ℕ) → Result Line BadLine
+calls_line words = do
+  word ← next_word form.Calls words
+  n ← limit_said word.0
+  ended form.Calls word.1 (Calls n)
 
 -- `spawn CELL..`
 abbrev pub spawn_line : Kinds → List (List ℕ) → Result Line BadLine
@@ -129,6 +135,21 @@ system_line kinds words = do
   rule ← system_said kinds name.0 name.1
   Ok (System rule)
 
+-- the session that a number is
+abbrev pub session_of : ℕ → Option ℕ
+session_of n = if nat_lt n 8 then Some n else None
+
+-- the session that a word is
+abbrev pub session_said : List ℕ → Result ℕ BadLine
+session_said word = or_bad (bad_number word (pos 0) (pos 7)) (option_and_then session_of (count_in word))
+
+-- `as N`
+abbrev pub as_line : List (List ℕ) → Result Line BadLine
+as_line words = do
+  word ← next_word form.As words
+  n ← session_said word.0
+  ended form.As word.1 (As n)
+
 -- `load TEXT`; the text is the rest of the line
 abbrev pub load_line : List ℕ → Result Line BadLine
 load_line line = Ok (Load (behind_first line))
@@ -138,6 +159,7 @@ abbrev pub line_of_form : Kinds → Form → List ℕ → List (List ℕ) → Re
 line_of_form kinds form.Kind line words = kind_line words
 line_of_form kinds form.Slots line words = slots_line words
 line_of_form kinds form.Load line words = load_line line
+line_of_form kinds form.Calls line words = calls_line words
 line_of_form kinds form.Spawn line words = spawn_line kinds words
 line_of_form kinds form.Insert line words = insert_line kinds words
 line_of_form kinds form.Despawn line words = despawn_line words
@@ -163,6 +185,8 @@ line_of_form kinds form.System line words = system_line kinds words
 line_of_form kinds form.Clear line words = ended form.Clear words Clear
 line_of_form kinds form.Advance line words = ended form.Advance words Advance
 line_of_form kinds form.Dump line words = ended form.Dump words Dump
+line_of_form kinds form.As line words = as_line words
+line_of_form kinds form.History line words = ended form.History words History
 
 -- why a first word names no form
 abbrev pub unknown_word : List ℕ → BadLine

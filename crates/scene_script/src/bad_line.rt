@@ -60,7 +60,7 @@ pub enum BadLine {
     #[error("a cell is missing in `{}`", quoted(.0))]
     MissingCell(Text),
     /// A line of the setup behind it.
-    #[error("the setup has ended: kind, slots and load come before all other lines")]
+    #[error("the setup has ended: kind, slots, load and calls come before all other lines")]
     SetupEnded,
     /// A kind or a slot limit behind a load, which gives both.
     #[error("a scene is loaded: its kinds and its slot limit stay")]

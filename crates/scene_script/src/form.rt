@@ -10,6 +10,7 @@ pub enum Form {
     Kind,
     Slots,
     Load,
+    Calls,
     Spawn,
     Insert,
     Despawn,
@@ -35,6 +36,8 @@ pub enum Form {
     Clear,
     Advance,
     Dump,
+    As,
+    History,
 }
 
 impl Form {
@@ -46,6 +49,7 @@ impl Form {
             "kind" => Some(Form::Kind),
             "slots" => Some(Form::Slots),
             "load" => Some(Form::Load),
+            "calls" => Some(Form::Calls),
             "spawn" => Some(Form::Spawn),
             "insert" => Some(Form::Insert),
             "despawn" => Some(Form::Despawn),
@@ -71,6 +75,8 @@ impl Form {
             "clear" => Some(Form::Clear),
             "advance" => Some(Form::Advance),
             "dump" => Some(Form::Dump),
+            "as" => Some(Form::As),
+            "history" => Some(Form::History),
             _ => None,
         }
     }
@@ -83,6 +89,7 @@ impl fmt::Display for Form {
             Form::Kind => "kind NAME SHAPE",
             Form::Slots => "slots N",
             Form::Load => "load TEXT",
+            Form::Calls => "calls N",
             Form::Spawn => "spawn CELL..",
             Form::Insert => "insert T CELL",
             Form::Despawn => "despawn T",
@@ -108,6 +115,8 @@ impl fmt::Display for Form {
             Form::Clear => "clear",
             Form::Advance => "advance",
             Form::Dump => "dump",
+            Form::As => "as N",
+            Form::History => "history",
         };
         write!(f, "{text}")
     }

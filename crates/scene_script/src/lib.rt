@@ -11,23 +11,25 @@
 mod bad_line;
 mod cell;
 mod form;
+mod limit;
 mod line;
 mod number;
 mod print;
 mod script_line;
-mod slot_limit;
+mod session_number;
 mod system;
 mod target;
 mod word;
 
 pub use bad_line::{BadLine, LineError};
 pub use form::Form;
+pub use limit::Limit;
 pub use line::first_line;
 pub use number::{read_count, read_entity, read_number};
 pub use print::{
     write_cell, write_json_text, write_refusal, write_row_cell, write_row_head, write_value,
 };
 pub use script_line::{Line, read_line};
-pub use slot_limit::SlotLimit;
+pub use session_number::SessionNumber;
 pub use target::read_target;
 pub use word::{behind_first, cut, words};

@@ -2,13 +2,14 @@
 ghost use Rattle.std.specs.Prelude.{◌≡◌, IfOk, map};
 ghost use Rattle.scene_script.specs.Reading.{Reads, ended, ended_behind};
 ghost use Rattle.scene_script.specs.Forms.{runs_later};
-ghost use Rattle.scene_script.specs.Script.{line_in, line_of_words, unknown_word, named_line, line_of_form, kind_line, limit_said, slots_line, load_line, spawn_line, insert_line, despawn_line, remove_line, parent_line, unparent_line, despawnall_line, despawnifalive_line, put_line, drop_line, get_line, system_line};
+ghost use Rattle.scene_script.specs.Script.{line_in, line_of_words, unknown_word, named_line, line_of_form, kind_line, limit_said, slots_line, load_line, calls_line, spawn_line, insert_line, despawn_line, remove_line, parent_line, unparent_line, despawnall_line, despawnifalive_line, put_line, drop_line, get_line, system_line, session_said, as_line};
 
 use crate::bad_line::{BadLine, LineError, text_of};
 use crate::cell::{cell_word, cell_words, is_text, kind_word, shape_word, shaped_value_word};
 use crate::form::Form;
+use crate::limit::Limit;
 use crate::number::{bad_number, entity_word, read_count};
-use crate::slot_limit::SlotLimit;
+use crate::session_number::SessionNumber;
 use crate::system::system_rule;
 use crate::target::target_word;
 use crate::word::{behind_first, words};
@@ -25,9 +26,11 @@ pub enum Line {
     /// A kind is declared: its name and its shape.
     Kind(Text, Shape),
     /// The slot limit.
-    Slots(SlotLimit),
+    Slots(Limit),
     /// A scene text, in place of all that the setup has so far.
     Load(Text),
+    /// The greatest number of calls in the history.
+    Calls(Limit),
     /// A command, which is a frame by itself where none is open.
     Do(Command),
     /// A frame is opened.
@@ -53,6 +56,10 @@ pub enum Line {
     Advance,
     /// The scene text of the world.
     Dump,
+    /// The session whose calls the next ones are.
+    As(SessionNumber),
+    /// How many calls the history has.
+    History,
 }
 
 /// A line that ends here says this.
@@ -98,11 +105,11 @@ fn kind_line(alloc: Global, words: &[&str]) -> Result<Line, LineError>
     ended(alloc, Form::Kind, rest, Line::Kind(name, shape))
 }
 
-/// The slot limit that a word is.
-fn limit_word(alloc: Global, word: &str) -> Result<SlotLimit, LineError>
+/// The limit that a word is.
+fn limit_word(alloc: Global, word: &str) -> Result<Limit, LineError>
     ensures { Reads result (limit_said word.now) }
 {
-    match read_count(word).and_then(SlotLimit::new) {
+    match read_count(word).and_then(Limit::new) {
         Some(limit) => Ok(limit),
         None => Err(LineError::Bad(bad_number(alloc, word, 1, 1_048_576)?)),
     }
@@ -124,6 +131,17 @@ fn load_line(alloc: Global, line: &str) -> Result<Line, LineError>
     ensures { Reads result (load_line line.now) }
 {
     Ok(Line::Load(text_of(alloc, behind_first(line))?))
+}
+
+/// `calls N`.
+fn calls_line(alloc: Global, words: &[&str]) -> Result<Line, LineError>
+    ensures { Reads result (calls_line (map (λ w. w.now) words.now)) }
+{
+    let [word, rest @ ..] = words else {
+        return Err(LineError::Bad(BadLine::MissingWord(Form::Calls)));
+    };
+    let limit = limit_word(alloc, word)?;
+    ended(alloc, Form::Calls, rest, Line::Calls(limit))
 }
 
 /// `spawn CELL..`.
@@ -319,6 +337,27 @@ fn system_line(alloc: Global, schema: &Schema, words: &[&str]) -> Result<Line, L
     Ok(Line::System(system_rule(alloc, schema, name, rest)?))
 }
 
+/// The session that a word is.
+fn session_word(alloc: Global, word: &str) -> Result<SessionNumber, LineError>
+    ensures { Reads result (session_said word.now) }
+{
+    match read_count(word).and_then(SessionNumber::new) {
+        Some(session) => Ok(session),
+        None => Err(LineError::Bad(bad_number(alloc, word, 0, 7)?)),
+    }
+}
+
+/// `as N`.
+fn as_line(alloc: Global, words: &[&str]) -> Result<Line, LineError>
+    ensures { Reads result (as_line (map (λ w. w.now) words.now)) }
+{
+    let [word, rest @ ..] = words else {
+        return Err(LineError::Bad(BadLine::MissingWord(Form::As)));
+    };
+    let session = session_word(alloc, word)?;
+    ended(alloc, Form::As, rest, Line::As(session))
+}
+
 /// A line by its form and the words behind the first.
 fn line_of_form(
     alloc: Global,
@@ -333,6 +372,7 @@ fn line_of_form(
         Form::Kind => kind_line(alloc, words),
         Form::Slots => slots_line(alloc, words),
         Form::Load => load_line(alloc, line),
+        Form::Calls => calls_line(alloc, words),
         Form::Spawn => spawn_line(alloc, schema, words),
         Form::Insert => insert_line(alloc, schema, words),
         Form::Despawn => despawn_line(alloc, words),
@@ -358,6 +398,8 @@ fn line_of_form(
         Form::Clear => ended(alloc, form, words, Line::Clear),
         Form::Advance => ended(alloc, form, words, Line::Advance),
         Form::Dump => ended(alloc, form, words, Line::Dump),
+        Form::As => as_line(alloc, words),
+        Form::History => ended(alloc, form, words, Line::History),
     }
 }
 
@@ -366,7 +408,7 @@ fn runs_later(word: &str) -> bool
     ensures { result ≡ runs_later word.now }
 {
     match word {
-        "calls" | "depth" | "dumpall" | "as" | "history" => true,
+        "depth" | "dumpall" => true,
         _ => false,
     }
 }

@@ -64,14 +64,14 @@ module _ (lock : LockView Beginning) (pass after : P) (others : List P) (F : Lis
 
   -- what was entered, was entered right after what all had seen
   done : (c : Call) (d : Reply) → Enters IsLegal by_session lock pass (IsEntryOf c d) after
-      → HasEntered pass.seen pass.session c d F × (told d ≡ answer_after lock.terms.opening pass.seen (asked c))
+      → HasEntered pass.seen pass.session c d F × (told d ≡ answer_after lock.terms.opening pass.seen (asked c)) × IsLegal lock.terms.opening F
   done c d t = let u = t.1 in let e = u.1 in let h = pass.seen in let mid = u.2.0.0 in let later = follows.1.0.0 in
       let seen : after.seen ≡ (h ++ mid) ++ e ∷ [] = u.4 ∙ ap (λ l. l ++ e ∷ []) u.2.0.1 in
       let is : F ≡ h ++ e ∷ [] = between by_session n h mid later F e (follows.1.0.1 ∙ ap (λ l. l ++ later) seen) follows.2.1
       (subst (λ k. entries_of by_session k (h ++ mid) ≡ entries_of by_session k h) (sym u.5) (ap (entries_of by_session pass.session) (sym u.2.0.1) ∙ u.2.1))
       (subst (λ k. entries_of by_session k F ≡ entries_of by_session k ((h ++ mid) ++ e ∷ [])) (still.1 ∙ sym u.5) (follows.1.1 ∙ ap (entries_of by_session after.session) seen))
       (λ s lt other. of_others s lt (λ same. other (u.5 ∙ same))) in
-      ((e, is, u.5, u.6.0, u.6.1), sym u.6.1 ∙ last_answer lock.terms.opening h F e follows.2.0 is ∙ ap (answer_after lock.terms.opening h) u.6.0)
+      ((e, is, u.5, u.6.0, u.6.1), sym u.6.1 ∙ last_answer lock.terms.opening h F e follows.2.0 is ∙ ap (answer_after lock.terms.opening h) u.6.0, follows.2.0)
 
   -- where the pass has entered nothing, all have seen just what they had seen
   pub nothing_came : Follows IsLegal by_session lock pass after → (F ≡ pass.seen) × (after.seen ≡ pass.seen)

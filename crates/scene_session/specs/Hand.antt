@@ -8,7 +8,7 @@ use Rattle.scene_session.specs.declared.call.Stopped.{Stopped}
 use Rattle.scene_session.specs.declared.entry.Entry.{Entry}
 use Rattle.scene_session.specs.declared.state.Beginning.{Beginning}
 use Rattle.scene_session.specs.Calls.{asked, told}
-use Rattle.scene_session.specs.State.{HasEntered, IsStopped, answer_after}
+use Rattle.scene_session.specs.State.{HasEntered, IsLegal, IsStopped, answer_after}
 
 -- one of these passes
 abbrev pub IsAmong : List (PassView Entry Beginning) → PassView Entry Beginning → Type 0
@@ -23,8 +23,8 @@ AreAll n ps = (s : ℕ) → s < n → (q : PassView Entry Beginning) × IsAmong 
 abbrev pub passes_after : List Entry → List Step → List (PassView Entry Beginning) → PassView Entry Beginning → List (PassView Entry Beginning)
 passes_after history steps others pass = all_seen history (others ++ record pass { steps = steps } ∷ [])
 
--- what a call came to, and the whole history before and after it
+-- what a call came to, and the whole history before and after it, which is legal with the call
 abbrev pub IsOnlyCall : Beginning → ℕ → Call → List Entry → Result Reply Stopped → List Entry → Type 0
 IsOnlyCall o session c before reply after = MatchResult reply
-    (λ r. HasEntered before session c r after × (told r ≡ answer_after o before (asked c)))
+    (λ r. HasEntered before session c r after × (told r ≡ answer_after o before (asked c)) × IsLegal o after)
     (λ x. (after ≡ before) × IsStopped o before c x)

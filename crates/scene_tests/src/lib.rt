@@ -6,6 +6,7 @@
 
 #[cfg(test)]
 mod home_tests;
+mod left;
 #[cfg(test)]
 mod queue_tests;
 #[cfg(test)]
@@ -14,3 +15,5 @@ mod run_tests;
 mod tree_tests;
 #[cfg(test)]
 mod world_tests;
+
+pub use left::state_left;

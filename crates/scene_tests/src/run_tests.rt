@@ -1,4 +1,5 @@
-//! Runs whose reader or writer fails at each call in turn.
+//! Runs whose reader or writer fails at each call in turn, and what a run leaves behind.
+use crate::left::state_left;
 use scene_app::{AppFault, run_script};
 use scene_lower_tests::{Pieces, Taker};
 use scene_streams::{Sink, Source};
@@ -94,5 +95,24 @@ fn a_fault_of_a_run_says_its_number_and_name(rt: HostRuntime) -> Result<(), Fail
     assert_eq!(rt; text(AppFault::ReadFault)?.as_str(), "fault 54 ReadFault");
     assert_eq!(rt; text(AppFault::WriteFault)?.as_str(), "fault 55 WriteFault");
     assert_eq!(rt; text(AppFault::TooLong)?.as_str(), "fault 56 TooLong");
+    Ok(())
+}
+
+/// The calls of two sessions, and a line that is bad.
+const SESSIONS: &str = "kind A Int\nas 3\nspawn A=1\nas 0\nget 0v1\nundo\nhistory\nas 8\n";
+
+#[test]
+fn a_run_leaves_the_calls_of_its_sessions(rt: HostRuntime) -> Result<(), Fail> {
+    let mut source = Source::new(Pieces::new(SESSIONS.as_bytes(), 64, 0, ErrorKind::Other));
+    let mut sink = Sink::new(Taker::new(rt.alloc(), 0, true));
+    let end = run_script(&rt, rt.alloc(), 1, &mut source, &mut sink);
+    let end = end.expect(&rt, "the end of the run");
+    assert_eq!(rt; end.bad_lines, 1);
+    let state = state_left(end).expect(&rt, "the state, since nobody else has a pass");
+    assert_eq!(rt; state.history().len(), 2);
+    for (entry, session) in state.history().iter().zip([3, 0]) {
+        assert_eq!(rt; entry.session, session);
+    }
+    assert_eq!(rt; state.editor().rewinds(), 1);
     Ok(())
 }

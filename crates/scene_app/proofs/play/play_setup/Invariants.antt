@@ -10,6 +10,7 @@ abbrev pub invariant-lines : goal.invariant-lines
 invariant-lines g l = record {
   text : string_bytes l.out ++ (setup_from l.number (setup_of l.setup) (lines l.rest)).text ≡ string_bytes l.initial.out ++ (setup_from 1 (setup_of l.initial.setup) (lines l.script)).text;
   bad : noted l.reports (setup_from l.number (setup_of l.setup) (lines l.rest)).bad ≡ noted no_bad_lines (setup_from 1 (setup_of l.initial.setup) (lines l.script)).bad;
+  hand : (setup_from l.number (setup_of l.setup) (lines l.rest)).hand ≡ (setup_from 1 (setup_of l.initial.setup) (lines l.script)).hand;
   few : l.reports.count < l.number;
   room : l.number + length l.rest ≤ 1 + length l.script;
 }

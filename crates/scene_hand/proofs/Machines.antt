@@ -1,0 +1,116 @@
+-- The machine and the answers of a hand are those of its state.
+use Rattle.std.proofs.Common.{◌≡◌, ◌≢◌, ◌<◌, ◌+◌, ℕ, List, [], ◌∷◌, ◌++◌, map, length, Result, Ok, Err, IfOk, IfErr, nat_lt, if◌then◌else◌, true, false, Bool, refl, sym, ap, ◌∙◌, arith}
+use Rattle.std.proofs.lemmas.Bool.{lt-ltb}
+use Rattle.std.proofs.lemmas.List.{length-append, length-map, map-append}
+use Rattle.scene_kinds.specs.declared.entity.Entity.{Entity}
+use Rattle.scene_kinds.specs.declared.fault.Fault.TheVariants.{HistoryFull, NoMemory}
+use Rattle.scene_kinds.specs.declared.refusal.Refusal.{Refusal}
+use Rattle.scene_kinds.specs.Answers.{Outcome, refusal_of}
+use Rattle.scene_model.specs.World.{World}
+use Rattle.scene_machine.specs.Frame.{call}
+use Rattle.scene_machine.specs.Machine.{Machine}
+use Rattle.scene_session.specs.declared.call.Call.{Call}
+use Rattle.scene_session.specs.declared.call.Reply.{Reply}
+use Rattle.scene_session.specs.declared.call.Stopped.{Stopped}
+use Rattle.scene_session.specs.declared.entry.Entry.{Entry}
+use Rattle.scene_session.specs.declared.state.Beginning.{Beginning}
+use Rattle.scene_session.specs.Calls.{Answer, Asked, Submit, Advance, Undo, Redo, Refused, asked, machine_call, told}
+use Rattle.scene_session.specs.History.{replay}
+use Rattle.scene_session.specs.Hand.{IsOnlyCall}
+use Rattle.scene_session.specs.State.{HasEntered, IsLegal, StateView, answer_after, replayed, stopping_at}
+use Rattle.scene_session.specs.Whole.{Whole, whole_of, stepped}
+use Rattle.scene_session.specs.Whole as whole
+use Rattle.scene_hand.specs.Hand.{HandState, answered, entered, hand_of, machine_at, made, next, performed, step, Tells}
+
+-- the machine after a call doesn't depend on records
+machine_stepped : (w : Whole) (a : Asked) (o : Outcome (List Entity) (Machine World)) → (stepped w a o).0.machine ≡ (answered w.machine a o).0
+machine_stepped w (Submit queues) (Ok p) = refl
+machine_stepped w (Advance schedule) (Ok p) = refl
+machine_stepped w Undo (Ok p) = refl
+machine_stepped w Redo (Ok p) = refl
+machine_stepped w a (Err r) = refl
+
+-- nor does the answer
+answer_stepped : (w : Whole) (a : Asked) (o : Outcome (List Entity) (Machine World)) → (stepped w a o).1 ≡ (answered w.machine a o).1
+answer_stepped w a (Ok p) = refl
+answer_stepped w a (Err r) = refl
+
+machine_replayed : (w : Whole) (es : List Entry) → (replay whole.next w es).machine ≡ replay next w.machine (map made es)
+machine_replayed w [] = refl
+machine_replayed w (e ∷ es) = machine_replayed (whole.next w e) es
+    ∙ ap (λ m. replay next m (map made es)) (machine_stepped w (asked e.call) (call w.machine (machine_call (asked e.call))))
+
+-- the machine of a state is that of its hand
+pub machine_is : (s : StateView) (n : ℕ) → (replayed s.opening s.history).machine ≡ machine_at (hand_of s n)
+machine_is s n = machine_replayed (whole_of s.opening.editor) s.history
+
+-- the machine of the state that a hand tells
+pub machine_told : (h : HandState) (s : StateView) → Tells h s → (replayed s.opening s.history).machine ≡ machine_at h
+machine_told h s is = machine_is s h.session ∙ sym (ap machine_at is)
+
+-- and so is the answer to a call
+answer_is : (o : Beginning) (h : List Entry) (n : ℕ) (a : Asked) → answer_after o h a ≡ (step (machine_at (hand_of (record { opening = o; history = h }) n)) a).1
+answer_is o h n a = answer_stepped (replayed o h) a (call (replayed o h).machine (machine_call a))
+    ∙ ap (λ m. (step m a).1) (machine_is (record { opening = o; history = h }) n)
+
+-- what is performed where a test says whether there is room
+abbrev performed_by : HandState → Asked → Bool → HandState × Answer
+performed_by h a b = if b then (entered h a, (step (machine_at h) a).1) else (h, Refused (refusal_of (HistoryFull h.limit)))
+
+module _ (o : Beginning) (h : List Entry) (n : ℕ) where
+  abbrev H : HandState
+  H = hand_of (record { opening = o; history = h }) n
+
+  -- a call that was entered, was performed
+  pub performed_done : (after : List Entry) (c : Call) (r : Reply) → HasEntered h n c r after → told r ≡ answer_after o h (asked c) → IsLegal o after
+      → performed H (asked c) ≡ (hand_of (record { opening = o; history = after }) n, told r)
+  performed_done after c r t answer legal =
+      let e = t.0 in
+      let long : length after ≡ length h + 1 = ap length t.1 ∙ length-append h (e ∷ []) in
+      let few : length (map made h) < o.limit = omega (arith, long, legal.1, length-map h made) in
+      let given : (step (machine_at H) (asked c)).1 ≡ told r = sym (answer_is o h n (asked c)) ∙ sym answer in
+      let all : map made after ≡ map made h ++ made e ∷ [] = ap (map made) t.1 ∙ map-append made h (e ∷ []) in
+      ap (performed_by H (asked c)) (lt-ltb (length (map made h)) o.limit few)
+      ∙ (λ i. (
+        record {
+          opening = H.opening;
+          limit = o.limit;
+          session = n;
+          history = map made h ++ record { session = sym t.2 i; call = sym t.3 i; answer = (given ∙ sym t.4) i } ∷ [];
+        },
+        given i,
+      ))
+      ∙ (λ i. (record { opening = H.opening; limit = o.limit; session = n; history = sym all i }, told r))
+
+  -- a call that found memory and was stopped all the same, was refused since the history is full
+  pub performed_full : (x : Refusal) (a : Asked) → x ≡ stopping_at o.limit (length h) → x ≢ refusal_of NoMemory → performed H a ≡ (H, Refused x)
+  performed_full x a is other = by_room (nat_lt (length (map made h)) o.limit)
+      (is ∙ ap (λ k. stopping_at o.limit k) (sym (length-map h made)))
+    where
+      by_room : (b : Bool) → x ≡ (if b then refusal_of NoMemory else refusal_of (HistoryFull o.limit)) → performed_by H a b ≡ (H, Refused x)
+      by_room true same = absurd (other same)
+      by_room false same = ap (λ r. (H, Refused r)) (sym same)
+
+  module _ (after : List Entry) (c : Call) where
+    abbrev A : HandState
+    A = hand_of (record { opening = o; history = after }) n
+
+    -- what an only call came to, told of the hand
+    pub only_done : (r : Result Reply Stopped) → IsOnlyCall o n c h r after → IfOk r (λ reply. performed H (asked c) ≡ (A, told reply))
+    only_done (Ok r) t = performed_done after c r t.0 t.1 t.2
+    only_done (Err x) t = tt
+
+    pub only_full : (r : Result Reply Stopped) → IsOnlyCall o n c h r after
+        → IfErr r (λ x. x.refusal ≢ refusal_of NoMemory → performed H (asked c) ≡ (A, Refused x.refusal))
+    only_full (Ok r) t = tt
+    only_full (Err x) t = λ other. performed_full x.refusal (asked c) t.1.1 other
+        ∙ ap (λ l. (hand_of (record { opening = o; history = l }) n, Refused x.refusal)) (sym t.0)
+
+    pub only_stopped : (r : Result Reply Stopped) → IsOnlyCall o n c h r after
+        → IfErr r (λ x. (A ≡ H) × (x.call ≡ c) × (x.refusal ≡ stopping_at H.limit (length H.history)))
+    only_stopped (Ok r) t = tt
+    only_stopped (Err x) t = (
+      ap (λ l. hand_of (record { opening = o; history = l }) n) t.0,
+      t.1.0,
+      t.1.1 ∙ ap (stopping_at o.limit) (sym (length-map h made)),
+    )
