@@ -22,3 +22,14 @@ pub use Rattle.scene_schedule.specs.Systems
 pub use Rattle.scene_file.specs.Outcome
 pub use Rattle.scene_file.specs.Saving
 pub use Rattle.scene_file.specs.Scene
+-- locks and their passes, and histories of sessions
+pub use Rattle.scene_lock.specs.Pass as Passes
+pub use Rattle.scene_lock.specs.History
+-- the calls of a state, its replies and what a session has seen
+pub use Rattle.scene_session.specs.Calls
+pub use Rattle.scene_session.specs.State
+pub use Rattle.scene_session.specs.Session
+pub use Rattle.scene_session.specs.declared.call.Call
+pub use Rattle.scene_session.specs.declared.call.Reply
+pub use Rattle.scene_session.specs.declared.call.Stopped
+pub use Rattle.scene_session.specs.declared.entry.Entry

@@ -11,6 +11,9 @@
 //! lends a `CellRef`, and by the passes, whose `Filter` says which entities they look at. What was written since a `Cursor`
 //! comes as `CellName`s. A `Refusal` says by a `Fault` why, and by a `Place` at which command; `Returned` hands back what a
 //! queue didn't take. A scene text goes through a `Source` or a `Sink`, and is refused by a `FileFault`.
+//!
+//! Where several threads work on one scene, each has a `Session` through a `Pass` of a `WordLock` over a `State`, which is an
+//! editor with its history (docs/SESSIONS.md).
 #![tactic(auto)]
 
 // Editors: frames, undo and redo.
@@ -39,3 +42,9 @@ pub use scene_kinds::{Fault, Place, Refusal};
 // Scene texts: loading and saving.
 pub use scene_file::{FileFault, load, load_text, save, save_text};
 pub use scene_streams::{Sink, Source};
+
+// Sessions: threads that share a scene, each through a pass of its own, and the queries that they ask.
+pub use scene_lock::{Pass, WordLock};
+pub use scene_session::{
+    AddedSince, Call, ChangedSince, CursorNow, Entry, Query, Reply, RowsOf, Session, State, Stopped,
+};

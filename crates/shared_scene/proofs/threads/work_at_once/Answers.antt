@@ -1,0 +1,15 @@
+use denote.Param.Send.{sendable, param_sync, arg_sync, shr_sync}
+use Rattle.std.proofs.Crossing as heap
+use Rattle.scene_editor.proofs.Crossing.{pass_send, lock_sync}
+use Rattle.shared_scene.proofs.Crossing.{closure_sync}
+use Rattle.shared_scene.proofs.error.SharedError.TheSendSync as error_crossing
+use Rattle.shared_scene.proofs.threads.work_at_once.Goals as goal
+
+pub map_vec-requires-send-J : goal.map_vec-requires-send-J
+map_vec-requires-send-J g c κs within = search (sendable, pass_send)
+
+pub map_vec-requires-send-X : goal.map_vec-requires-send-X
+map_vec-requires-send-X g c κs within = search (sendable, pass_send, error_crossing.the_send) depth 12
+
+pub map_vec-requires-sync-F : goal.map_vec-requires-sync-F
+map_vec-requires-sync-F g c κs within = search (param_sync, arg_sync, closure_sync, shr_sync, heap.sync, lock_sync) depth 12
