@@ -3,9 +3,10 @@ ghost use Rattle.std.specs.Prelude.{◌≡◌, ◌≤◌, [], IfOk, length};
 ghost use Rattle.scene_session.specs.State.{IsLegal};
 
 use scene_commands::{Command, Components};
-use scene_kinds::{Refusal, Schema, Shape, Value};
+use scene_kinds::{Refusal, Schema, Shape, Text, Value};
 use scene_pass::Filter;
 use scene_queue::Queue;
+use scene_rules::{Phase, RowStep, Step, Steps, SystemRule};
 use scene_schedule::Schedule;
 use scene_session::State;
 use scene_undo::Editor;
@@ -29,6 +30,35 @@ fn one_kind(alloc: Global) -> Result<Schema, Refusal> {
 pub fn empty_schedule(alloc: Global) -> Result<Schedule, Refusal> {
     let schema = one_kind(alloc)?;
     Schedule::new(alloc, &schema, Vec::new(alloc))
+}
+
+/// A system that adds 1 to the number of each row.
+fn counting_rule(alloc: Global) -> Result<SystemRule, Refusal> {
+    let mut steps = Vec::new(alloc);
+    steps.push(Step::Row(RowStep::AddInt { to: 0, by: 1 }))?;
+    Ok(SystemRule {
+        name: Text::from("count".to_string(alloc)?),
+        filter: Filter {
+            need: 1,
+            without: 0,
+        },
+        steps: Steps::from(steps),
+    })
+}
+
+/// A phase of that system.
+fn counting_phase(alloc: Global) -> Result<Phase, Refusal> {
+    let mut phase = Phase::new(alloc);
+    phase.push(counting_rule(alloc)?)?;
+    Ok(phase)
+}
+
+/// A schedule that adds 1 to the number of each row.
+pub fn counting_schedule(alloc: Global) -> Result<Schedule, Refusal> {
+    let mut phases = Vec::new(alloc);
+    phases.push(counting_phase(alloc)?)?;
+    let schema = one_kind(alloc)?;
+    Schedule::new(alloc, &schema, phases)
 }
 
 /// A state of a world with that kind and no entities, with no history so far.

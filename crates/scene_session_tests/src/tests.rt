@@ -1,12 +1,32 @@
 //! Each runs to its end alone; the ones with threads answer the same whatever the schedule.
+ghost use Rattle.std.specs.Prelude.{◌≡◌, ◌<◌, ◌≤◌, All, vec_len};
+ghost use Rattle.scene_lock.specs.Pass.{IsPassOf};
+
 use super::*;
 use scene_commands::Command;
-use scene_kinds::{Entity, Fault, Value};
-use scene_lock::WordLock;
+use scene_kinds::{Entity, Fault, Refusal, Value};
+use scene_lock::{Pass, WordLock};
+use scene_lock_tests::Gate;
+use scene_pass::{CellName, rows};
 use scene_queue::Queue;
-use scene_session::{Call, CursorNow, Entry, Reply, Session};
+use scene_session::{AddedSince, Call, CursorNow, Entry, Reply, Session, State, Stopped};
+use scene_undo::Cursor;
+use std::alloc::Global;
 use std::mem::size_of;
+use std::process::Abort;
+use std::sync::Wait;
 use std::test::*;
+use std::thread::Threads;
+
+/// A lock over a state without entities.
+fn new_lock(rt: &impl Abort, alloc: Global, passes: u32) -> (WordLock<State>, Vec<Pass<State>>)
+    requires { (0 < passes) × (passes ≤ 64) }
+    ensures count { vec_len result.1 ≡ passes }
+    ensures each { All (IsPassOf result.0) result.1.items }
+{
+    let state = empty_state(alloc, 1000).expect(rt, "a state");
+    WordLock::new(alloc, state, passes).expect(rt, "a lock")
+}
 
 #[test]
 fn a_full_history_stops_calls(rt: HostRuntime) -> Result<(), Fail> {
@@ -28,10 +48,11 @@ fn a_full_history_stops_calls(rt: HostRuntime) -> Result<(), Fail> {
 #[test]
 fn two_sessions_share_a_state(rt: HostRuntime) -> Result<(), Fail> {
     let alloc = rt.alloc();
-    let (lock, mut passes) = WordLock::new(alloc, empty_state(alloc, 9)?, 2)?;
+    let schedule = empty_schedule(alloc)?;
+    let (lock, mut passes) = new_lock(&rt, alloc, 2);
     let one = Session::new(&lock, passes.pop().expect(&rt, "a second pass"));
     let zero = Session::new(&lock, passes.pop().expect(&rt, "a first pass"));
-    let (zero, listed) = submit_one(&rt, alloc, zero);
+    let (zero, listed) = submit_one(&rt, alloc, zero, 1);
     assert!(rt; listed);
     let (one, reply) = one.undo(&rt, alloc);
     assert!(rt; matches!(reply, Ok(Reply::Undone)));
@@ -43,7 +64,7 @@ fn two_sessions_share_a_state(rt: HostRuntime) -> Result<(), Fail> {
     assert_eq!(rt; (cursor.rewinds, cursor.tick), (1, 0));
     let (zero, reply) = zero.try_submit(alloc, Vec::new(alloc));
     assert!(rt; matches!(reply, Ok(Reply::Done(_))));
-    let (zero, reply) = zero.try_advance(alloc, empty_schedule(alloc)?);
+    let (zero, reply) = zero.try_advance(alloc, schedule);
     assert!(rt; matches!(reply, Ok(Reply::Done(_))));
     let (zero, reply) = zero.try_undo(alloc);
     assert!(rt; matches!(reply, Ok(Reply::Undone)));
@@ -72,5 +93,175 @@ fn an_entry_of_one_spawn_takes_at_most_320_bytes(rt: HostRuntime) -> Result<(), 
     let lists = size_of::<Queue>() + size_of::<Command>() + size_of::<(u8, Value)>();
     let entry = size_of::<Entry>() + lists + size_of::<Entity>();
     assert!(rt; entry <= 320);
+    Ok(())
+}
+
+/// The state that so many sessions at once have made by their work, once all have met.
+fn worked<R: Threads + Wait + Abort + Sync>(
+    rt: &R,
+    alloc: Global,
+    sessions: u32,
+    work: Work,
+) -> State
+    requires { (0 < sessions) × (sessions ≤ 64) }
+{
+    let (lock, passes) = new_lock(rt, alloc, sessions);
+    let ended = work_at_once(rt, alloc, &lock, passes, work).expect(rt, "threads");
+    let (pass, listed) = meet_in_turn(&lock, ended).expect(rt, "a pass");
+    assert!(rt; listed || work.turns);
+    lock.finish(pass)
+        .expect(rt, "the state, once all have ended")
+}
+
+/// Each of so many sessions has entered so many frames of one spawn, in its order, and there is nothing else.
+fn has_frames(rt: &impl Abort, alloc: Global, state: &State, sessions: u32, frames: u32) {
+    let all = u64::from(sessions).saturating_mul(u64::from(frames));
+    assert_eq!(rt; state.history().len() as u64, all);
+    assert_eq!(rt; state.editor().world().tick(), all);
+    let rows = rows(alloc, state.editor().world(), ALL).expect(rt, "rows");
+    assert_eq!(rt; rows.len() as u64, all);
+    for session in 0..sessions {
+        assert_eq!(rt;
+            frames_in_order(state.history(), session),
+            Some(i64::from(frames))
+        );
+    }
+}
+
+#[test]
+fn two_sessions_submit_at_once(rt: HostRuntime) -> Result<(), Fail> {
+    let work = Work {
+        frames: 50,
+        turns: false,
+    };
+    let state = worked(&rt, rt.alloc(), 2, work);
+    has_frames(&rt, rt.alloc(), &state, 2, 50);
+    Ok(())
+}
+
+#[test]
+fn eight_sessions_submit_at_once(rt: HostRuntime) -> Result<(), Fail> {
+    let work = Work {
+        frames: 100,
+        turns: false,
+    };
+    let state = worked(&rt, rt.alloc(), 8, work);
+    has_frames(&rt, rt.alloc(), &state, 8, 100);
+    Ok(())
+}
+
+/// How many calls of a history have the same reply once they are performed on a new state, and what that comes to.
+fn replayed(rt: &impl Abort, alloc: Global, history: &[Entry]) -> (u32, String) {
+    let mut state = empty_state(alloc, 1000).expect(rt, "a state");
+    let same = play_again(alloc, &mut state, history);
+    let text = shown(alloc, &state).expect(rt, "a text");
+    (same, text)
+}
+
+#[test]
+fn a_history_played_again_leads_to_the_same(rt: HostRuntime) -> Result<(), Fail> {
+    let alloc = rt.alloc();
+    let work = Work {
+        frames: 10,
+        turns: true,
+    };
+    let state = worked(&rt, alloc, 3, work);
+    assert_eq!(rt; state.history().len(), 120);
+    let (same, text) = replayed(&rt, alloc, state.history());
+    assert_eq!(rt; same, 120);
+    let wanted = shown(alloc, &state).expect(&rt, "a text");
+    assert_eq!(rt; text, wanted);
+    Ok(())
+}
+
+#[test]
+fn eight_queries_are_inside_together(rt: HostRuntime) -> Result<(), Fail> {
+    let alloc = rt.alloc();
+    let (lock, passes) = new_lock(&rt, alloc, 8);
+    let meeting = Meeting {
+        inside: Gate::new(),
+        wanted: 8,
+    };
+    let came = ask_together(&rt, alloc, &lock, passes, &meeting).expect(&rt, "threads");
+    assert_eq!(rt; came.len(), 8);
+    assert!(rt; came.iter().all(|came| *came));
+    Ok(())
+}
+
+#[test]
+fn a_call_that_does_not_wait_is_busy_beside_another(rt: HostRuntime) -> Result<(), Fail> {
+    let alloc = rt.alloc();
+    for changes in [true, false] {
+        let (lock, passes) = WordLock::new(alloc, empty_state(alloc, 9)?, 2)?;
+        let got = try_beside(&rt, alloc, &lock, passes, &Stay::new(changes))?;
+        assert_eq!(rt; got.len(), 2);
+        assert!(rt; got.iter().all(|got| *got), "by a change: {changes}");
+    }
+    Ok(())
+}
+
+/// The indexes of entities whose number is named, and of no other cell.
+fn are_numbers(names: &Result<Vec<CellName>, Refusal>, indexes: &[u32]) -> bool {
+    let Ok(names) = names else {
+        return false;
+    };
+    names.len() == indexes.len()
+        && names.iter().zip(indexes).all(|(name, index)| {
+            let generation = 1;
+            let index = *index;
+            let entity = Entity { index, generation };
+            *name == CellName { entity, kind: 0 }
+        })
+}
+
+/// How many entities a frame spawned, if it was done.
+fn spawned(reply: &Result<Reply, Stopped>) -> Option<usize> {
+    match reply {
+        Ok(Reply::Done(spawned)) => Some(spawned.len()),
+        _ => None,
+    }
+}
+
+/// Spawns two entities, and advances between them. The cursor is that before the advance.
+fn spawn_twice<'a, R: Threads + Wait + Abort + Sync>(
+    rt: &R,
+    alloc: Global,
+    session: Session<'a>,
+) -> (Session<'a>, Cursor) {
+    let schedule = counting_schedule(alloc).expect(rt, "a schedule");
+    let (session, _) = submit_one(rt, alloc, session, 5);
+    let (session, cursor) = session.ask(rt, alloc, &CursorNow);
+    let (session, reply) = session.advance(rt, alloc, schedule, 2);
+    assert_eq!(rt; spawned(&reply), Some(0));
+    let (session, listed) = submit_one(rt, alloc, session, 6);
+    assert!(rt; listed);
+    (session, cursor)
+}
+
+/// What was spawned twice is listed, until an undo.
+fn list_since<'a, R: Threads + Wait + Abort + Sync>(
+    rt: &R,
+    alloc: Global,
+    session: Session<'a>,
+    cursor: Cursor,
+) {
+    let (session, changed) = session.changed(rt, alloc, cursor, ALL);
+    assert!(rt; are_numbers(&changed, &[0, 1]));
+    let (session, added) = session.ask(rt, alloc, &AddedSince(cursor, ALL));
+    assert!(rt; are_numbers(&added, &[1]));
+    let (session, _) = session.undo(rt, alloc);
+    let (session, reply) = session.redo(rt, alloc);
+    assert!(rt; matches!(reply, Ok(Reply::Redone)));
+    let (_, changed) = session.changed(rt, alloc, cursor, ALL);
+    assert!(rt; matches!(changed, Err(refusal) if refusal.fault == Fault::Rewound(1)));
+}
+
+#[test]
+fn a_session_lists_what_came_since(rt: HostRuntime) -> Result<(), Fail> {
+    let alloc = rt.alloc();
+    let (lock, mut passes) = new_lock(&rt, alloc, 1);
+    let pass = passes.pop().expect(&rt, "a pass");
+    let (session, cursor) = spawn_twice(&rt, alloc, Session::new(&lock, pass));
+    list_since(&rt, alloc, session, cursor);
     Ok(())
 }

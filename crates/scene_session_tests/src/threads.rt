@@ -1,9 +1,9 @@
 //! Many sessions at once.
-ghost use Rattle.std.specs.Prelude.{◌≡◌, All, IfOk};
+ghost use Rattle.std.specs.Prelude.{◌≡◌, All, IfOk, IfSome, vec_len};
 ghost use Rattle.scene_lock.specs.Pass.{IsPassOf};
 ghost use Rattle.scene_session.specs.Session.{IsSame};
 
-use crate::scenes::{ALL, spawning};
+use crate::scenes::{ALL, counting_schedule, spawning};
 use scene_kinds::{Entity, Row};
 use scene_lock::{Pass, WordLock};
 use scene_session::{Reply, RowsOf, Session, State, Stopped};
@@ -32,15 +32,16 @@ fn is_listed(reply: &Result<Reply, Stopped>, answer: &Result<Vec<Row>, AllocErro
     }
 }
 
-/// Submits a frame of one spawn, and asks for all rows. Whether the entity is among them.
+/// Submits a frame that spawns an entity with a number, and asks for all rows. Whether the entity is among them.
 pub fn submit_one<'a, R: Threads + Wait + Sync>(
     rt: &R,
     alloc: Global,
     session: Session<'a>,
+    number: i64,
 ) -> (Session<'a>, bool)
     ensures { IsSame session.entry result.0 }
 {
-    let Ok(queues) = spawning(alloc, 1) else {
+    let Ok(queues) = spawning(alloc, number) else {
         return (session, false);
     };
     let (session, reply) = session.submit(rt, alloc, queues);
@@ -48,34 +49,60 @@ pub fn submit_one<'a, R: Threads + Wait + Sync>(
     (session, is_listed(&reply, &answer))
 }
 
-/// Submits so many such frames through one pass. Whether each entity was listed.
-pub fn submit_many<R: Threads + Wait + Sync>(
+/// An undo, a redo and an advance, whatever they come to beside other sessions.
+fn turn<'a, R: Threads + Wait + Sync>(rt: &R, alloc: Global, session: Session<'a>) -> Session<'a>
+    ensures { IsSame session.entry result }
+{
+    let Ok(schedule) = counting_schedule(alloc) else {
+        return session;
+    };
+    let (session, _) = session.undo(rt, alloc);
+    let (session, _) = session.redo(rt, alloc);
+    let (session, _) = session.advance(rt, alloc, schedule, 2);
+    session
+}
+
+/// What each session does.
+#[derive(Clone, Copy)]
+pub struct Work {
+    /// How many frames it submits. The first spawns an entity with the number 0, the next one with 1, and so on.
+    pub frames: i64,
+    /// Whether an undo, a redo and an advance come after each.
+    pub turns: bool,
+}
+
+/// Does the work through one pass. Whether each entity was listed.
+pub fn work_through<R: Threads + Wait + Sync>(
     rt: &R,
     alloc: Global,
     lock: &WordLock<State>,
     pass: Pass<State>,
-    count: u32,
+    work: Work,
 ) -> (Pass<State>, bool)
     requires { IsPassOf lock.now pass }
     ensures { IsPassOf lock.now result.0 }
 {
     let mut session = Session::new(lock, pass);
     let mut listed = true;
-    for _ in 0..count {
-        let (next, is) = submit_one(rt, alloc, session);
-        session = next;
+    for number in 0..work.frames {
+        let (next, is) = submit_one(rt, alloc, session, number);
+        session = if work.turns {
+            turn(rt, alloc, next)
+        } else {
+            next
+        };
         listed = listed && is;
     }
     (session.into_pass(), listed)
 }
 
 /// The same through each pass, in a thread for each.
-pub fn submit_all<R: Threads + Wait + Sync>(
+pub fn work_at_once<R: Threads + Wait + Sync>(
     rt: &R,
     alloc: Global,
     lock: &WordLock<State>,
     passes: Vec<Pass<State>>,
-    count: u32,
+    work: Work,
 ) -> Result<Vec<(Pass<State>, bool)>, AllocError>
     requires { All (IsPassOf lock.now) passes.items }
     ensures { IfOk result (λ v. All (λ p. IsPassOf lock.now p.0) v.items) }
@@ -86,6 +113,26 @@ pub fn submit_all<R: Threads + Wait + Sync>(
         &|pass: Pass<State>| -> (Pass<State>, bool)
             requires { IsPassOf lock.now pass }
             ensures { IsPassOf lock.entry.now result.0 }
-        { submit_many(rt, alloc, lock, pass, count) },
+        { work_through(rt, alloc, lock, pass, work) },
     )
+}
+
+/// The last pass, once the first met the second, that one the third, and so on; and whether all entities were listed. The other
+/// passes are dropped.
+pub fn meet_in_turn(
+    lock: &WordLock<State>,
+    ended: Vec<(Pass<State>, bool)>,
+) -> Option<(Pass<State>, bool)>
+    requires { All (λ p. IsPassOf lock.now p.0) ended.items }
+    ensures { IfSome result (λ p. IsPassOf lock.now p.0) }
+{
+    let mut before = ended;
+    let (last, listed) = before.pop()?;
+    match meet_in_turn(lock, before) {
+        Some((met, all)) => {
+            let (_, last) = lock.meet(met, last);
+            Some((last, listed && all))
+        }
+        None => Some((last, listed)),
+    }
 }

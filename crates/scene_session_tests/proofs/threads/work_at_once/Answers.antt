@@ -1,7 +1,8 @@
-use denote.Param.Send.{sendable, param_sync, arg_sync, shr_sync, plain_sync}
+use denote.Param.Send.{sendable, param_sync, arg_sync, shr_sync}
 use Rattle.std.proofs.Crossing as heap
 use Rattle.scene_session.proofs.Crossing.{pass_send, lock_sync, closure_sync}
-use Rattle.scene_session_tests.proofs.threads.submit_all.Goals as goal
+use Rattle.scene_session_tests.proofs.threads.Work.TheSendSync as work_crossing
+use Rattle.scene_session_tests.proofs.threads.work_at_once.Goals as goal
 
 pub map_vec-requires-send-J : goal.map_vec-requires-send-J
 map_vec-requires-send-J g c κs within = search (sendable, pass_send)
@@ -10,4 +11,4 @@ pub map_vec-requires-send-X : goal.map_vec-requires-send-X
 map_vec-requires-send-X g c κs within = search (sendable, pass_send) depth 12
 
 pub map_vec-requires-sync-F : goal.map_vec-requires-sync-F
-map_vec-requires-sync-F g c κs within = search (param_sync, arg_sync, closure_sync, shr_sync, plain_sync, heap.sync, lock_sync) depth 12
+map_vec-requires-sync-F g c κs within = search (param_sync, arg_sync, closure_sync, shr_sync, heap.sync, lock_sync, work_crossing.the_sync) depth 12
