@@ -1,0 +1,10 @@
+use Rattle.std.proofs.Common.{All}
+use Rattle.std.specs.Prelude.{vec_len}
+use Rattle.scene_editor.specs.Passes.{IsPassOf}
+use Rattle.scene_session_bench.proofs.soak.split.Given as goal
+
+abbrev pub invariant-loop-pass : goal.invariant-loop-pass
+invariant-loop-pass l = All (λ s. IsPassOf l.lock s.0) l.sessions.items × All (IsPassOf l.lock) l.passes.items
+
+abbrev pub decreases-loop-pass : goal.decreases-loop-pass
+decreases-loop-pass l = vec_len l.sessions
