@@ -6,8 +6,8 @@
 #
 # It prints four parts:
 #
-# - nanoseconds of a call by an editor, and by a state, which enters it: frames of one spawn, and undos with redos. Each is the
-#   least of the runs, which take turns, and the factor is to be at most 1.15;
+# - nanoseconds of processor time of a call by an editor, and by a state, which enters it: frames of one spawn, and undos with redos
+#   of such a frame. Each is the least of the runs, which take turns, and the factor is to be at most 1.15;
 # - thousands of answers a second, each a list of a thousand rows, to one session and to eight at once. Each is the median of the
 #   runs, and eight are to have at least three times as many on four processors;
 # - bytes that an entry of a frame of one spawn takes: the memory of a state less that of an editor after the same frames, to be at most
@@ -50,13 +50,13 @@ import os, pathlib, statistics, subprocess, sys
 program, place, count, runs = sys.argv[1], pathlib.Path(sys.argv[2]), int(sys.argv[3]), int(sys.argv[4])
 
 def once(*words):
-    """Nanoseconds of a run, and its memory in bytes."""
+    """Nanoseconds of a run by the clock and of processor time, and its memory in bytes."""
     child = subprocess.Popen([program, *map(str, words)], stdout=subprocess.PIPE, text=True)
     lines = child.stdout.read().splitlines()
     _, status, used = os.wait4(child.pid, 0)
     if status:
         sys.exit(f"{words}: status {status}")
-    return int(lines[1].split()[1]), used.ru_maxrss * 1024
+    return int(lines[1].split()[1]), 1e9 * (used.ru_utime + used.ru_stime), used.ru_maxrss * 1024
 
 print(f"{'nanoseconds a call':22}{'editor':>10}{'state':>10}{'factor':>8}", flush=True)
 memory = {}
@@ -65,8 +65,8 @@ for work, name, each in (("spawn", "frame of one spawn", 1), ("swing", "undo and
     for _ in range(runs):
         for by in found:
             found[by].append(once(work, by, count))
-    least = {by: min(time for time, _ in each_run) / count / each for by, each_run in found.items()}
-    memory[work] = {by: min(bytes for _, bytes in each_run) for by, each_run in found.items()}
+    least = {by: min(time for _, time, _ in each_run) / count / each for by, each_run in found.items()}
+    memory[work] = {by: min(bytes for _, _, bytes in each_run) for by, each_run in found.items()}
     print(f"{name:22}{least['editor']:10.1f}{least['state']:10.1f}{least['state'] / least['editor']:8.2f}", flush=True)
 
 asks = max(100, count // 20)
@@ -83,6 +83,6 @@ def asked(cursors):
     return int.from_bytes(counter.read_bytes(), sys.byteorder)
 
 one, million = asked(1), asked(1_000_000)
-bytes = min(once("cursor", 1_000_000)[1] for _ in range(runs)) - min(once("cursor", 1)[1] for _ in range(runs))
+bytes = min(once("cursor", 1_000_000)[2] for _ in range(runs)) - min(once("cursor", 1)[2] for _ in range(runs))
 print(f"a million cursors: {bytes} bytes more than one, and asked for memory {million - one} times more (one asks {one} times)")
 P
