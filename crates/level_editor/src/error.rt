@@ -1,5 +1,5 @@
 //! Why the tool couldn't do what it was told.
-use scene_editor::{Refusal, Returned};
+use scene_editor::{FileFault, Refusal, Returned};
 use std::alloc::AllocError;
 use thiserror::Error;
 
@@ -8,6 +8,8 @@ use thiserror::Error;
 pub enum LevelError {
     #[error("refused {0}")]
     Refused(#[from] Refusal),
+    #[error("{0}")]
+    File(#[from] FileFault),
     #[error("nothing has that name")]
     NoSuchName,
     #[error("out of memory")]

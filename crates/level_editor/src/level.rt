@@ -7,7 +7,7 @@ use crate::error::LevelError;
 use scene_editor::{
     CellName, Command, Components, Cursor, Editor, Entity, Fault, Filter, Made, Phase, Queue,
     Refusal, RowStep, Schedule, Schema, Shape, Step, Steps, SystemRule, Target, Text, Value, World,
-    changed_since, matching,
+    changed_since, load_editor_text, matching, save_editor_text,
 };
 use std::alloc::{AllocError, Global};
 
@@ -29,6 +29,9 @@ const VELOCITY: u8 = 2;
 
 /// How many slots a level has.
 const SLOTS: u32 = 65_536;
+
+/// How many changes can be taken back.
+const KEPT: u32 = 1_000;
 
 /// A drag of a selection, with the positions from which it began.
 #[derive(Drop)]
@@ -102,12 +105,28 @@ impl Level {
     pub fn open(alloc: Global) -> Result<Level, LevelError> {
         let kinds = kinds(alloc)?;
         let motion = motion(alloc, &kinds)?;
-        let editor = Editor::new(alloc, World::new(alloc, kinds, SLOTS));
+        let editor = Editor::with_depth(alloc, World::new(alloc, kinds, SLOTS), KEPT);
         Ok(Level {
             alloc,
             editor,
             motion,
         })
+    }
+
+    /// A level that was closed: it is as it was, with all that can be taken back and made again.
+    pub fn reopen(alloc: Global, text: &str) -> Result<Level, LevelError> {
+        let editor = load_editor_text(alloc, text.as_bytes(), KEPT)?;
+        let motion = motion(alloc, editor.world().schema())?;
+        Ok(Level {
+            alloc,
+            editor,
+            motion,
+        })
+    }
+
+    /// The text of the level, with all that can be taken back and made again.
+    pub fn close(&self) -> Result<String, LevelError> {
+        Ok(save_editor_text(self.alloc, &self.editor)?)
     }
 
     /// Does a frame of one queue.

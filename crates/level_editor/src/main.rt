@@ -91,6 +91,20 @@ fn play(rt: &impl Print, level: &mut Level) -> Result<()> {
     show(rt, level, "door")
 }
 
+/// Closes the level, opens it on the day after, and takes work of the day before back.
+fn day_after(rt: &HostRuntime, level: &Level) -> Result<()> {
+    let text = level.close()?;
+    let mut level = Level::reopen(rt.alloc(), text.as_str())?;
+    println!(rt; "the day after, {} frames can be undone:", level.undo_len())?;
+    tell(rt, "redo the step", level.redo())?;
+    show(rt, &level, "lamp")?;
+    for _ in 0..level.undo_len() {
+        level.undo()?;
+    }
+    tell(rt, "find the house", level.find("house").map(|_| ()))?;
+    Ok(())
+}
+
 /// Drags things, and shows what is refused and what can be taken back.
 fn work_with(rt: &impl Print, level: &mut Level, things: &[Entity]) -> Result<()> {
     println!(rt; "placed {} things in one frame", things.len())?;
@@ -108,5 +122,6 @@ fn use_level(rt: &impl Print, level: &mut Level) -> Result<()> {
 
 fn main(rt: HostRuntime) -> Result<()> {
     let mut level = Level::open(rt.alloc())?;
-    use_level(&rt, &mut level)
+    use_level(&rt, &mut level)?;
+    day_after(&rt, &level)
 }

@@ -1,8 +1,8 @@
 -- Faults of scene texts.
 use Rattle.std.proofs.Common.{◌≡◌, ◌≢◌, Result, Err, refl}
-use Rattle.scene_file.specs.declared.fault.FileFault.{FileFault}
-use Rattle.scene_file.specs.declared.fault.FileFault.TheVariants.{NoMemory}
-use Rattle.scene_file.specs.Outcome.{IsFault}
+use Rattle.scene_forms.specs.declared.fault.FileFault.{FileFault}
+use Rattle.scene_forms.specs.declared.fault.FileFault.TheVariants.{NoMemory}
+use Rattle.scene_forms.specs.Outcome.{IsFault}
 
 -- a fault other than want of memory is the one that is wanted
 pub is_wanted : {A : Type 0} (fault : FileFault) (expected : Result A FileFault) → fault ≢ NoMemory → IsFault fault expected → expected ≡ Err fault

@@ -15,17 +15,22 @@ use Rattle.scene_undo.specs.Cursor.{cursor_of, since}
 use Rattle.scene_undo.specs.declared.cursor.Cursor.{Cursor}
 use Rattle.scene_session.specs.Queries.{ListsAfter, ListsSince}
 use Rattle.scene_session.specs.Queries as state
-use Rattle.scene_session.specs.State.{StateView}
-use Rattle.scene_hand.specs.Hand.{HandState, Tells, machine_at, made}
-use Rattle.scene_hand.proofs.Machines.{machine_told}
+use Rattle.scene_session.specs.State.{StateView, replayed}
+use Rattle.scene_hand.specs.Hand.{HandState, Tells, machine_at, made, whole_at}
+use Rattle.scene_hand.proofs.Machines.{machine_told, whole_told}
 use Rattle.scene_app.specs.declared.question.WorldText.{WorldText}
-use Rattle.scene_app.specs.Play.{refused_text, since_text}
+use Rattle.scene_app.specs.Play.{dumpall_text, refused_text, since_text}
 use Rattle.scene_app.specs.Questions.{asked_text}
 
 -- a text of the world
 pub text_told : (h : HandState) (q : WorldText) (text : List ℕ)
     → (s : StateView) × Tells h s × (text ≡ asked_text q (state.machine_at s).now) → text ≡ asked_text q (machine_at h).now
 text_told h q text t = t.2 ∙ ap (λ (m : Machine World). asked_text q m.now) (machine_told h t.0 t.1)
+
+-- the text of all that the editor keeps
+pub editor_told : (h : HandState) (text : List ℕ) → (s : StateView) × Tells h s × (text ≡ dumpall_text (replayed s.opening s.history))
+    → text ≡ dumpall_text (whole_at h)
+editor_told h text t = t.2 ∙ ap dumpall_text (whole_told h t.0 t.1)
 
 -- how many calls there were
 pub count_told : (h : HandState) (n : ℕ) → (s : StateView) × Tells h s × (n ≡ length s.history) → n ≡ length h.history

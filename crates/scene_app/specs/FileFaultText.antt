@@ -1,9 +1,9 @@
 -- How the fault of a scene text prints.
 use Rattle.std.specs.Prelude.{ℕ, List, [], ◌∷◌, ◌++◌, codes, decimal}
 use Rattle.scene_script.specs.Printed.{json_text}
-use Rattle.scene_file.specs.declared.fault.FileFault.{FileFault}
-use Rattle.scene_file.specs.declared.fault.FileFault.TheVariants.{BadWorld, BadRecord, UnknownKey, BadField, BadVersion}
-use Rattle.scene_file.specs.Fault.{file_number, file_name}
+use Rattle.scene_forms.specs.declared.fault.FileFault.{FileFault}
+use Rattle.scene_forms.specs.declared.fault.FileFault.TheVariants.{BadWorld, BadRecord, UnknownKey, BadField, BadVersion}
+use Rattle.scene_forms.specs.Fault.{file_number, file_name}
 
 -- the fields of a fault, each after a space (32): a path as a JSON string, a version, a rule, or a frame and a delta
 abbrev pub file_fault_fields : FileFault → List ℕ

@@ -1,6 +1,6 @@
 -- A script as a function of its lines: the setup, the calls on the machine of saved worlds line by line, the printed text, and the
 -- bad lines with their reasons.
-use Rattle.std.specs.Prelude.{ℕ, ◌+◌, List, [], ◌∷◌, ◌++◌, length, Option, Some, None, Result, Ok, Err, option_map, codes, decimal}
+use Rattle.std.specs.Prelude.{ℕ, ◌+◌, List, [], ◌∷◌, ◌++◌, length, reverse, Option, Some, None, Result, Ok, Err, option_map, codes, decimal}
 use Rattle.std.specs.Str.Lines.{lines}
 use Rattle.scene_kinds.specs.declared.entity.Entity.{Entity}
 use Rattle.scene_kinds.specs.declared.fault.Fault.{Fault}
@@ -10,9 +10,10 @@ use Rattle.scene_kinds.specs.declared.shape.Shape.{Shape}
 use Rattle.scene_kinds.specs.Answers.{Outcome, refusal_of}
 use Rattle.scene_kinds.specs.Schema.{Kinds, with_kind}
 use Rattle.scene_model.specs.World.{World, new_world, row_of}
-use Rattle.scene_machine.specs.Machine.{opening}
+use Rattle.scene_machine.specs.Machine.{most_frames}
 use Rattle.scene_session.specs.Calls.{Answer, Asked, Done, Undone, Redone, Refused, Submit, Advance as AdvanceCall, Undo as UndoCall, Redo as RedoCall}
-use Rattle.scene_hand.specs.Hand.{HandState, machine_at, opening_hand, performed, with_session}
+use Rattle.scene_session.specs.Whole.{Whole, whole_of}
+use Rattle.scene_hand.specs.Hand.{HandState, machine_at, opening_hand, performed, whole_at, with_session}
 use Rattle.scene_app.specs.Phases.{with_phase, with_system}
 use Rattle.scene_app.specs.OpenFrame.{Opened, new_frame, with_command, with_queue, queues_of, alone}
 use Rattle.scene_kinds.specs.declared.cells.Row.{Row}
@@ -23,15 +24,16 @@ use Rattle.scene_rules.specs.declared.system_rule.SystemRule.{SystemRule}
 use Rattle.scene_schedule.specs.Schedule.{ScheduleState, schedule_fault}
 use Rattle.scene_undo.specs.declared.cursor.Cursor.{Cursor}
 use Rattle.scene_undo.specs.Cursor.{cursor_of, since}
+use Rattle.scene_undo.specs.Editor.{EditorState, at_depth, new_editor}
 use Rattle.scene_app.specs.declared.play_state.PlayState.{PlayState}
 use Rattle.scene_script.specs.declared.script_line.Line.{Line}
-use Rattle.scene_script.specs.declared.script_line.Line.TheVariants.{Empty, Kind, Slots, Load, Calls, Do, Begin, Queue, Commit, Undo, Redo, Show, Get, Mark, Changed, Added, Phase, System, Clear, Advance, As, History, Dump}
+use Rattle.scene_script.specs.declared.script_line.Line.TheVariants.{Empty, Kind, Slots, Load, Calls, Depth, Do, Begin, Queue, Commit, Undo, Redo, Show, Get, Mark, Changed, Added, Phase, System, Clear, Advance, As, History, Dump, DumpAll}
 use Rattle.scene_script.specs.declared.bad_line.BadLine.{BadLine}
 use Rattle.scene_script.specs.declared.bad_line.BadLine.TheVariants.{SetupEnded, SceneLoaded, NoFrame, FrameOpen}
 use Rattle.scene_app.specs.declared.report.BadLineReport.{BadLineReport}
-use Rattle.scene_file.specs.declared.fault.FileFault.{FileFault}
-use Rattle.scene_file.specs.Saving.{save_of}
-use Rattle.scene_file.specs.Scene.{loaded}
+use Rattle.scene_forms.specs.declared.fault.FileFault.{FileFault}
+use Rattle.scene_file.specs.Saving.{save_of, save_editor_of}
+use Rattle.scene_file.specs.EditorScene.{loaded_editor}
 use Rattle.scene_app.specs.FileFaultText.{file_fault_text}
 use Rattle.scene_show.specs.Listed.{listed_text}
 use Rattle.scene_script.specs.Printed.{refusal_line, row_text}
@@ -113,6 +115,10 @@ saved_text (Err fault) = file_fault_text fault
 abbrev pub dump_text : World → List ℕ
 dump_text w = saved_text (save_of w)
 
+-- what `dumpall` prints
+abbrev pub dumpall_text : Whole → List ℕ
+dumpall_text w = saved_text (save_editor_of w.machine.now (reverse w.past) w.future)
+
 -- what a line prints, why it is bad where it is, and the state after it
 pub record Reply : Type 0 where
   pub text : List ℕ
@@ -166,6 +172,7 @@ lone_reply s (Kind name shape) = bad_reply s SetupEnded
 lone_reply s (Slots n) = bad_reply s SetupEnded
 lone_reply s (Load text) = bad_reply s SetupEnded
 lone_reply s (Calls n) = bad_reply s SetupEnded
+lone_reply s (Depth n) = bad_reply s SetupEnded
 lone_reply s (Do command) = call_reply s (Submit (alone command))
 lone_reply s Begin = query_reply (with_frame s (Some new_frame)) (codes "ok\n")
 lone_reply s Queue = bad_reply s NoFrame
@@ -184,6 +191,7 @@ lone_reply s Advance = advance_reply s
 lone_reply s (As n) = query_reply (with_hand s (with_session s.hand n)) (codes "ok\n")
 lone_reply s History = query_reply s (history_text (length s.hand.history))
 lone_reply s Dump = query_reply s (dump_text (now s))
+lone_reply s DumpAll = query_reply s (dumpall_text (whole_at s.hand))
 
 -- the reply to a command in a frame: it is queued, or else refused and the frame is as it was
 abbrev pub queued_reply : PlayState → Opened → Outcome (Unit {0}) Opened → Reply
@@ -200,6 +208,7 @@ frame_reply s f (Kind name shape) = bad_reply (with_frame s (Some f)) SetupEnded
 frame_reply s f (Slots n) = bad_reply (with_frame s (Some f)) SetupEnded
 frame_reply s f (Load text) = bad_reply (with_frame s (Some f)) SetupEnded
 frame_reply s f (Calls n) = bad_reply (with_frame s (Some f)) SetupEnded
+frame_reply s f (Depth n) = bad_reply (with_frame s (Some f)) SetupEnded
 frame_reply s f line = bad_reply (with_frame s (Some f)) FrameOpen
 
 -- the reply to a line after the setup, by the frame that is open, if one is
@@ -248,32 +257,33 @@ run_from number s (l ∷ ls) = then_rest number (said_reply s (line_in s.schema 
 
 -- ---- the setup
 
--- what the setup has come to: the kinds and the slot limit so far, or the world that was loaded last
+-- what the setup has come to: the kinds and the slot limit so far, or the editor of the scene that was loaded last
 pub data Base : Type 0 where
   Declared : Kinds → ℕ → Base
-  Loaded : World → Base
+  Loaded : EditorState → Base
 
--- and how many calls there may be
+-- and how many calls there may be, and how many frames can be undone
 pub record SetupState : Type 0 where
   pub base : Base
   pub calls : ℕ
+  pub depth : ℕ
 
 -- the kinds so far
 abbrev pub base_kinds : Base → Kinds
 base_kinds (Declared kinds limit) = kinds
-base_kinds (Loaded w) = w.schema
+base_kinds (Loaded e) = e.world.schema
 
 abbrev pub setup_kinds : SetupState → Kinds
 setup_kinds s = base_kinds s.base
 
--- the world in which the run begins
-abbrev pub first_world : Base → World
-first_world (Declared kinds limit) = new_world kinds limit
-first_world (Loaded w) = w
+-- the editor with which the run begins, of a depth: of a world without entities, or the loaded one
+abbrev pub first_editor : Base → ℕ → EditorState
+first_editor (Declared kinds limit) depth = new_editor (new_world kinds limit) depth
+first_editor (Loaded e) depth = at_depth depth e
 
 -- the hand with which the run begins
 abbrev pub first_hand : SetupState → HandState
-first_hand s = opening_hand (opening (first_world s.base)) s.calls
+first_hand s = opening_hand (whole_of (first_editor s.base s.depth)) s.calls
 
 -- the state in which the run begins
 abbrev pub first_state : SetupState → PlayState
@@ -305,21 +315,25 @@ declared_reply s kinds limit (Err r) = setup_answer (refused_text r) (with_base 
 -- the reply to `kind`; a loaded scene has its kinds
 abbrev pub kind_reply : SetupState → Base → List ℕ → Shape → SetupReply
 kind_reply s (Declared kinds limit) name shape = declared_reply s kinds limit (with_kind kinds name shape)
-kind_reply s (Loaded w) name shape = setup_bad s SceneLoaded
+kind_reply s (Loaded e) name shape = setup_bad s SceneLoaded
 
 -- the reply to `slots`; a loaded scene has its limit
 abbrev pub slots_reply : SetupState → Base → ℕ → SetupReply
 slots_reply s (Declared kinds limit) n = setup_answer (codes "ok\n") (with_base s (Declared kinds n))
-slots_reply s (Loaded w) n = setup_bad s SceneLoaded
+slots_reply s (Loaded e) n = setup_bad s SceneLoaded
 
--- the reply to `load`, by the world that its text says or the first fault, which leaves the setup as it was
-abbrev pub load_reply : SetupState → Result World FileFault → SetupReply
-load_reply s (Ok w) = setup_answer (codes "ok\n") (with_base s (Loaded w))
+-- the reply to `load`, by the editor that its text says or the first fault, which leaves the setup as it was
+abbrev pub load_reply : SetupState → Result EditorState FileFault → SetupReply
+load_reply s (Ok e) = setup_answer (codes "ok\n") (with_base s (Loaded e))
 load_reply s (Err fault) = setup_answer (file_fault_text fault) s
 
 -- the reply to `calls`
 abbrev pub calls_reply : SetupState → ℕ → SetupReply
 calls_reply s n = setup_answer (codes "ok\n") (record s { calls = n })
+
+-- the reply to `depth`
+abbrev pub depth_reply : SetupState → ℕ → SetupReply
+depth_reply s n = setup_answer (codes "ok\n") (record s { depth = n })
 
 -- the reply to a line of the setup, and none where the line ends it; an empty one and a comment don't end it, nor does a line
 -- of a frame, which is bad here
@@ -327,8 +341,9 @@ abbrev pub setup_reply : SetupState → Line → Option SetupReply
 setup_reply s Empty = Some (setup_answer [] s)
 setup_reply s (Kind name shape) = Some (kind_reply s s.base name shape)
 setup_reply s (Slots n) = Some (slots_reply s s.base n)
-setup_reply s (Load text) = Some (load_reply s (loaded text))
+setup_reply s (Load text) = Some (load_reply s (loaded_editor most_frames text))
 setup_reply s (Calls n) = Some (calls_reply s n)
+setup_reply s (Depth n) = Some (depth_reply s n)
 setup_reply s Queue = Some (setup_bad s NoFrame)
 setup_reply s Commit = Some (setup_bad s NoFrame)
 setup_reply s line = None
@@ -352,7 +367,7 @@ setup_from number s (l ∷ ls) =
 
 -- no kinds yet, and the greatest limits
 abbrev pub first_setup : SetupState
-first_setup = record { base = Declared [] 1048576; calls = 1048576 }
+first_setup = record { base = Declared [] 1048576; calls = 1048576; depth = most_frames }
 
 -- all of a script, from its first line
 abbrev pub printed : List ℕ → Printed

@@ -11,14 +11,14 @@ use Rattle.scene_app.specs.Play.{Base, SetupState, Declared, Loaded, SetupReply,
 use Rattle.scene_app.specs.Reports.{Tally}
 use Rattle.scene_app.specs.Steps.{noted}
 
--- what the base of a setup in the code has come to; of a loaded world the room doesn't matter
+-- what the base of a setup in the code has come to
 abbrev pub base_of : Code → Base
 base_of (code.Declared kinds limit) = Declared kinds limit
-base_of (code.Loaded w) = Loaded w.world
+base_of (code.Loaded e) = Loaded e
 
 -- and a setup
 abbrev pub setup_of : Setup → SetupState
-setup_of s = record { base = base_of s.base; calls = s.calls }
+setup_of s = record { base = base_of s.base; calls = s.calls; depth = s.depth }
 
 -- a body that answers a line of the setup added the text, this is why the line is bad, and this is the setup after it
 abbrev pub SetupReplies : (old new : List ℕ) → SetupState → Option BadLine → SetupReply → Type 0

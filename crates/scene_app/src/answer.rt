@@ -5,16 +5,16 @@ ghost use Rattle.scene_kinds.specs.declared.fault.Fault.TheVariants.{NoMemory};
 ghost use Rattle.scene_script.specs.declared.script_line.Line.TheVariants.{As, Begin};
 ghost use Rattle.scene_undo.specs.Cursor.{cursor_of};
 ghost use Rattle.scene_session.specs.Calls.{Submit, asked, queue_count, told};
-ghost use Rattle.scene_hand.specs.Hand.{machine_at};
+ghost use Rattle.scene_hand.specs.Hand.{machine_at, whole_at};
 ghost use Rattle.scene_app.specs.OpenFrame.{alone, queue_count as open_queues};
-ghost use Rattle.scene_app.specs.Play.{added_text, answer_text, call_reply, changed_text, history_text, line_reply, lone_reply, made_text, mark_text, now, refused_text, said_reply, with_cursor};
+ghost use Rattle.scene_app.specs.Play.{added_text, answer_text, call_reply, changed_text, dumpall_text, history_text, line_reply, lone_reply, made_text, mark_text, now, refused_text, said_reply, with_cursor};
 ghost use Rattle.scene_app.specs.Questions.{asked_text};
 ghost use Rattle.scene_app.specs.Steps.{Replies};
 
 use crate::framed_answer::answer_in_frame;
 use crate::open_frame::OpenFrame;
 use crate::play_state::PlayState;
-use crate::question::{CallCount, WorldText};
+use crate::question::{CallCount, EditorText, WorldText};
 use crate::systems_answer::{answer_advance, answer_clear, answer_phase, answer_system};
 use scene_commands::Command;
 use scene_kinds::{Entity, Fault, Refusal};
@@ -149,6 +149,20 @@ fn answer_world<T: Wait>(
     out.push_str(text.as_str())
 }
 
+/// `dumpall`.
+fn answer_dumpall<T: Wait>(
+    rt: &T,
+    alloc: Global,
+    out: &mut String,
+    state: &mut PlayState,
+) -> Result<(), AllocError>
+    ensures text { OnOk result (string_bytes out.new ≡ string_bytes out.old ++ dumpall_text (whole_at state.old.hand)) }
+    ensures state { state.new ≡ state.old }
+{
+    let text = state.hand.ask(rt, alloc, &EditorText)?;
+    out.push_str(text.as_str())
+}
+
 /// `history`.
 fn answer_history<T: Wait>(
     rt: &T,
@@ -236,7 +250,7 @@ fn answer_alone<T: Threads + Wait + Sync>(
 {
     match line {
         Line::Empty => {}
-        Line::Kind(..) | Line::Slots(_) | Line::Load(_) | Line::Calls(_) => {
+        Line::Kind(..) | Line::Slots(_) | Line::Load(_) | Line::Calls(_) | Line::Depth(_) => {
             return answer_bad(out, BadLine::SetupEnded);
         }
         Line::Queue | Line::Commit => return answer_bad(out, BadLine::NoFrame),
@@ -256,6 +270,7 @@ fn answer_alone<T: Threads + Wait + Sync>(
         Line::As(session) => answer_as(out, state, session)?,
         Line::History => answer_history(rt, alloc, out, state)?,
         Line::Dump => answer_world(rt, alloc, out, state, WorldText::Dump)?,
+        Line::DumpAll => answer_dumpall(rt, alloc, out, state)?,
     }
     Ok(None)
 }

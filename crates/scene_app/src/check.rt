@@ -11,10 +11,11 @@ ghost use Rattle.scene_app.specs.declared.fault.AppFault.TheVariants.{NoMemory, 
 
 use crate::fault::AppFault;
 use crate::file_fault_text::answer_file_fault;
-use scene_file::load_text;
+use scene_file::load_editor_text;
 use scene_pass::{Filter, matching};
 use scene_show::write_show;
 use scene_streams::{Sink, Source};
+use scene_undo::MOST_FRAMES;
 use scene_world::World;
 use std::alloc::{AllocError, Global};
 use std::io::{Read, Write};
@@ -34,8 +35,8 @@ fn write_checked(alloc: Global, out: &mut String, text: &[u8]) -> Result<bool, A
     ensures text { OnOk result (string_bytes out.new ≡ string_bytes out.old ++ check_output text.now) }
     ensures accepted { IfOk result (λ good. good ≡ is_scene text.now) }
 {
-    match load_text(alloc, text) {
-        Ok(world) => write_good(alloc, out, &world).and(Ok(true)),
+    match load_editor_text(alloc, text, MOST_FRAMES) {
+        Ok(editor) => write_good(alloc, out, editor.world()).and(Ok(true)),
         Err(fault) => answer_file_fault(alloc, out, fault).and(Ok(false)),
     }
 }
@@ -57,8 +58,8 @@ fn write_printed(alloc: Global, out: &mut String, text: &[u8]) -> Result<bool, A
     ensures text { OnOk result (string_bytes out.new ≡ string_bytes out.old ++ print_output text.now) }
     ensures accepted { IfOk result (λ good. good ≡ is_scene text.now) }
 {
-    match load_text(alloc, text) {
-        Ok(world) => write_show(alloc, out, &world).and(Ok(true)),
+    match load_editor_text(alloc, text, MOST_FRAMES) {
+        Ok(editor) => write_show(alloc, out, editor.world()).and(Ok(true)),
         Err(fault) => answer_file_fault(alloc, out, fault).and(Ok(false)),
     }
 }

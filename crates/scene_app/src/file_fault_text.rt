@@ -1,6 +1,6 @@
 //! The line of a fault of a scene text.
 ghost use Rattle.std.specs.Prelude.{◌≡◌, ◌≢◌, ◌++◌, OnOk, string_bytes};
-ghost use Rattle.scene_file.specs.declared.fault.FileFault.TheVariants.{NoMemory};
+ghost use Rattle.scene_forms.specs.declared.fault.FileFault.TheVariants.{NoMemory};
 ghost use Rattle.scene_app.specs.FileFaultText.{file_fault_fields, file_fault_text};
 
 use scene_file::FileFault;

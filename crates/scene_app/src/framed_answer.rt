@@ -98,7 +98,7 @@ pub(crate) fn answer_in_frame<T: Threads + Wait + Sync>(
         Line::Do(command) => answer_queued(out, state, frame, command)?,
         Line::Queue => answer_queue(alloc, out, state, frame)?,
         Line::Commit => answer_commit(rt, alloc, workers, out, state, frame)?,
-        Line::Kind(..) | Line::Slots(_) | Line::Load(_) | Line::Calls(_) => {
+        Line::Kind(..) | Line::Slots(_) | Line::Load(_) | Line::Calls(_) | Line::Depth(_) => {
             return answer_unfit(out, state, frame, BadLine::SetupEnded);
         }
         _ => return answer_unfit(out, state, frame, BadLine::FrameOpen),

@@ -1,6 +1,6 @@
 //! What the setup of a script has come to.
 ghost use Rattle.std.specs.Prelude.{◌≡◌, IfOk};
-ghost use Rattle.scene_app.specs.Play.{first_hand, first_setup, first_state, first_world, setup_kinds};
+ghost use Rattle.scene_app.specs.Play.{first_editor, first_hand, first_setup, first_state, setup_kinds};
 ghost use Rattle.scene_app.specs.SetupSteps.{base_of, setup_of};
 
 use crate::play_state::PlayState;
@@ -12,32 +12,41 @@ use scene_world::World;
 use std::alloc::{AllocError, Global};
 use std::mem;
 
-/// In what world the run begins.
+/// With what the run begins.
 #[derive(Drop)]
 pub(crate) enum Base {
     /// The kinds and the slot limit so far.
     Declared(Schema, Limit),
-    /// The world of the scene text that was loaded last.
-    Loaded(World),
+    /// The editor of the scene text that was loaded last.
+    Loaded(Editor),
 }
 
 impl Base {
-    /// The world in which the run begins: without entities, or the loaded one. It takes no memory.
-    fn into_world(self, alloc: Global) -> World
-        ensures { result.world ≡ first_world (base_of self) }
+    /// The editor with which the run begins, of a depth: of a world without entities, or the loaded one. It takes no memory.
+    fn into_editor(self, alloc: Global, depth: u32) -> Editor
+        ensures { result ≡ first_editor (base_of self) depth }
     {
         match self {
-            Base::Declared(schema, limit) => World::new(alloc, schema, limit.get()),
-            Base::Loaded(world) => world,
+            Base::Declared(schema, limit) => {
+                let world = World::new(alloc, schema, limit.get());
+                Editor::with_depth(alloc, world, depth)
+            }
+            Base::Loaded(editor) => {
+                let mut cut = editor;
+                cut.set_depth(depth);
+                cut
+            }
         }
     }
 }
 
-/// The setup of a script between two lines (docs/SCRIPTS.md, "Setup"), with the number of calls that there may be.
+/// The setup of a script between two lines (docs/SCRIPTS.md, "Setup"), with the number of calls that there may be, and of
+/// frames that can be undone.
 #[derive(Drop)]
 pub(crate) struct Setup {
     pub(crate) base: Base,
     pub(crate) calls: Limit,
+    pub(crate) depth: Limit,
 }
 
 impl Setup {
@@ -48,6 +57,7 @@ impl Setup {
         Setup {
             base: Base::Declared(Schema::new(alloc), Limit::most()),
             calls: Limit::most(),
+            depth: Limit::most(),
         }
     }
 
@@ -57,7 +67,7 @@ impl Setup {
     {
         match &self.base {
             Base::Declared(schema, _) => schema,
-            Base::Loaded(world) => world.schema(),
+            Base::Loaded(editor) => editor.world().schema(),
         }
     }
 
@@ -69,7 +79,7 @@ impl Setup {
             &mut self.base,
             Base::Declared(Schema::new(alloc), Limit::most()),
         );
-        let editor = Editor::new(alloc, base.into_world(alloc));
+        let editor = base.into_editor(alloc, self.depth.get());
         Hand::new(alloc, editor, self.calls.get())
     }
 

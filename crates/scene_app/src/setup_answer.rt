@@ -1,15 +1,17 @@
 //! The answer to one line of the setup.
 ghost use Rattle.std.specs.Prelude.{◌≡◌, ◌++◌, OnOk, IfOk, string_bytes};
-ghost use Rattle.scene_app.specs.Play.{calls_reply, kind_reply, load_reply, setup_said, slots_reply};
+ghost use Rattle.scene_app.specs.Play.{calls_reply, depth_reply, kind_reply, load_reply, setup_said, slots_reply};
 ghost use Rattle.scene_app.specs.SetupSteps.{AnswersSetup, SetupReplies, base_of, setup_of};
-ghost use Rattle.scene_file.specs.Scene.{loaded};
+ghost use Rattle.scene_file.specs.EditorScene.{loaded_editor};
+ghost use Rattle.scene_machine.specs.Machine.{most_frames};
 
 use crate::answer::{answer_bad, answer_refused};
 use crate::file_fault_text::answer_file_fault;
 use crate::setup::{Base, Setup};
-use scene_file::load_text;
+use scene_file::load_editor_text;
 use scene_kinds::Shape;
 use scene_script::{BadLine, Limit, Line};
+use scene_undo::MOST_FRAMES;
 use std::alloc::{AllocError, Global};
 
 /// What became of a line in the setup.
@@ -69,12 +71,12 @@ fn answer_load(
     text: &str,
 ) -> Result<Option<BadLine>, AllocError>
     ensures { IfOk result (λ bad. SetupReplies (string_bytes out.old) (string_bytes out.new) (setup_of setup.new) bad
-        (load_reply (setup_of setup.old) (loaded text.now))) }
+        (load_reply (setup_of setup.old) (loaded_editor most_frames text.now))) }
 {
-    let loaded = load_text(alloc, text.as_bytes());
+    let loaded = load_editor_text(alloc, text.as_bytes(), MOST_FRAMES);
     match loaded {
-        Ok(world) => {
-            setup.base = Base::Loaded(world);
+        Ok(editor) => {
+            setup.base = Base::Loaded(editor);
             out.push_str("ok\n")?;
         }
         Err(fault) => answer_file_fault(alloc, out, fault)?,
@@ -92,6 +94,20 @@ fn answer_calls(
         (calls_reply (setup_of setup.old) calls)) }
 {
     setup.calls = calls;
+    out.push_str("ok\n")?;
+    Ok(None)
+}
+
+/// `depth`.
+fn answer_depth(
+    out: &mut String,
+    setup: &mut Setup,
+    depth: Limit,
+) -> Result<Option<BadLine>, AllocError>
+    ensures { IfOk result (λ bad. SetupReplies (string_bytes out.old) (string_bytes out.new) (setup_of setup.new) bad
+        (depth_reply (setup_of setup.old) depth)) }
+{
+    setup.depth = depth;
     out.push_str("ok\n")?;
     Ok(None)
 }
@@ -114,6 +130,7 @@ pub(crate) fn answer_setup(
         Ok(Line::Slots(slots)) => answer_slots(out, setup, slots)?,
         Ok(Line::Load(text)) => answer_load(alloc, out, setup, text.as_str())?,
         Ok(Line::Calls(calls)) => answer_calls(out, setup, calls)?,
+        Ok(Line::Depth(depth)) => answer_depth(out, setup, depth)?,
         Ok(line) => return Ok(SetupAnswer::Ends(line)),
     };
     Ok(SetupAnswer::Given(bad))

@@ -6,7 +6,7 @@ use scene_world::{Stage, World};
 use std::alloc::Global;
 
 /// The number of the Int that each entity has from its spawn.
-const HEALTH: u8 = 0;
+pub const HEALTH: u8 = 0;
 
 /// That of the Vec3.
 const POSITION: u8 = 1;
@@ -86,7 +86,7 @@ impl Work {
 }
 
 /// The entity of an index that was never used before.
-fn first(index: u32) -> Entity {
+pub fn first(index: u32) -> Entity {
     Entity {
         index,
         generation: 1,

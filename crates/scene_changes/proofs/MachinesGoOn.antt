@@ -1,5 +1,5 @@
 -- Calls of a machine keep its worlds in order, and lead to a machine that comes after.
-use Rattle.std.proofs.Common.{◌≡◌, ◌≤◌, ◌+◌, ℕ, Bool, true, false, nat_eq, List, [], ◌∷◌, refl, subst, arith, Ok, if◌then◌else◌}
+use Rattle.std.proofs.Common.{◌≡◌, ◌≤◌, ◌+◌, ℕ, zero, suc, Bool, true, false, nat_eq, List, [], ◌∷◌, take, refl, subst, arith, Ok, if◌then◌else◌}
 use Rattle.std.specs.Prelude.{Err}
 use Rattle.scene_kinds.specs.declared.entity.Entity.{Entity}
 use Rattle.scene_kinds.specs.declared.fault.Fault.TheVariants.{TickFull}
@@ -45,10 +45,16 @@ record IsNext (m n : Machine World) : Type 0 where
 stays : (m : Machine World) → IsInOrder m → IsNext m m
 stays m order = record { order = order; after = itself_after m }
 
+-- the newest of the worlds before
+newest_go_back : (depth : ℕ) (w : World) (vs : List World) → GoesBack w vs → GoesBack w (take depth vs)
+newest_go_back zero w vs back = tt
+newest_go_back (suc n) w [] back = tt
+newest_go_back (suc n) w (v ∷ vs) back = (back.0, newest_go_back n v vs back.1)
+
 -- an accepted frame
 framed_next : (m : Machine World) (v : World) → IsInOrder m → HasSoundRows v × GoesOn m.now v → IsNext m (accepted m v)
 framed_next m v order new = record {
-  order = record { sound = new.0; past = ((order.sound, new.1), order.past); future = tt };
+  order = record { sound = new.0; past = newest_go_back m.depth v (m.now ∷ m.past) ((order.sound, new.1), order.past); future = tt };
   after = record { rewinds = omega arith; goes_on = λ e. new.1 };
 }
 
@@ -67,7 +73,8 @@ undone_next m (w ∷ ws) is order = from (nat_eq m.rewinds 18446744073709551615)
     back : GoesBack m.now (w ∷ ws)
     back = subst (GoesBack m.now) is order.past
 
-    from : (b : Bool) → IsNext m (replied m (spawning_none (if b then refuse TickFull else Ok (tt, record { past = ws; now = w; future = m.now ∷ m.future; rewinds = m.rewinds + 1 })))).0
+    from : (b : Bool)
+        → IsNext m (replied m (spawning_none (if b then refuse TickFull else Ok (tt, record m { past = ws; now = w; future = m.now ∷ m.future; rewinds = m.rewinds + 1 })))).0
     from true = stays m order
     from false = record {
       order = record { sound = back.0.0; past = back.1; future = ((order.sound, back.0.1), order.future) };
@@ -79,7 +86,7 @@ redone_next m [] is order = stays m order
 redone_next m (w ∷ ws) is order =
     let forth : GoesForth m.now (w ∷ ws) = subst (GoesForth m.now) is order.future in
     record {
-      order = record { sound = forth.0.0; past = ((order.sound, forth.0.1), order.past); future = forth.1 };
+      order = record { sound = forth.0.0; past = newest_go_back m.depth w (m.now ∷ m.past) ((order.sound, forth.0.1), order.past); future = forth.1 };
       after = record { rewinds = omega arith; goes_on = λ e. forth.0.1 };
     }
 

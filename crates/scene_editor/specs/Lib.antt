@@ -18,10 +18,11 @@ pub use Rattle.scene_pass.specs.Pass
 -- which lists of phases are schedules, and what an advance by one does
 pub use Rattle.scene_schedule.specs.Schedule
 pub use Rattle.scene_schedule.specs.Systems
--- the text of a world, and the world of a text
-pub use Rattle.scene_file.specs.Outcome
+-- the texts of a world and of an editor, and the world and the editor of a text
+pub use Rattle.scene_forms.specs.Outcome
 pub use Rattle.scene_file.specs.Saving
 pub use Rattle.scene_file.specs.Scene
+pub use Rattle.scene_file.specs.EditorScene
 -- locks and their passes, and histories of sessions
 pub use Rattle.scene_lock.specs.Pass as Passes
 pub use Rattle.scene_lock.specs.History

@@ -17,7 +17,7 @@
 #![tactic(auto)]
 
 // Editors: frames, undo and redo.
-pub use scene_undo::{Cursor, Editor, Made};
+pub use scene_undo::{Cursor, Editor, MOST_FRAMES, Made};
 
 // Changes: lists of commands.
 pub use scene_commands::{Command, Components, Target};
@@ -39,8 +39,11 @@ pub use scene_world::World;
 // Why a call was refused.
 pub use scene_kinds::{Fault, Place, Refusal};
 
-// Scene texts: loading and saving.
-pub use scene_file::{FileFault, load, load_text, save, save_text};
+// Scene texts: loading and saving, of a world, and of an editor with all that it can undo and redo.
+pub use scene_file::{
+    FileFault, load, load_editor, load_editor_text, load_text, save, save_editor, save_editor_text,
+    save_text,
+};
 pub use scene_streams::{Sink, Source};
 
 // Sessions: threads that share a scene, each through a pass of its own, and the queries that they ask.

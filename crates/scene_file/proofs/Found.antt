@@ -21,7 +21,8 @@ use Rattle.scene_parts.specs.Parts.{keys, lists_of}
 use Rattle.scene_resources.specs.Resources.{NamedCells, cell_of, names_of}
 use Rattle.scene_resources.proofs.ResourceLaws.{names_found}
 use Rattle.scene_table.specs.Tables.{Tables, rows_at, masks_of}
-use Rattle.scene_file.specs.Text.{array_of, list_text, children_text, table_text}
+use Rattle.scene_forms.specs.Text.{array_of, list_text}
+use Rattle.scene_file.specs.Text.{children_text, table_text}
 use Rattle.scene_file.specs.Printing.{table_json, named, named_cells}
 
 module _ {K X : Type 0} {R : K → K → Ordering} (o : IsTotalOrder R) where

@@ -1,38 +1,13 @@
 -- Lists of a length that isn't wanted.
-use Rattle.std.proofs.Common.{◌≡◌, ◌≢◌, ℕ, List, [], ◌∷◌, length, Result, Err, refl, map as each, arith}
+use Rattle.std.proofs.Common.{◌≡◌, ◌≢◌, ℕ, List, [], ◌∷◌, length, Err, refl}
 use Rattle.serde_json.specs.Data.{Data}
-use Rattle.serde_json.specs.View.{view}
-use Rattle.serde_json.specs.declared.value.Value.{Value}
-use Rattle.scene_kinds.specs.declared.shape.Shape.{Shape}
-use Rattle.scene_file.specs.declared.fault.FileFault.TheVariants.{BadField}
-use Rattle.scene_file.specs.Walk.{three_of, cell_parts, resource_cell_parts, kind_parts}
+use Rattle.scene_forms.specs.declared.fault.FileFault.TheVariants.{BadField}
+use Rattle.scene_file.specs.Walk.{kind_parts}
 
-pub not_three : (path : List ℕ) (vs : List Value) → length vs ≢ 3 → three_of path (each view vs) ≡ Err (BadField path)
-not_three path [] h = refl
-not_three path (a ∷ []) h = refl
-not_three path (a ∷ b ∷ []) h = refl
-not_three path (a ∷ b ∷ c ∷ []) h = absurd (h refl)
-not_three path (a ∷ b ∷ c ∷ d ∷ vs) h = refl
-
-pub no_cell : (shape : Shape) (path : List ℕ) (vs : List Value) → length vs ≢ 3 → cell_parts shape path (each view vs) ≡ Err (BadField path)
-no_cell shape path [] h = refl
-no_cell shape path (a ∷ []) h = refl
-no_cell shape path (a ∷ b ∷ []) h = refl
-no_cell shape path (a ∷ b ∷ c ∷ []) h = absurd (h refl)
-no_cell shape path (a ∷ b ∷ c ∷ d ∷ vs) h = refl
-
-pub no_resource_cell : (path : List ℕ) (vs : List Value) → length vs ≢ 4 → resource_cell_parts path (each view vs) ≡ Err (BadField path)
-no_resource_cell path [] h = refl
-no_resource_cell path (a ∷ []) h = refl
-no_resource_cell path (a ∷ b ∷ []) h = refl
-no_resource_cell path (a ∷ b ∷ c ∷ []) h = refl
-no_resource_cell path (a ∷ b ∷ c ∷ d ∷ []) h = absurd (h refl)
-no_resource_cell path (a ∷ b ∷ c ∷ d ∷ e ∷ vs) h = refl
-
-pub no_kind : (path : List ℕ) (vs : List Value) → length vs ≢ 2 → kind_parts path (each view vs) ≡ Err (BadField path)
+pub no_kind : (path : List ℕ) (vs : List Data) → length vs ≢ 2 → kind_parts path vs ≡ Err (BadField path)
 no_kind path [] h = refl
 no_kind path (a ∷ []) h = refl
 no_kind path (a ∷ b ∷ []) h = absurd (h refl)
 no_kind path (a ∷ b ∷ c ∷ vs) h = refl
 
-pub ruleset parted = (not_three, no_cell, no_resource_cell, no_kind)
+pub ruleset parted = (no_kind)

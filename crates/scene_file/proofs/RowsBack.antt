@@ -1,67 +1,39 @@
 -- Rows that were written are read again, and the kinds of their table.
-use Rattle.std.proofs.Common.{◌≡◌, ℕ, zero, suc, ◌+◌, ◌^◌, ◌<◌, ◌≤◌, Bool, true, false, cond, T, List, [], ◌∷◌, length, refl, ap, sym, subst, ◌∙◌, arith, Some, None, Ok, is_some, nat_eq, nat_lt}
+use Rattle.std.proofs.Common.{◌≡◌, ℕ, zero, suc, ◌+◌, ◌^◌, ◌<◌, ◌≤◌, Bool, true, false, cond, List, [], ◌∷◌, length, refl, ap, sym, subst, ◌∙◌, arith, Some, None, Ok, is_some, nat_eq, nat_lt}
 use Rattle.std.specs.Prelude.{map as each, codes, filter, fold}
 use Rattle.std.specs.List.{list_all, range_with_len, zip, AllByRecursion, cons_option}
-use Rattle.std.specs.Ordering.{nat_cmp, eq_by_cmp, is_lt}
-use Rattle.std.specs.declared.cmp.Ordering.TheVariants.{Less}
+use Rattle.std.specs.Ordering.{nat_cmp, eq_by_cmp}
 use Rattle.std.specs.Cmp.{nat_cmp_total}
 use Rattle.std.specs.FinMap.{nat_cmp-IsAntisymmetric}
 use Rattle.std.specs.FinMap.Entries.{find, is_sorted, below_all}
 use Rattle.std.proofs.lemmas.Bool.{eq-eqb, lt-ltb, false_from_ne_true}
-use Rattle.std.proofs.lemmas.Bool.Decides.{nat_tests}
 use Rattle.scene_kinds.specs.declared.cell.Cell.{Cell}
 use Rattle.scene_kinds.specs.declared.cells.Row.{Row}
 use Rattle.scene_kinds.specs.declared.shape.Shape.{Shape}
-use Rattle.scene_kinds.specs.declared.shape.Shape.TheVariants as shape
-use Rattle.scene_kinds.specs.declared.value.Value.{Value}
 use Rattle.scene_kinds.specs.Cells.{IsAscending, mask_of}
 use Rattle.scene_kinds.specs.KindSet.{has_kind}
-use Rattle.scene_kinds.specs.Ranges.{is_entity, is_in_range}
-use Rattle.scene_kinds.specs.Schema.{Kinds, fits_kind, has_shape, shape_of}
-use Rattle.scene_kinds.specs.Shape.{same_shape, shape_of_value}
-use Rattle.scene_kinds.proofs.Choices.{test_parts, less}
+use Rattle.scene_kinds.specs.Ranges.{is_entity}
+use Rattle.scene_kinds.specs.Schema.{Kinds, fits_kind}
+use Rattle.scene_kinds.specs.Shape.{shape_of_value}
+use Rattle.scene_kinds.proofs.Choices.{test_parts}
 use Rattle.scene_kinds.proofs.KindSets.{has_kind-mask_of}
 use Rattle.scene_kinds.proofs.Maps.{equal_keys, ties_itself}
 use Rattle.scene_model.specs.Valid.{IsRowOf}
 use Rattle.scene_parts.specs.Parts.{keys}
 use Rattle.scene_parts.proofs.Tests.{and_is, all_with}
-use Rattle.scene_file.specs.Reading.{◌>>=◌, if_good, elements, place_in, under}
-use Rattle.scene_file.specs.Text.{items_of, entity_json, cell_text, row_text, kinds_of}
-use Rattle.scene_file.specs.Walk.{entity_at, cell_at, cells_from, shapes_of, set_of, row_at}
-use Rattle.scene_file.proofs.ListsBack.{ReadsBack, after, good, elements_written, Follow}
-use Rattle.scene_file.proofs.ValuesBack.{entity_back, cell_back}
+use Rattle.scene_forms.specs.Reading.{◌>>=◌, if_good, elements, place_in, under}
+use Rattle.scene_forms.specs.Text.{items_of, entity_json, cell_text}
+use Rattle.scene_file.specs.Text.{row_text, kinds_of}
+use Rattle.scene_forms.specs.Walk.{entity_at, cell_at}
+use Rattle.scene_file.specs.Walk.{cells_from, shapes_of, set_of, row_at}
+use Rattle.scene_forms.proofs.FitKinds.{fits_is, all_above}
+use Rattle.scene_forms.proofs.ListsBack.{ReadsBack, after, good, elements_written, Follow}
+use Rattle.scene_forms.proofs.ValuesBack.{entity_back, cell_back}
 
 abbrev pub Cells : Type 0
 Cells = List (ℕ × Cell)
 
--- ---- shapes
-
-same_shape_is : (a b : Shape) → same_shape a b ≡ true → a ≡ b
-same_shape_is shape.Tag shape.Tag h = refl
-same_shape_is shape.Int shape.Int h = refl
-same_shape_is shape.Vec3 shape.Vec3 h = refl
-same_shape_is shape.Text shape.Text h = refl
-same_shape_is shape.Link shape.Link h = refl
-same_shape_is a b h = absurd (let k : false ≡ true = h in cc)
-
--- a value that fits a kind
-record Fits (schema : Kinds) (v : Value) (kind : ℕ) : Type 0 where
-  shape : shape_of schema kind ≡ Some (shape_of_value v)
-  range : is_in_range v ≡ true
-  low : kind < length schema
-
-low_kind : (schema : Kinds) (kind : ℕ) (s : Shape) → shape_of schema kind ≡ Some s → kind < length schema
-low_kind [] kind s h = absurd (let k : None ≡ Some s = h in cc)
-low_kind (k ∷ ks) zero s h = omega arith
-low_kind (k ∷ ks) (suc kind) s h = let l = low_kind ks kind s h in omega (arith, l)
-
-fits_is : (schema : Kinds) (v : Value) (kind : ℕ) → fits_kind schema v kind ≡ true → Fits schema v kind
-fits_is schema v kind h = elim (shape_of schema kind) as (λ o. shape_of schema kind ≡ o → has_shape v o ≡ true → Fits schema v kind) [
-  | None ↦ λ e k. absurd (let g : false ≡ true = k in cc)
-  | Some s ↦ λ e k.
-      let p = and_is (is_in_range v) (same_shape (shape_of_value v) s) k in
-      record { shape = e ∙ ap (λ x. Some x) (sym (same_shape_is (shape_of_value v) s p.1)); range = p.0; low = low_kind schema kind s e }
-] refl h
+-- ---- cells that fit
 
 abbrev pub AllFit : Kinds → Cells → Type 0
 AllFit schema cells = list_all (λ c. fits_kind schema c.1.value c.0) cells ≡ true
@@ -123,14 +95,6 @@ pub row_back : (schema : Kinds) (r : Row) (kinds : List ℕ) → is_entity r.ent
 row_back schema r kinds e h s = subst (λ ks. ReadsBack (row_at ks (shapes_of schema ks)) row_text r) s (own_row_back schema r e h)
 
 -- ---- the kinds of a set
-
-pub less_is : (a b : ℕ) → nat_cmp a b ≡ Less → a < b
-less_is a b h = grind (arith, nat_tests)
-
-pub all_above : (kind : ℕ) (cells : Cells) → T (below_all nat_cmp kind cells) → AllByRecursion (λ c. kind < c.0) cells
-all_above kind [] h = tt
-all_above kind (c ∷ cs) h = let p = test_parts (is_lt (nat_cmp kind c.0)) (below_all nat_cmp kind cs) h in
-    (less_is kind c.0 (less (nat_cmp kind c.0) p.0), all_above kind cs p.1)
 
 not_equal : (a b : ℕ) → (a ≡ b → ⊥) → eq_by_cmp nat_cmp a b ≡ false
 not_equal a b h = false_from_ne_true (eq_by_cmp nat_cmp a b) (λ t. h (equal_keys nat_cmp-IsAntisymmetric a b t))

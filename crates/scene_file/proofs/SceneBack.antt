@@ -1,8 +1,9 @@
 -- The parts of a valid world that were written are read again, and so is the world.
-use Rattle.std.proofs.Common.{◌≡◌, ℕ, ◌<◌, ◌≤◌, true, false, List, [], ◌∷◌, length, refl, ap, sym, subst, ◌∙◌, None, Ok, nat_lt}
+use Rattle.std.proofs.Common.{◌≡◌, ℕ, ◌<◌, ◌≤◌, true, false, List, [], ◌∷◌, ◌++◌, length, refl, ap, sym, subst, ◌∙◌, Some, None, Result, Ok, nat_lt}
 use Rattle.std.specs.Prelude.{codes, ◌&&◌, nat_le}
 use Rattle.std.specs.List.{AllByRecursion}
-use Rattle.serde_json.specs.Data.{string}
+use Rattle.serde_json.specs.Data.{Data, Members, string}
+use Rattle.serde_json.specs.Find.{get_member}
 use Rattle.scene_kinds.specs.declared.entity.Entity.{Entity}
 use Rattle.scene_kinds.specs.declared.cell.Cell.{Cell}
 use Rattle.scene_kinds.specs.declared.cells.Row.{Row}
@@ -12,12 +13,16 @@ use Rattle.scene_alloc.specs.Slots.{most_slots}
 use Rattle.scene_model.specs.Valid.{IsRowOf}
 use Rattle.scene_parts.specs.Parts.{Parts, has_some, keys}
 use Rattle.scene_parts.proofs.Tests.{all_with}
-use Rattle.scene_file.specs.Reading.{◌>>=◌, below, list_of, rising_of, under}
-use Rattle.scene_file.specs.Text.{list_text, count_text, kind_text, entity_json, row_text, table_text, children_text, resource_text, resource_cell_text, parts_text, kinds_of}
-use Rattle.scene_file.specs.Walk.{u32_at, tick_at, entity_at, kinds_at, limit_at, children_at, name_at, resource_at, resource_cell_at, row_at, shapes_of, set_of, table_at, parent_follows, name_follows, table_follows, parts_in}
-use Rattle.scene_file.proofs.ListsBack.{ReadsBack, Follow, after, good, below_back, list_back, rising_back}
-use Rattle.scene_file.proofs.ValuesBack.{entity_back, resource_cell_back}
+use Rattle.scene_forms.specs.declared.fault.FileFault.{FileFault}
+use Rattle.scene_forms.specs.Reading.{◌>>=◌, below, field, key_of, list_of, rising_of, under}
+use Rattle.scene_forms.specs.Text.{members_of, list_text, count_text, entity_json, resource_cell_text}
+use Rattle.scene_file.specs.Text.{kind_text, row_text, table_text, children_text, resource_text, first_text, last_text, parts_text, kinds_of}
+use Rattle.scene_forms.specs.Walk.{u32_at, tick_at, entity_at, name_at, resource_cell_at}
+use Rattle.scene_file.specs.Walk.{kinds_at, limit_at, children_at, resource_at, row_at, shapes_of, set_of, table_at, parent_follows, name_follows, table_follows, Head, head_of, tail_of, parts_in}
+use Rattle.scene_forms.proofs.ListsBack.{ReadsBack, Follow, after, good, below_back, list_back, rising_back}
+use Rattle.scene_forms.proofs.ValuesBack.{entity_back, resource_cell_back}
 use Rattle.scene_file.proofs.SchemaBack.{kinds_back}
+use Rattle.scene_file.proofs.SceneSteps.{head_said, tail_said, parts_said}
 use Rattle.scene_file.proofs.RowsBack.{row_back, kinds_of_row, kinds_rise, low_kinds, set_of_row}
 
 -- ---- the elements of the lists
@@ -84,123 +89,51 @@ pub record AreReadable (p : Parts) : Type 0 where
   pub tables : AllByRecursion (ReadsBack (table_at p.schema) table_text) p.tables
   pub sets : Follow table_follows None p.tables
 
+-- a key whose value was written is read again
+pub key_back : {A : Type 0} (read : List ℕ → Data → Result A FileFault) (text : A → Data) (key : List ℕ) (ms : Members) (a : A)
+    → get_member key ms ≡ Some (text a) → ReadsBack read text a → key_of read [] key ms ≡ Ok a
+key_back read text key ms a there h = ap (λ o. field (under [] key) o >>= λ d. read (under [] key) d) there ∙ h (under [] key)
+
+-- what the first five keys of parts say
+abbrev pub head_part : Parts → Head
+head_part p = record { children = p.children; free = p.free; generations = p.generations; schema = p.schema; limit = p.limit }
+
+-- the values of the first five keys are those of parts
+pub record HasHead (ms : Members) (p : Parts) : Type 0 where
+  pub children : get_member (codes "children") ms ≡ Some (list_text children_text p.children)
+  pub free : get_member (codes "free") ms ≡ Some (list_text count_text p.free)
+  pub generations : get_member (codes "generations") ms ≡ Some (list_text count_text p.generations)
+  pub schema : get_member (codes "kinds") ms ≡ Some (list_text kind_text p.schema)
+  pub limit : get_member (codes "limit") ms ≡ Some (count_text p.limit)
+
+-- and those of the keys behind them
+pub record HasTail (ms : Members) (p : Parts) : Type 0 where
+  pub resources : get_member (codes "resources") ms ≡ Some (list_text resource_text p.resources)
+  pub tables : get_member (codes "tables") ms ≡ Some (list_text table_text p.tables)
+  pub tick : get_member (codes "tick") ms ≡ Some (count_text p.tick)
+
+pub head_back : (ms : Members) (p : Parts) → HasHead ms p → AreReadable p → head_of ms ≡ Ok (head_part p)
+head_back ms p there h = head_said ms p.children p.free p.generations p.schema p.limit
+    (key_back (rising_of children_at parent_follows) (list_text children_text) (codes "children") ms p.children there.children
+    (rising_back children_at children_text parent_follows p.children h.children h.parents))
+    (key_back (list_of u32_at) (list_text count_text) (codes "free") ms p.free there.free (list_back u32_at count_text p.free h.free))
+    (key_back (list_of u32_at) (list_text count_text) (codes "generations") ms p.generations there.generations
+    (list_back u32_at count_text p.generations h.generations))
+    (key_back kinds_at (list_text kind_text) (codes "kinds") ms p.schema there.schema (kinds_back p.schema h.schema))
+    (key_back limit_at count_text (codes "limit") ms p.limit there.limit
+    (λ path. good path (nat_le 1 p.limit && nat_le p.limit most_slots) p.limit h.limit))
+
+pub tail_back : (ms : Members) (p : Parts) → HasTail ms p → AreReadable p → tail_of (head_part p) ms ≡ Ok p
+tail_back ms p there h = tail_said (head_part p) ms p.resources p.tables p.tick
+    (key_back (rising_of resource_at name_follows) (list_text resource_text) (codes "resources") ms p.resources there.resources
+    (rising_back resource_at resource_text name_follows p.resources h.resources h.names))
+    (key_back (rising_of (table_at p.schema) table_follows) (list_text table_text) (codes "tables") ms p.tables there.tables
+    (rising_back (table_at p.schema) table_text table_follows p.tables h.tables h.sets))
+    (key_back tick_at count_text (codes "tick") ms p.tick there.tick (λ path. refl))
+
 pub parts_back : (p : Parts) → AreReadable p → parts_in (parts_text p) ≡ Ok p
 parts_back p h =
-    after (rising_of children_at parent_follows (codes "children") (list_text children_text p.children)) p.children
-    (λ x_children. list_of u32_at (codes "free") (list_text count_text p.free)
-    >>= λ x_free. list_of u32_at (codes "generations") (list_text count_text p.generations)
-    >>= λ x_generations. kinds_at (codes "kinds") (list_text kind_text p.schema) >>= λ x_kinds. limit_at (codes "limit") (count_text p.limit)
-    >>= λ x_limit. rising_of resource_at name_follows (codes "resources") (list_text resource_text p.resources)
-    >>= λ x_resources. rising_of (table_at x_kinds) table_follows (codes "tables") (list_text table_text p.tables)
-    >>= λ x_tables. tick_at (codes "tick") (count_text p.tick)
-    >>= λ x_tick. Ok (record {
-      schema = x_kinds;
-      limit = x_limit;
-      tick = x_tick;
-      generations = x_generations;
-      free = x_free;
-      tables = x_tables;
-      children = x_children;
-      resources = x_resources;
-    })) (Ok p)
-    (rising_back children_at children_text parent_follows p.children h.children h.parents (codes "children"))
-    (after (list_of u32_at (codes "free") (list_text count_text p.free)) p.free
-    (λ x_free. list_of u32_at (codes "generations") (list_text count_text p.generations)
-    >>= λ x_generations. kinds_at (codes "kinds") (list_text kind_text p.schema) >>= λ x_kinds. limit_at (codes "limit") (count_text p.limit)
-    >>= λ x_limit. rising_of resource_at name_follows (codes "resources") (list_text resource_text p.resources)
-    >>= λ x_resources. rising_of (table_at x_kinds) table_follows (codes "tables") (list_text table_text p.tables)
-    >>= λ x_tables. tick_at (codes "tick") (count_text p.tick)
-    >>= λ x_tick. Ok (record {
-      schema = x_kinds;
-      limit = x_limit;
-      tick = x_tick;
-      generations = x_generations;
-      free = x_free;
-      tables = x_tables;
-      children = p.children;
-      resources = x_resources;
-    })) (Ok p) (list_back u32_at count_text p.free h.free (codes "free"))
-    (after (list_of u32_at (codes "generations") (list_text count_text p.generations)) p.generations
-    (λ x_generations. kinds_at (codes "kinds") (list_text kind_text p.schema) >>= λ x_kinds. limit_at (codes "limit") (count_text p.limit)
-    >>= λ x_limit. rising_of resource_at name_follows (codes "resources") (list_text resource_text p.resources)
-    >>= λ x_resources. rising_of (table_at x_kinds) table_follows (codes "tables") (list_text table_text p.tables)
-    >>= λ x_tables. tick_at (codes "tick") (count_text p.tick)
-    >>= λ x_tick. Ok (record {
-      schema = x_kinds;
-      limit = x_limit;
-      tick = x_tick;
-      generations = x_generations;
-      free = p.free;
-      tables = x_tables;
-      children = p.children;
-      resources = x_resources;
-    })) (Ok p) (list_back u32_at count_text p.generations h.generations (codes "generations"))
-    (after (kinds_at (codes "kinds") (list_text kind_text p.schema)) p.schema
-    (λ x_kinds. limit_at (codes "limit") (count_text p.limit)
-    >>= λ x_limit. rising_of resource_at name_follows (codes "resources") (list_text resource_text p.resources)
-    >>= λ x_resources. rising_of (table_at x_kinds) table_follows (codes "tables") (list_text table_text p.tables)
-    >>= λ x_tables. tick_at (codes "tick") (count_text p.tick)
-    >>= λ x_tick. Ok (record {
-      schema = x_kinds;
-      limit = x_limit;
-      tick = x_tick;
-      generations = p.generations;
-      free = p.free;
-      tables = x_tables;
-      children = p.children;
-      resources = x_resources;
-    })) (Ok p) (kinds_back p.schema h.schema (codes "kinds"))
-    (after (limit_at (codes "limit") (count_text p.limit)) p.limit
-    (λ x_limit. rising_of resource_at name_follows (codes "resources") (list_text resource_text p.resources)
-    >>= λ x_resources. rising_of (table_at p.schema) table_follows (codes "tables") (list_text table_text p.tables)
-    >>= λ x_tables. tick_at (codes "tick") (count_text p.tick)
-    >>= λ x_tick. Ok (record {
-      schema = p.schema;
-      limit = x_limit;
-      tick = x_tick;
-      generations = p.generations;
-      free = p.free;
-      tables = x_tables;
-      children = p.children;
-      resources = x_resources;
-    })) (Ok p)
-    (good (codes "limit") (nat_le 1 p.limit && nat_le p.limit most_slots) p.limit h.limit)
-    (after (rising_of resource_at name_follows (codes "resources") (list_text resource_text p.resources)) p.resources
-    (λ x_resources. rising_of (table_at p.schema) table_follows (codes "tables") (list_text table_text p.tables)
-    >>= λ x_tables. tick_at (codes "tick") (count_text p.tick)
-    >>= λ x_tick. Ok (record {
-      schema = p.schema;
-      limit = p.limit;
-      tick = x_tick;
-      generations = p.generations;
-      free = p.free;
-      tables = x_tables;
-      children = p.children;
-      resources = x_resources;
-    })) (Ok p)
-    (rising_back resource_at resource_text name_follows p.resources h.resources h.names (codes "resources"))
-    (after (rising_of (table_at p.schema) table_follows (codes "tables") (list_text table_text p.tables)) p.tables
-    (λ x_tables. tick_at (codes "tick") (count_text p.tick)
-    >>= λ x_tick. Ok (record {
-      schema = p.schema;
-      limit = p.limit;
-      tick = x_tick;
-      generations = p.generations;
-      free = p.free;
-      tables = x_tables;
-      children = p.children;
-      resources = p.resources;
-    })) (Ok p)
-    (rising_back (table_at p.schema) table_text table_follows p.tables h.tables h.sets (codes "tables"))
-    (after (tick_at (codes "tick") (count_text p.tick)) p.tick
-    (λ x_tick. Ok (record {
-      schema = p.schema;
-      limit = p.limit;
-      tick = x_tick;
-      generations = p.generations;
-      free = p.free;
-      tables = p.tables;
-      children = p.children;
-      resources = p.resources;
-    })) (Ok p) (refl)
-    (refl))))))))
+    let ms : Members = members_of (first_text p ++ last_text 1 p) in
+    parts_said ms (head_part p) p
+    (head_back ms p (record { children = refl; free = refl; generations = refl; schema = refl; limit = refl }) h)
+    (tail_back ms p (record { resources = refl; tables = refl; tick = refl }) h)

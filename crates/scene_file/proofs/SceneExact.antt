@@ -13,18 +13,20 @@ use Rattle.scene_kinds.specs.Answers.{refuse}
 use Rattle.scene_kinds.specs.Schema.{Kinds, is_good_name, number_of, with_kind}
 use Rattle.scene_alloc.specs.Slots.{most_slots}
 use Rattle.scene_parts.specs.Parts.{Parts}
-use Rattle.scene_file.specs.declared.fault.FileFault.{FileFault}
-use Rattle.scene_file.specs.declared.fault.FileFault.TheVariants.{BadVersion}
-use Rattle.scene_file.specs.Reading.{◌>>=◌, field, if_good, string_at, list_at, list_of, rising_of, place_in, under, object_at, key_of}
-use Rattle.scene_file.specs.Text.{array_of, list_text, count_text, entity_json, kind_text, shape_text, children_text, resource_cell_text, resource_text, table_text, parts_text}
-use Rattle.scene_file.specs.Walk.{u32_at, tick_at, entity_at, shape_at, kind_parts, added, kinds_from, kinds_at, children_at, name_at, resource_at, resource_cell_at, table_at, limit_at, scene_keys, parent_follows, name_follows, table_follows, parts_of, version_of, parts_in}
-use Rattle.scene_file.proofs.ListsBack.{Follow}
-use Rattle.scene_file.proofs.ReadValues.{IsRead}
-use Rattle.scene_file.proofs.ListsExact.{IsExact, IsObject, list_was, list_exact, rising_key, key_was, key_exact, object_was, object_is}
-use Rattle.scene_file.proofs.ValuesExact.{below_exact, tick_exact, string_exact, entity_exact, shape_exact, resource_cell_exact}
+use Rattle.scene_forms.specs.declared.fault.FileFault.{FileFault}
+use Rattle.scene_forms.specs.declared.fault.FileFault.TheVariants.{BadVersion}
+use Rattle.scene_forms.specs.Reading.{◌>>=◌, field, if_good, string_at, list_at, list_of, rising_of, place_in, under, object_at, key_of}
+use Rattle.scene_forms.specs.Text.{array_of, list_text, count_text, entity_json, shape_text, resource_cell_text}
+use Rattle.scene_file.specs.Text.{kind_text, children_text, resource_text, table_text, first_text, last_text, parts_text}
+use Rattle.scene_forms.specs.Walk.{u32_at, tick_at, entity_at, shape_at, name_at, resource_cell_at}
+use Rattle.scene_file.specs.Walk.{kind_parts, added, kinds_from, kinds_at, children_at, resource_at, table_at, limit_at, scene_keys, parent_follows, name_follows, table_follows, Head, head_of, tail_of, parts_of, first_parts, version_of, parts_in}
+use Rattle.scene_forms.proofs.ListsBack.{Follow}
+use Rattle.scene_forms.proofs.ReadValues.{IsRead, HasRead}
+use Rattle.scene_forms.proofs.ListsExact.{IsExact, IsObject, list_was, list_exact, rising_key, key_was, key_exact, object_was, object_is}
+use Rattle.scene_forms.proofs.ValuesExact.{below_exact, tick_exact, string_exact, entity_exact, shape_exact, name_exact, resource_cell_exact}
 use Rattle.scene_file.proofs.RowsExact.{table_exact}
-use Rattle.scene_file.proofs.SceneSteps.{after_children, after_free, after_generations, after_schema, after_limit, after_resources, after_tables, after_tick}
-use Rattle.scene_file.proofs.GoodSteps.{ok_after, good_was, ok_is, no_field, field_was}
+use Rattle.scene_file.proofs.SceneSteps.{after_children, after_free, after_generations, after_schema, after_resources, after_tables, whole_of}
+use Rattle.scene_forms.proofs.GoodSteps.{ok_after, good_was, ok_is, no_field, field_was}
 
 -- ---- kinds
 
@@ -109,11 +111,6 @@ children_exact path d l r h =
     )
     ∙ ap children_text (ok_is (q.0, p.0) l q.2)
 
-name_exact : IsExact name_at string
-name_exact path d name r h =
-    let p = ok_after (string_at path d) (λ name. if_good path (is_good_name name) name) name h in
-    string_exact path d p.0 r p.1 ∙ ap string (good_was path (is_good_name p.0) p.0 name p.2).1
-
 resource_exact : IsExact resource_at resource_text
 resource_exact path d l r h =
     let o = ok_after (object_at (codes "cell" ∷ codes "name" ∷ []) path d)
@@ -135,93 +132,127 @@ limit_exact path d n r h =
     let p = ok_after (tick_at path d) (λ n. if_good path (nat_le 1 n && nat_le n most_slots) n) n h in
     tick_exact path d p.0 r p.1 ∙ ap count_text (good_was path (nat_le 1 p.0 && nat_le p.0 most_slots) p.0 n p.2).1
 
--- the version that passes is the first
-version_one : (b : Bool) (n m : ℕ) → cond b (Ok n) (Err (BadVersion n)) ≡ Ok m → b ≡ true
-version_one true n m h = refl
-version_one false n m h = absurd (let k : ◌≡◌ {A = Result ℕ FileFault} (Err (BadVersion n)) (Ok m) = h in cc)
-
--- parts that were read: their text is what stands there, and their lists rise
-pub record AreSaid (d : Data) (p : Parts) : Type 0 where
-  pub text : d ≡ parts_text p
-  pub parents : Follow parent_follows None p.children
-  pub names : Follow name_follows None p.resources
-  pub sets : Follow table_follows None p.tables
-
 -- the key of the version, which is read before the other keys are known
-version_found : (d : Data) (ms : Members) (n : ℕ) → IsObject scene_keys d ms → version_of d ≡ Ok n
+pub version_found : (known : List (List ℕ)) (d : Data) (ms : Members) (n : ℕ) → IsObject known d ms → version_of d ≡ Ok n
     → get_member (codes "scene") ms ≡ Some (count_text n)
-version_found d ms n w h =
+version_found known d ms n w h =
     let v = ok_after (field [] (as_object d)) (key_of tick_at [] (codes "scene")) n h in
     let same : v.0 ≡ ms = same_Some v.0 ms (sym (field_was [] (as_object d) v.0 v.1) ∙ ap as_object w.whole) in
     key_exact tick_at count_text tick_exact [] (codes "scene") ms n w.read
     (subst (λ (xs : Members). key_of tick_at [] (codes "scene") xs ≡ Ok n) same v.2)
 
+-- the lists of parts rise
+pub record Rise (p : Parts) : Type 0 where
+  pub parents : Follow parent_follows None p.children
+  pub names : Follow name_follows None p.resources
+  pub sets : Follow table_follows None p.tables
+
+-- the first five keys were read: their values are those of the head's texts
+pub record HeadStands (ms : Members) (head : Head) : Type 0 where
+  pub children : get_member (codes "children") ms ≡ Some (list_text children_text head.children)
+  pub parents : Follow parent_follows None head.children
+  pub free : get_member (codes "free") ms ≡ Some (list_text count_text head.free)
+  pub generations : get_member (codes "generations") ms ≡ Some (list_text count_text head.generations)
+  pub schema : get_member (codes "kinds") ms ≡ Some (list_text kind_text head.schema)
+  pub few : length head.schema ≤ 64
+  pub limit : get_member (codes "limit") ms ≡ Some (count_text head.limit)
+
+-- and those of the keys behind them, with all that stands in the first five
+pub record TailStands (ms : Members) (head : Head) (p : Parts) : Type 0 where
+  pub head_is : ◌≡◌ {A = Head} head (record { children = p.children; free = p.free; generations = p.generations; schema = p.schema; limit = p.limit })
+  pub resources : get_member (codes "resources") ms ≡ Some (list_text resource_text p.resources)
+  pub names : Follow name_follows None p.resources
+  pub tables : get_member (codes "tables") ms ≡ Some (list_text table_text p.tables)
+  pub sets : Follow table_follows None p.tables
+  pub tick : get_member (codes "tick") ms ≡ Some (count_text p.tick)
+
+u32s_exact : IsExact (list_of u32_at) (list_text count_text)
+u32s_exact = list_exact u32_at count_text (below_exact 4294967296)
+
+pub head_was : (ms : Members) (head : Head) → HasRead ms → head_of ms ≡ Ok head → HeadStands ms head
+head_was ms head r h =
+    let k0 = ok_after (key_of (rising_of children_at parent_follows) [] (codes "children") ms) (after_children ms) head h in
+    let k1 = ok_after (key_of (list_of u32_at) [] (codes "free") ms) (after_free ms k0.0) head k0.2 in
+    let k2 = ok_after (key_of (list_of u32_at) [] (codes "generations") ms) (after_generations ms k0.0 k1.0) head k1.2 in
+    let k3 = ok_after (key_of kinds_at [] (codes "kinds") ms) (after_schema ms k0.0 k1.0 k2.0) head k2.2 in
+    let k4 = ok_after (key_of limit_at [] (codes "limit") ms)
+    (λ limit. Ok (record { children = k0.0; free = k1.0; generations = k2.0; schema = k3.0; limit = limit })) head k3.2 in
+    let made : Head = record { children = k0.0; free = k1.0; generations = k2.0; schema = k3.0; limit = k4.0 } in
+    let s = key_was kinds_at [] (codes "kinds") ms k3.0 r k3.1 in
+    let kinds = kinds_was (under [] (codes "kinds")) s.value k3.0 s.read s.was in
+    let children = rising_key children_at children_text children_exact parent_follows [] (codes "children") ms k0.0 r k0.1 in
+    subst (λ (x : Head). HeadStands ms x) (ok_is made head k4.2) (record {
+      children = children.0;
+      parents = children.1;
+      free = key_exact (list_of u32_at) (list_text count_text) u32s_exact [] (codes "free") ms k1.0 r k1.1;
+      generations = key_exact (list_of u32_at) (list_text count_text) u32s_exact [] (codes "generations") ms k2.0 r k2.1;
+      schema = s.found ∙ ap (λ x. Some x) kinds.0;
+      few = kinds.1;
+      limit = key_exact limit_at count_text limit_exact [] (codes "limit") ms k4.0 r k4.1;
+    })
+
+pub tail_was : (ms : Members) (head : Head) (p : Parts) → HasRead ms → length head.schema ≤ 64 → tail_of head ms ≡ Ok p → TailStands ms head p
+tail_was ms head p r few h =
+    let k0 = ok_after (key_of (rising_of resource_at name_follows) [] (codes "resources") ms) (after_resources head ms) p h in
+    let k1 = ok_after (key_of (rising_of (table_at head.schema) table_follows) [] (codes "tables") ms) (after_tables head ms k0.0) p k0.2 in
+    let k2 = ok_after (key_of tick_at [] (codes "tick") ms) (λ tick. Ok (whole_of head k0.0 k1.0 tick)) p k1.2 in
+    let resources = rising_key resource_at resource_text resource_exact name_follows [] (codes "resources") ms k0.0 r k0.1 in
+    let tables = rising_key (table_at head.schema) table_text (table_exact head.schema few) table_follows [] (codes "tables") ms k1.0 r k1.1 in
+    subst (λ (x : Parts). TailStands ms head x) (ok_is (whole_of head k0.0 k1.0 k2.0) p k2.2) (record {
+      head_is = refl;
+      resources = resources.0;
+      names = resources.1;
+      tables = tables.0;
+      sets = tables.1;
+      tick = key_exact tick_at count_text tick_exact [] (codes "tick") ms k2.0 r k2.1;
+    })
+
+-- both, of the same parts
+pub record PartsStand (ms : Members) (p : Parts) : Type 0 where
+  pub head : HeadStands ms (record { children = p.children; free = p.free; generations = p.generations; schema = p.schema; limit = p.limit })
+  pub tail : TailStands ms (record { children = p.children; free = p.free; generations = p.generations; schema = p.schema; limit = p.limit }) p
+  pub rising : Rise p
+
+pub parts_stand : (ms : Members) (head : Head) (p : Parts) → HeadStands ms head → TailStands ms head p → PartsStand ms p
+parts_stand ms head p h t =
+    let a = subst (HeadStands ms) t.head_is h in
+    let b = subst (λ x. TailStands ms x p) t.head_is t in
+    record { head = a; tail = b; rising = record { parents = a.parents; names = t.names; sets = t.sets } }
+
+-- parts that were read: their text is what stands there, and their lists rise
+pub record AreSaid (d : Data) (p : Parts) : Type 0 where
+  pub text : d ≡ parts_text p
+  pub rising : Rise p
+
 parts_were : (d : Data) (ms : Members) (p : Parts) → IsObject scene_keys d ms → get_member (codes "scene") ms ≡ Some (count_text 1)
     → parts_of ms ≡ Ok p → AreSaid d p
 parts_were d ms p w one h =
-    let k0 = ok_after (key_of (rising_of children_at parent_follows) [] (codes "children") ms) (after_children ms) p h in
-    let k1 = ok_after (key_of (list_of u32_at) [] (codes "free") ms) (after_free ms k0.0) p k0.2 in
-    let k2 = ok_after (key_of (list_of u32_at) [] (codes "generations") ms) (after_generations ms k0.0 k1.0) p k1.2 in
-    let k3 = ok_after (key_of kinds_at [] (codes "kinds") ms) (after_schema ms k0.0 k1.0 k2.0) p k2.2 in
-    let k4 = ok_after (key_of limit_at [] (codes "limit") ms) (after_limit ms k0.0 k1.0 k2.0 k3.0) p k3.2 in
-    let k5 = ok_after (key_of (rising_of resource_at name_follows) [] (codes "resources") ms) (after_resources ms k0.0 k1.0 k2.0 k3.0 k4.0) p k4.2 in
-    let k6 = ok_after (key_of (rising_of (table_at k3.0) table_follows) [] (codes "tables") ms)
-    (after_tables ms k0.0 k1.0 k2.0 k3.0 k4.0 k5.0) p k5.2 in
-    let k7 = ok_after (key_of tick_at [] (codes "tick") ms) (after_tick ms k0.0 k1.0 k2.0 k3.0 k4.0 k5.0 k6.0) p k6.2 in
-    let made : Parts = record {
-      schema = k3.0;
-      limit = k4.0;
-      tick = k7.0;
-      generations = k2.0;
-      free = k1.0;
-      tables = k6.0;
-      children = k0.0;
-      resources = k5.0;
-    } in
-    let u32s : IsExact (list_of u32_at) (list_text count_text) = list_exact u32_at count_text (below_exact 4294967296) in
-    let s = key_was kinds_at [] (codes "kinds") ms k3.0 w.read k3.1 in
-    let kinds = kinds_was (under [] (codes "kinds")) s.value k3.0 s.read s.was in
-    let children = rising_key children_at children_text children_exact parent_follows [] (codes "children") ms k0.0 w.read k0.1 in
-    let resources = rising_key resource_at resource_text resource_exact name_follows [] (codes "resources") ms k5.0 w.read k5.1 in
-    let tables = rising_key (table_at k3.0) table_text (table_exact k3.0 kinds.1) table_follows [] (codes "tables") ms k6.0 w.read k6.1 in
-    let text : d ≡ parts_text made =
-    object_is ((codes "children", list_text children_text k0.0) ∷ (codes "free", list_text count_text k1.0)
-    ∷ (codes "generations", list_text count_text k2.0) ∷ (codes "kinds", list_text kind_text k3.0) ∷ (codes "limit", count_text k4.0)
-    ∷ (codes "resources", list_text resource_text k5.0) ∷ (codes "scene", count_text 1)
-    ∷ (codes "tables", list_text table_text k6.0) ∷ (codes "tick", count_text k7.0) ∷ []) d ms w
-    (tt, (refl, (refl, (refl, (refl, (refl, (refl, (refl, (refl, tt))))))))) (
-      children.0,
+    let k = ok_after (head_of ms) (λ head. tail_of head ms) p h in
+    let head = head_was ms k.0 w.read k.1 in
+    let s = parts_stand ms k.0 p head (tail_was ms k.0 p w.read head.few k.2) in
+    let text : d ≡ parts_text p =
+    object_is (first_text p ++ last_text 1 p) d ms w (tt, (refl, (refl, (refl, (refl, (refl, (refl, (refl, (refl, tt))))))))) (
+      s.head.children,
       (
-        key_exact (list_of u32_at) (list_text count_text) u32s [] (codes "free") ms k1.0 w.read k1.1,
-        (
-          key_exact (list_of u32_at) (list_text count_text) u32s [] (codes "generations") ms k2.0 w.read k2.1,
-          (
-            s.found ∙ ap (λ x. Some x) kinds.0,
-            (
-              key_exact limit_at count_text limit_exact [] (codes "limit") ms k4.0 w.read k4.1,
-              (
-                resources.0,
-                (
-                  one,
-                  (
-                    tables.0,
-                    (key_exact tick_at count_text tick_exact [] (codes "tick") ms k7.0 w.read k7.1, tt),
-                  ),
-                ),
-              ),
-            ),
-          ),
-        ),
+        s.head.free,
+        (s.head.generations, (s.head.schema, (s.head.limit, (s.tail.resources, (one, (s.tail.tables, (s.tail.tick, tt))))))),
       ),
-    ) in
-    subst (λ (x : Parts). AreSaid d x) (ok_is made p k7.2) (record { text = text; parents = children.1; names = resources.1; sets = tables.1 })
+    ) in record { text = text; rising = s.rising }
+
+-- the version that passes is the first
+version_one : (b : Bool) (n : ℕ) (x : Result Parts FileFault) (p : Parts) → cond b x (Err (BadVersion n)) ≡ Ok p → (b ≡ true) × (x ≡ Ok p)
+version_one true n x p h = (refl, h)
+version_one false n x p h = absurd (let k : ◌≡◌ {A = Result Parts FileFault} (Err (BadVersion n)) (Ok p) = h in cc)
+
+-- what a text of version 1 says
+pub first_said : (d : Data) (p : Parts) → IsRead d → version_of d ≡ Ok 1 → first_parts d ≡ Ok p → AreSaid d p
+first_said d p r v h =
+    let c = ok_after (object_at scene_keys [] d) parts_of p h in
+    let w = object_was scene_keys [] d c.0 r c.1 in
+    parts_were d c.0 p w (version_found scene_keys d c.0 1 w v) c.2
 
 pub parts_said_by : (d : Data) (p : Parts) → IsRead d → parts_in d ≡ Ok p → AreSaid d p
 parts_said_by d p r h =
-    let a = ok_after (version_of d) (λ version. (if nat_eq version 1 then Ok version else Err (BadVersion version))
-    >>= λ one. object_at scene_keys [] d >>= parts_of) p h in
-    let b = ok_after (if nat_eq a.0 1 then Ok a.0 else Err (BadVersion a.0)) (λ one. object_at scene_keys [] d >>= parts_of) p a.2 in
-    let c = ok_after (object_at scene_keys [] d) parts_of p b.2 in
-    let w = object_was scene_keys [] d c.0 r c.1 in
-    let one : a.0 ≡ 1 = eqb-true a.0 1 (version_one (nat_eq a.0 1) a.0 b.0 b.1) in
-    parts_were d c.0 p w (version_found d c.0 a.0 w a.1 ∙ ap (λ n. Some (count_text n)) one) c.2
+    let a = ok_after (version_of d) (λ version. if nat_eq version 1 then first_parts d else Err (BadVersion version)) p h in
+    let b = version_one (nat_eq a.0 1) a.0 (first_parts d) p a.2 in
+    first_said d p r (a.1 ∙ ap (λ n. Ok n) (eqb-true a.0 1 b.0)) b.1

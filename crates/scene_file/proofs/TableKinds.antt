@@ -1,5 +1,5 @@
 -- The kinds of a table, and kinds that are added.
-use Rattle.std.proofs.Common.{◌≡◌, ◌≢◌, ℕ, suc, zero, ◌+◌, ◌<◌, ◌≤◌, ◌^◌, Bool, true, false, List, [], ◌∷◌, length, get_or, take, Option, Some, None, Result, Ok, Err, refl, sym, ap, subst, ◌∙◌, arith, nat_lt, map as each, option_and_then}
+use Rattle.std.proofs.Common.{◌≡◌, ◌≢◌, ℕ, suc, zero, ◌+◌, ◌<◌, ◌≤◌, ◌^◌, true, List, [], ◌∷◌, length, get_or, take, Option, Some, None, Result, Ok, Err, sym, ap, subst, ◌∙◌, arith, nat_lt, map as each, option_and_then}
 use Rattle.std.proofs.lemmas.List.{map-id}
 use Rattle.std.proofs.lemmas.List.Sums.{sum_by-cons, sum_by_more_le}
 use Rattle.std.proofs.Math.Nat.{pow-le-pow_right}
@@ -11,13 +11,13 @@ use Rattle.scene_kinds.specs.Answers.{refusal_of}
 use Rattle.scene_kinds.specs.declared.fault.Fault.TheVariants.{NoMemory}
 use Rattle.scene_kinds.specs.declared.refusal.Refusal.{Refusal}
 use Rattle.scene_kinds.specs.Schema.{Kinds}
-use Rattle.scene_file.specs.declared.fault.FileFault.{FileFault}
-use Rattle.scene_file.specs.declared.fault.FileFault.TheVariants as file
+use Rattle.scene_forms.specs.declared.fault.FileFault.{FileFault}
+use Rattle.scene_forms.specs.declared.fault.FileFault.TheVariants as file
 use Rattle.scene_file.specs.TableKinds.{AreRising}
-use Rattle.scene_file.specs.Outcome.{IsTextFault, Means}
-use Rattle.scene_file.specs.Reading.{◌>>=◌, field, if_good, below, list_at, may_follow, rising_at, rising_of, key_of, place_in, under}
+use Rattle.scene_forms.specs.Outcome.{IsTextFault, Means}
+use Rattle.scene_forms.specs.Reading.{◌>>=◌, field, if_good, below, list_at, may_follow, rising_at, rising_of, key_of, place_in, under}
 use Rattle.scene_file.specs.Walk.{added, set_of}
-use Rattle.scene_file.proofs.GoodSteps.{ok_after, ok_is, good_was}
+use Rattle.scene_forms.proofs.GoodSteps.{ok_after, ok_is, good_was}
 
 -- ---- the kinds of a table rise
 

@@ -12,12 +12,12 @@ use Rattle.scene_model.specs.World.{World}
 use Rattle.scene_parts.specs.Parts.{Parts, world_of}
 use Rattle.scene_parts.specs.Rules.{first_broken}
 use Rattle.scene_world.specs.Built.{unless_broken, made}
-use Rattle.scene_file.specs.declared.fault.FileFault.{FileFault}
-use Rattle.scene_file.specs.declared.fault.FileFault.TheVariants as file
-use Rattle.scene_file.specs.Outcome.{IsFault, IsTextFault}
-use Rattle.scene_file.specs.Scene.{if_json, if_unbroken, loaded, world_in}
+use Rattle.scene_forms.specs.declared.fault.FileFault.{FileFault}
+use Rattle.scene_forms.specs.declared.fault.FileFault.TheVariants as file
+use Rattle.scene_forms.specs.Outcome.{IsFault, IsTextFault}
+use Rattle.scene_file.specs.Scene.{if_json, if_unbroken, json_in}
 
-pub json_read : (text : List ℕ) (d : Data) → IsUtf8 text → read text ≡ Some d → loaded text ≡ world_in d
+pub json_read : (text : List ℕ) (d : Data) → IsUtf8 text → read text ≡ Some d → json_in text ≡ Ok d
 json_read text d u h = ap (λ b. if b then if_json (read text) else Err file.NotJson) (is_utf8-from_IsUtf8 text u) ∙ ap if_json h
 
 no_json_by : (text : List ℕ) (b : Bool) → is_utf8 text ≡ b → (IsUtf8 text → read text ≡ None)
@@ -25,7 +25,7 @@ no_json_by : (text : List ℕ) (b : Bool) → is_utf8 text ≡ b → (IsUtf8 tex
 no_json_by text true e h = ap if_json (h (IsUtf8-from_is_utf8 text e))
 no_json_by text false e h = refl
 
-pub no_json : (text : List ℕ) → (IsUtf8 text → read text ≡ None) → loaded text ≡ Err file.NotJson
+pub no_json : (text : List ℕ) → (IsUtf8 text → read text ≡ None) → json_in text ≡ Err file.NotJson
 no_json text h = no_json_by text (is_utf8 text) refl h
 
 made_of : (o : Option ℕ) (p : Parts) (w : World) → unless_broken o (world_of p) ≡ Ok w → if_unbroken o p ≡ Ok w

@@ -29,12 +29,14 @@ use Rattle.scene_parts.proofs.RowRules.{generation_is, tables_fit, tables_some, 
 use Rattle.scene_parts.proofs.ResourceRules.{resources_in_range}
 use Rattle.scene_parts.proofs.WorldRules.{Unbroken, unbroken_is, none_broken, world_is}
 use Rattle.scene_parts.proofs.OwnParts.{own_parts}
-use Rattle.scene_file.specs.Reading.{◌>>=◌}
+use Rattle.scene_forms.specs.Reading.{◌>>=◌}
 use Rattle.scene_file.specs.Scene.{if_unbroken, world_in}
-use Rattle.scene_file.specs.Text.{count_text, table_text, children_text, resource_text, world_text}
-use Rattle.scene_file.specs.Walk.{u32_at, children_at, resource_at, table_at, parent_follows, name_follows, table_follows}
-use Rattle.scene_file.proofs.ListsBack.{ReadsBack, Follow, below_back}
-use Rattle.scene_file.proofs.RowsBack.{less_is}
+use Rattle.scene_forms.specs.Text.{count_text}
+use Rattle.scene_file.specs.Text.{table_text, children_text, resource_text, world_text}
+use Rattle.scene_forms.specs.Walk.{u32_at}
+use Rattle.scene_file.specs.Walk.{children_at, resource_at, table_at, parent_follows, name_follows, table_follows}
+use Rattle.scene_forms.proofs.ListsBack.{ReadsBack, Follow, below_back}
+use Rattle.scene_forms.proofs.FitKinds.{less_is}
 use Rattle.scene_file.proofs.SceneBack.{AreReadable, table_back, list_of_back, resource_back, parts_back}
 
 all_from : (P : ℕ → Type 0) (xs : List ℕ) → All P xs → AllByRecursion P xs
@@ -51,9 +53,8 @@ unmapped P f (x ∷ xs) h = (h.0, unmapped P f xs h.1)
 -- ---- entities
 
 -- an entity that has its slot's generation is one that its type can hold
-current_entity : (s : SlotState) → IsSlots s → (e : Entity) → is_current s.generations e ≡ true → is_entity e ≡ true
-current_entity s sound e h =
-    let at = generation_is (slice_get s.generations e.index) e.generation h in
+pub slot_entity : (s : SlotState) → IsSlots s → (e : Entity) → slice_get s.generations e.index ≡ Some e.generation → is_entity e ≡ true
+slot_entity s sound e at =
     let within = slice_get_within s.generations e.index e.generation at in
     let low : e.generation ≤ highest = subst (λ g. g ≤ highest) (get_or_from_slice_get s.generations e.index e.generation e.generation at)
     (sound.low e.index e.generation within) in
@@ -62,8 +63,11 @@ current_entity s sound e h =
     and_of (nat_lt e.index 4294967296) (nat_lt e.generation 4294967296) (lt-ltb e.index 4294967296 (omega (arith, within, few, limit)))
     (lt-ltb e.generation 4294967296 (omega (arith, low)))
 
+pub current_entity : (s : SlotState) → IsSlots s → (e : Entity) → is_current s.generations e ≡ true → is_entity e ≡ true
+current_entity s sound e h = slot_entity s sound e (generation_is (slice_get s.generations e.index) e.generation h)
+
 -- what holds of the entities of rows holds of each that has a row
-row_fact : (test : Entity → Bool) (rows : List Row) (e : Entity) → AllByRecursion (λ r. test r.entity ≡ true) rows → has_row rows e ≡ true
+pub row_fact : (test : Entity → Bool) (rows : List Row) (e : Entity) → AllByRecursion (λ r. test r.entity ≡ true) rows → has_row rows e ≡ true
     → test e ≡ true
 row_fact test rows e h there =
     let r = any_is (λ (r : Row). is_same e r.entity) rows there in
@@ -160,7 +164,7 @@ resources_read (r ∷ rs) h k =
     let p = and_is (is_good_name r.0) (list_all (λ r. is_good_name r.0) rs) h in
     let q = and_is (is_in_range r.1.value) (list_all (λ r. is_in_range r.1.value) rs) k in (resource_back r p.0 q.0, resources_read rs p.1 q.1)
 
-lists_pass : (p : Parts) → Unbroken p → list_all (is_list_of (rows_in p)) p.children ≡ true
+pub lists_pass : (p : Parts) → Unbroken p → list_all (is_list_of (rows_in p)) p.children ≡ true
 lists_pass p u =
     let lists : Bool = list_all (is_list_of (rows_in p)) p.children in
     let parents : Bool = are_distinct is_same (keys p.children) in
@@ -169,7 +173,7 @@ lists_pass p u =
     let b = and_is (lists && parents) children a.0 in (and_is lists parents b.0).0
 
 -- the parts of a valid world are read again
-readable : (w : World) → IsValid w → AreReadable (parts_of w)
+pub readable : (w : World) → IsValid w → AreReadable (parts_of w)
 readable w v =
     let p : Parts = parts_of w in
     let own = own_parts w in

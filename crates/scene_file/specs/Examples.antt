@@ -3,7 +3,7 @@ use Rattle.std.specs.Prelude.{◌≡◌, ℕ, List, [], ◌∷◌, ◌++◌, cod
 use Rattle.std.specs.List.{range_with_len}
 use Rattle.scene_parts.specs.Parts.{world_of}
 use Rattle.scene_parts.specs.Examples.{small}
-use Rattle.scene_file.specs.declared.fault.FileFault.TheVariants.{NotJson, UnknownKey, BadField, BadVersion, BadWorld}
+use Rattle.scene_forms.specs.declared.fault.FileFault.TheVariants.{NotJson, UnknownKey, BadField, BadVersion, BadWorld}
 use Rattle.scene_file.specs.Text.{saved}
 use Rattle.scene_file.specs.Scene.{loaded}
 

@@ -1,18 +1,15 @@
 -- What the printers of a scene text write one by one. What a save writes doesn't rest on these words.
-use Rattle.std.specs.Prelude.{ℕ, List, [], ◌∷◌, ◌++◌, Bool, Option, Some, None, codes, decimal, map as each}
+use Rattle.std.specs.Prelude.{ℕ, List, [], ◌∷◌, ◌++◌, Option, Some, None, codes, decimal}
 use Rattle.serde_json.specs.Data.{Data}
-use Rattle.serde_json.specs.Written.{compact_text, items_text}
+use Rattle.serde_json.specs.Written.{compact_text}
 use Rattle.scene_kinds.specs.declared.cell.Cell.{Cell}
 use Rattle.scene_kinds.specs.declared.cells.Row.{Row}
 use Rattle.scene_kinds.specs.KindSet.{KindSet}
 use Rattle.scene_resources.specs.Resources.{NamedCells, cell_of}
 use Rattle.scene_model.specs.World.{World}
 use Rattle.scene_parts.specs.Parts.{lists_of}
-use Rattle.scene_file.specs.Text.{items_of, list_text, count_text, kinds_of, kind_text, children_text, resource_text, table_text}
-
--- the elements of a list that are still to come, with its closing bracket; a comma stands before one that isn't the first
-abbrev pub rest_text : {A : Type 0} → Bool → (A → Data) → List A → List ℕ
-rest_text later text xs = items_text later (items_of (each text xs))
+use Rattle.scene_forms.specs.Text.{list_text, count_text}
+use Rattle.scene_file.specs.Text.{kinds_of, kind_text, children_text, resource_text, table_text}
 
 -- the kinds of a set. This word stays folded, since it computes long
 unfoldable pub kinds_json : KindSet → Data
@@ -41,9 +38,9 @@ first_members w =
     ++ (codes ",\"kinds\":" ++ (compact_text (list_text kind_text w.schema)
     ++ (codes ",\"limit\":" ++ decimal w.slots.limit))))))))
 
--- the members of a world from its resources on, with the closing bracket
-abbrev pub last_members : World → List ℕ
-last_members w =
+-- its members from its resources on, with a version
+abbrev pub last_members : ℕ → World → List ℕ
+last_members version w =
     codes ",\"resources\":" ++ (compact_text (list_text resource_text w.resources.entries)
-    ++ (codes ",\"scene\":1,\"tables\":" ++ (compact_text (list_text table_text (lists_of w.tables))
-    ++ (codes ",\"tick\":" ++ (decimal w.tick ++ codes "}")))))
+    ++ (codes ",\"scene\":" ++ (decimal version ++ (codes ",\"tables\":" ++ (compact_text (list_text table_text (lists_of w.tables))
+    ++ (codes ",\"tick\":" ++ decimal w.tick))))))

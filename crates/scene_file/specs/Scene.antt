@@ -6,9 +6,9 @@ use Rattle.serde_json.specs.Read.{read}
 use Rattle.scene_model.specs.World.{World}
 use Rattle.scene_parts.specs.Parts.{Parts, world_of}
 use Rattle.scene_parts.specs.Rules.{first_broken}
-use Rattle.scene_file.specs.declared.fault.FileFault.{FileFault}
-use Rattle.scene_file.specs.declared.fault.FileFault.TheVariants.{NotJson, BadWorld}
-use Rattle.scene_file.specs.Reading.{◌>>=◌}
+use Rattle.scene_forms.specs.declared.fault.FileFault.{FileFault}
+use Rattle.scene_forms.specs.declared.fault.FileFault.TheVariants.{NotJson, BadWorld}
+use Rattle.scene_forms.specs.Reading.{◌>>=◌}
 use Rattle.scene_file.specs.Walk.{parts_in}
 
 -- the world of parts, unless they break a rule
@@ -20,11 +20,15 @@ if_unbroken (Some rule) p = Err (BadWorld rule)
 abbrev pub world_in : Data → Result World FileFault
 world_in d = parts_in d >>= λ p. if_unbroken (first_broken p) p
 
--- the world of bytes that were read as JSON, or that aren't JSON
-abbrev pub if_json : Option Data → Result World FileFault
+-- a JSON value that was read, or that wasn't
+abbrev pub if_json : Option Data → Result Data FileFault
 if_json None = Err NotJson
-if_json (Some d) = world_in d
+if_json (Some d) = Ok d
 
--- the world of a text; bytes that aren't UTF-8 are no JSON
+-- the JSON value of a text; bytes that aren't UTF-8 are no JSON
+abbrev pub json_in : List ℕ → Result Data FileFault
+json_in bytes = if is_utf8 bytes then if_json (read bytes) else Err NotJson
+
+-- the world of a text
 abbrev pub loaded : List ℕ → Result World FileFault
-loaded bytes = if is_utf8 bytes then if_json (read bytes) else Err NotJson
+loaded bytes = json_in bytes >>= world_in

@@ -1,78 +1,18 @@
 -- The JSON value of a world, by its parts (docs/SCENE_FILES.md, "Version 1"). The keys of each object stand by their bytes.
-use Rattle.std.specs.Prelude.{ℕ, ℤ, List, [], ◌∷◌, ◌++◌, true, codes, map as each, filter}
+use Rattle.std.specs.Prelude.{ℕ, List, [], ◌∷◌, ◌++◌, codes, filter}
 use Rattle.std.specs.List.{range_with_len}
-use Rattle.serde_json.specs.Data.{Data, boolean, number, string, array, object, unsigned, Items, no_items, item, Members, no_members, member}
-use Rattle.serde_json.specs.Find.{of_integer}
+use Rattle.serde_json.specs.Data.{Data, string}
 use Rattle.serde_json.specs.Written.{compact_text}
 use Rattle.scene_kinds.specs.declared.entity.Entity.{Entity}
 use Rattle.scene_kinds.specs.declared.cell.Cell.{Cell}
 use Rattle.scene_kinds.specs.declared.cells.Row.{Row}
 use Rattle.scene_kinds.specs.declared.shape.Shape.{Shape}
-use Rattle.scene_kinds.specs.declared.value.Value.{Value}
-use Rattle.scene_kinds.specs.declared.value.Value.TheVariants as value
-use Rattle.scene_kinds.specs.Entity.{entity_text}
 use Rattle.scene_kinds.specs.KindSet.{KindSet, has_kind}
-use Rattle.scene_kinds.specs.Shape.{shape_name, shape_of_value}
 use Rattle.scene_model.specs.World.{World}
 use Rattle.scene_parts.specs.Parts.{Parts, parts_of}
-
--- ---- lists and numbers
-
--- values as the elements of a list
-abbrev pub items_of : List Data → Items
-items_of [] = no_items
-items_of (d ∷ ds) = item d (items_of ds)
-
--- the list of these values
-abbrev pub array_of : List Data → Data
-array_of ds = array (items_of ds)
-
--- the elements of a list, each as a value
-abbrev pub list_text : {A : Type 0} → (A → Data) → List A → Data
-list_text text xs = array_of (each text xs)
-
--- keys with their values, as the members of an object
-abbrev pub members_of : List (List ℕ × Data) → Members
-members_of [] = no_members
-members_of (m ∷ ms) = member m.0 m.1 (members_of ms)
-
--- the object of these keys and values
-abbrev pub object_of : List (List ℕ × Data) → Data
-object_of ms = object (members_of ms)
-
--- a number without a sign, as a place or a tick is
-abbrev pub count_text : ℕ → Data
-count_text n = number (unsigned n)
-
--- a whole number, which may be negative
-abbrev pub int_text : ℤ → Data
-int_text n = number (of_integer n)
+use Rattle.scene_forms.specs.Text.{array_of, list_text, object_of, count_text, entity_json, shape_text, cell_text, resource_cell_text}
 
 -- ---- the parts of a row
-
--- an entity, as a string of its text
-abbrev pub entity_json : Entity → Data
-entity_json e = string (entity_text e.index e.generation)
-
--- the value of a cell, by its shape
-abbrev pub value_text : Value → Data
-value_text value.Tag = boolean true
-value_text (value.Int n) = int_text n
-value_text (value.Vec3 parts) = list_text int_text parts
-value_text (value.Text bytes) = string bytes
-value_text (value.Link e) = entity_json e
-
--- a shape, as a string of its name
-abbrev pub shape_text : Shape → Data
-shape_text shape = string (shape_name shape)
-
--- a component, of which the kind is known
-abbrev pub cell_text : Cell → Data
-cell_text c = array_of (value_text c.value ∷ count_text c.added ∷ count_text c.changed ∷ [])
-
--- a resource's cell, with its shape
-abbrev pub resource_cell_text : Cell → Data
-resource_cell_text c = array_of (shape_text (shape_of_value c.value) ∷ value_text c.value ∷ count_text c.added ∷ count_text c.changed ∷ [])
 
 -- a row: its cells by their kinds, and its entity
 abbrev pub row_text : Row → Data
@@ -102,13 +42,22 @@ resource_text r = object_of ((codes "cell", resource_cell_text r.1) ∷ (codes "
 
 -- ---- the whole
 
--- the value of parts
-abbrev pub parts_text : Parts → Data
-parts_text p = object_of (
+-- the members of parts up to the limit, behind which version 2 has the records of the future
+abbrev pub first_text : Parts → List (List ℕ × Data)
+first_text p =
     (codes "children", list_text children_text p.children) ∷ (codes "free", list_text count_text p.free)
     ∷ (codes "generations", list_text count_text p.generations) ∷ (codes "kinds", list_text kind_text p.schema)
-    ∷ (codes "limit", count_text p.limit) ∷ (codes "resources", list_text resource_text p.resources)
-    ∷ (codes "scene", count_text 1) ∷ (codes "tables", list_text table_text p.tables) ∷ (codes "tick", count_text p.tick) ∷ [])
+    ∷ (codes "limit", count_text p.limit) ∷ []
+
+-- the members from the resources on, with a version
+abbrev pub last_text : ℕ → Parts → List (List ℕ × Data)
+last_text version p =
+    (codes "resources", list_text resource_text p.resources) ∷ (codes "scene", count_text version)
+    ∷ (codes "tables", list_text table_text p.tables) ∷ (codes "tick", count_text p.tick) ∷ []
+
+-- the value of parts
+abbrev pub parts_text : Parts → Data
+parts_text p = object_of (first_text p ++ last_text 1 p)
 
 -- the value of a world
 abbrev pub world_text : World → Data

@@ -2,47 +2,58 @@
 ghost use Rattle.std.specs.Prelude.{◌≡◌, ◌≢◌, ◌<◌, ◌≤◌, ◌⊎◌, ◌↔◌, true, false, length, Some, Ok, Err, IfOk, IfErr, IfSome, OnOk};
 ghost use Rattle.std.specs.Io.KnownBytes.{IsAtEnd};
 ghost use Rattle.serde_json.specs.Read.{read};
-ghost use Rattle.serde_json.specs.View.{view};
+ghost use Rattle.scene_json.specs.View.{view, whole};
 ghost use Rattle.scene_streams.specs.Source.{reader_of, turns_left, read_failed};
 ghost use Rattle.scene_streams.specs.Limits.{most_bytes};
 ghost use Rattle.scene_parts.specs.Rules.{first_broken};
 ghost use Rattle.scene_parts.specs.Seen.{seen};
-ghost use Rattle.scene_file.specs.Outcome.{IsFault, IsTextFault};
-ghost use Rattle.scene_file.specs.Scene.{if_unbroken, loaded, world_in as world_said};
+ghost use Rattle.scene_forms.specs.Outcome.{IsFault, IsTextFault};
+ghost use Rattle.scene_file.specs.Scene.{if_unbroken, json_in, loaded};
 ghost use Rattle.scene_file.specs.Text.{world_text};
-ghost use Rattle.scene_file.specs.declared.fault.FileFault.TheVariants.{ReadFault, TooLong, WriteFault};
+ghost use Rattle.scene_forms.specs.declared.fault.FileFault.TheVariants.{ReadFault, TooLong, WriteFault};
 
-use crate::fault::FileFault;
 use crate::read_scene::parts_in;
+use json::Scratch;
+use scene_forms::FileFault;
+use scene_json::{Document, DocumentError};
 use scene_kinds::Fault;
 use scene_parts::WorldParts;
 use scene_streams::Source;
 use scene_world::World;
-use serde_json::{Category, Value};
 use std::alloc::Global;
 use std::io::Read;
 
-/// The value of a JSON text.
+/// The document of a text.
 #[tactic(auto, using(crate::proofs::TextFaults::loading))]
-fn value_of(alloc: Global, text: &[u8]) -> Result<Value, FileFault>
-    ensures found { IfOk result (λ value. loaded text.now ≡ world_said (view value)) }
+pub(crate) fn document_of<'a>(
+    alloc: Global,
+    text: &'a [u8],
+    scratch: &'a mut Scratch,
+) -> Result<Document<'a>, FileFault>
+    ensures found { IfOk result (λ document. json_in text.now ≡ Ok (whole document)) }
+    ensures fault { IfErr result (λ e. IsTextFault e (json_in text.now)) }
+{
+    match Document::read(alloc, text, scratch) {
+        Ok(document) => Ok(document),
+        Err(DocumentError::NotJson) => Err(FileFault::NotJson),
+        Err(DocumentError::TooLong | DocumentError::NoMemory) => Err(FileFault::NoMemory),
+    }
+}
+
+/// The parts of a text. What is read of the text besides is given back with them, since it takes more memory than a world.
+#[tactic(auto, using(scene_forms::proofs::Walking::walking, crate::proofs::TextFaults::loading))]
+fn parts_of_text(alloc: Global, text: &[u8]) -> Result<WorldParts, FileFault>
+    ensures found { IfOk result (λ parts. loaded text.now ≡ if_unbroken (first_broken (seen parts)) (seen parts)) }
     ensures fault { IfErr result (λ e. IsTextFault e (loaded text.now)) }
 {
-    match Value::from_slice(alloc, text) {
-        Ok(value) => Ok(value),
-        Err(error) => {
-            if error.classify() == Category::Memory {
-                Err(FileFault::NoMemory)
-            } else {
-                Err(FileFault::NotJson)
-            }
-        }
-    }
+    let mut scratch = Scratch::new(alloc);
+    let document = document_of(alloc, text, &mut scratch)?;
+    parts_in(alloc, &document.root())
 }
 
 /// The world of parts, unless they break a rule.
 #[tactic(auto, using(crate::proofs::TextFaults::loading))]
-fn world_of(alloc: Global, parts: WorldParts) -> Result<World, FileFault>
+pub(crate) fn world_of(alloc: Global, parts: WorldParts) -> Result<World, FileFault>
     ensures found { IfOk result (λ world. if_unbroken (first_broken (seen parts)) (seen parts) ≡ Ok world.world) }
     ensures fault { IfErr result (λ e. IsTextFault e (if_unbroken (first_broken (seen parts)) (seen parts))) }
 {
@@ -56,15 +67,12 @@ fn world_of(alloc: Global, parts: WorldParts) -> Result<World, FileFault>
 }
 
 /// The world of a text.
-#[tactic(auto, using(crate::proofs::Walking::walking, crate::proofs::TextFaults::loading))]
+#[tactic(auto, using(scene_forms::proofs::Walking::walking, crate::proofs::TextFaults::loading))]
 fn world_in(alloc: Global, text: &[u8]) -> Result<World, FileFault>
     ensures found { IfOk result (λ world. loaded text.now ≡ Ok world.world) }
     ensures fault { IfErr result (λ e. IsTextFault e (loaded text.now)) }
 {
-    let value = value_of(alloc, text)?;
-    let parts = parts_in(alloc, &value)?;
-    // the value takes far more memory than the world
-    drop(value);
+    let parts = parts_of_text(alloc, text)?;
     world_of(alloc, parts)
 }
 
@@ -73,8 +81,10 @@ fn world_in(alloc: Global, text: &[u8]) -> Result<World, FileFault>
 ///
 /// Refused, in this order: `NotJson`; `BadField` and `BadVersion` of the head; `UnknownKey` and `BadField`, the first that
 /// the walk through the text meets, with its path; `BadWorld` with the first rule that is broken. `NoMemory` may stand in
-/// place of any answer. It costs the text's length, and for the keys of objects, the kind sets of tables and the names of
-/// resources their number times its logarithm.
+/// place of any answer, and does where the text has more than 4,294,967,040 bytes. It costs the text's length, and for the
+/// kind sets of tables and the names of resources their number times its logarithm. No tree of values is made: while it
+/// lasts it takes up to five bytes for each byte of the text, 24 for each bracket, comma, colon, string and number, and
+/// what the parts take.
 #[tactic(auto, using(crate::proofs::TextFaults::loading, crate::proofs::OnlyTexts::texts))]
 pub fn load_text(alloc: Global, text: &[u8]) -> Result<World, FileFault>
     ensures world { IfOk result (λ world. loaded text.now ≡ Ok world.world) }

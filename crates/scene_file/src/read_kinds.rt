@@ -1,30 +1,27 @@
 //! Kinds.
 ghost use Rattle.std.specs.Prelude.{◌≡◌, [], ◌∷◌, Ok, IfOk, IfErr, OnOk, map as each};
-ghost use Rattle.serde_json.specs.View.{view};
+ghost use Rattle.scene_json.specs.View.{view, views};
 ghost use Rattle.scene_kinds.specs.Answers.{refusal_of};
 ghost use Rattle.scene_kinds.specs.Schema.{with_kind};
 ghost use Rattle.scene_kinds.specs.declared.fault.Fault.TheVariants.{NoMemory};
-ghost use Rattle.scene_file.specs.Outcome.{IsTextFault, Means};
-ghost use Rattle.scene_file.specs.Paths.{path_bytes};
+ghost use Rattle.scene_forms.specs.Outcome.{IsTextFault, Means};
+ghost use Rattle.scene_forms.specs.Paths.{path_bytes};
 ghost use Rattle.scene_file.specs.Walk.{added, kind_parts, kinds_from};
-ghost use Rattle.scene_file.specs.declared.fault.FileFault.TheVariants.{BadField, NoMemory as NoRoom};
+ghost use Rattle.scene_forms.specs.declared.fault.FileFault.TheVariants.{BadField, NoMemory as NoRoom};
 
-use crate::fault::FileFault;
-use crate::form::{Form, list_at};
-use crate::path::{Path, bad_field};
-use crate::read_texts::{ShapeForm, string_at};
+use scene_forms::{FileFault, Form, Path, ShapeForm, bad_field, list_at, string_at};
+use scene_json::{Part, Parts};
 use scene_kinds::{Fault, Refusal, Schema, Shape};
-use serde_json::Value;
 use std::alloc::Global;
 
 /// A kind's name and its shape.
-#[tactic(auto, using(crate::proofs::Walking::walking))]
-fn kind_from<'v>(
+#[tactic(auto, using(scene_forms::proofs::Walking::walking))]
+fn kind_from<'a>(
     alloc: Global,
     path: &Path<'_>,
-    name: &'v Value,
-    shape: &Value,
-) -> Result<(&'v str, Shape), FileFault>
+    name: &Part<'_, 'a>,
+    shape: &Part<'_, '_>,
+) -> Result<(&'a str, Shape), FileFault>
     ensures found { IfOk result (λ kind. kind_parts (path_bytes path.now) (view name.now ∷ view shape.now ∷ []) ≡ Ok (kind.0.now, kind.1)) }
     ensures fault { IfErr result (λ e. IsTextFault e (kind_parts (path_bytes path.now) (view name.now ∷ view shape.now ∷ []))) }
 {
@@ -34,18 +31,18 @@ fn kind_from<'v>(
 }
 
 /// A kind's name and its shape, of the parts of its list.
-#[tactic(auto, using(crate::proofs::Walking::walking, crate::proofs::Parted::parted))]
-fn kind_parts<'v>(
+#[tactic(auto, using(scene_forms::proofs::Walking::walking, crate::proofs::Parted::parted))]
+fn kind_parts<'a>(
     alloc: Global,
     path: &Path<'_>,
-    parts: &'v [Value],
-) -> Result<(&'v str, Shape), FileFault>
-    ensures found { IfOk result (λ kind. kind_parts (path_bytes path.now) (each view parts.now) ≡ Ok (kind.0.now, kind.1)) }
-    ensures fault { IfErr result (λ e. IsTextFault e (kind_parts (path_bytes path.now) (each view parts.now))) }
+    parts: Parts<'_, 'a>,
+) -> Result<(&'a str, Shape), FileFault>
+    ensures found { IfOk result (λ kind. kind_parts (path_bytes path.now) (views parts.entry) ≡ Ok (kind.0.now, kind.1)) }
+    ensures fault { IfErr result (λ e. IsTextFault e (kind_parts (path_bytes path.now) (views parts.entry))) }
 {
-    match parts {
-        [name, shape] => kind_from(alloc, path, name, shape),
-        _ => Err(bad_field(alloc, path)),
+    match parts.two() {
+        Some((name, shape)) => kind_from(alloc, path, &name, &shape),
+        None => Err(bad_field(alloc, path)),
     }
 }
 
@@ -61,7 +58,7 @@ fn refused_kind(alloc: Global, path: &Path<'_>, refusal: Refusal) -> FileFault
 }
 
 /// Adds a kind, whose name is good and not taken, and which isn't the 65th.
-#[tactic(auto, using(crate::proofs::Walking::walking, crate::proofs::TableKinds::kinds))]
+#[tactic(auto, using(scene_forms::proofs::Walking::walking, crate::proofs::TableKinds::kinds))]
 fn add_kind(
     alloc: Global,
     path: &Path<'_>,
@@ -80,16 +77,19 @@ fn add_kind(
 }
 
 /// Kinds, one after another.
-#[tactic(auto, using(crate::proofs::Walking::walking))]
-fn kinds_from(alloc: Global, path: &Path<'_>, values: &[Value]) -> Result<Schema, FileFault>
-    ensures found { IfOk result (λ schema. kinds_from (path_bytes path.now) 0 [] (each view values.now) ≡ Ok schema) }
-    ensures fault { IfErr result (λ e. IsTextFault e (kinds_from (path_bytes path.now) 0 [] (each view values.now))) }
+#[tactic(auto, using(scene_forms::proofs::Walking::walking))]
+fn kinds_from(alloc: Global, path: &Path<'_>, parts: Parts<'_, '_>) -> Result<Schema, FileFault>
+    ensures found { IfOk result (λ schema. kinds_from (path_bytes path.now) 0 [] (views parts.entry) ≡ Ok schema) }
+    ensures fault { IfErr result (λ e. IsTextFault e (kinds_from (path_bytes path.now) 0 [] (views parts.entry))) }
 {
+    let mut parts = parts;
     let mut schema = Schema::new(alloc);
-    for (place, value) in values.iter().enumerate() {
+    for place in 0..parts.len() {
+        let Some(part) = parts.next() else {
+            break;
+        };
         let at = Path::Item(&*path, place);
-        let parts = list_at(alloc, &at, value)?;
-        let kind = kind_parts(alloc, &at, parts)?;
+        let kind = kind_parts(alloc, &at, list_at(alloc, &at, &part)?)?;
         add_kind(alloc, &at, &mut schema, kind.0, kind.1)?;
     }
     Ok(schema)
@@ -114,9 +114,14 @@ impl Form for KindsForm {
 
     ghost follows = { λ _ _. true };
 
-    #[tactic(auto, using(crate::proofs::Walking::walking))]
-    fn read(&self, alloc: Global, path: &Path<'_>, value: &Value) -> Result<Schema, FileFault> {
-        let values = list_at(alloc, path, value)?;
-        kinds_from(alloc, path, values)
+    #[tactic(auto, using(scene_forms::proofs::Walking::walking))]
+    fn read(
+        &self,
+        alloc: Global,
+        path: &Path<'_>,
+        value: &Part<'_, '_>,
+    ) -> Result<Schema, FileFault> {
+        let parts = list_at(alloc, path, value)?;
+        kinds_from(alloc, path, parts)
     }
 }

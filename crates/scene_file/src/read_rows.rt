@@ -1,40 +1,38 @@
 //! Rows and tables.
 ghost use Rattle.std.specs.Prelude.{◌≡◌, Ok, None, IfOk, IfErr, length, map as each};
 ghost use Rattle.std.specs.List.{zip};
-ghost use Rattle.serde_json.specs.View.{view};
+ghost use Rattle.scene_json.specs.View.{views};
 ghost use Rattle.scene_file.specs.TableKinds.{AreRising};
-ghost use Rattle.scene_file.specs.Outcome.{IsTextFault};
-ghost use Rattle.scene_file.specs.Paths.{path_bytes};
+ghost use Rattle.scene_forms.specs.Outcome.{IsTextFault};
+ghost use Rattle.scene_forms.specs.Paths.{path_bytes};
 ghost use Rattle.scene_file.specs.Walk.{cells_from, set_of, shapes_of};
 
-use crate::fault::FileFault;
-use crate::form::{Form, ListOf, list_at};
-use crate::object::{key_of, object_at};
-use crate::path::{Path, bad_field};
-use crate::read_numbers::KindNumberForm;
-use crate::read_texts::EntityForm;
-use crate::read_values::CellForm;
-use crate::rising::{Ordered, Rising};
+use scene_forms::{
+    CellForm, EntityForm, FileFault, Form, KindNumberForm, ListOf, Ordered, Path, Rising,
+    bad_field, key_of, list_at, object_at,
+};
+use scene_json::{Part, Parts};
 use scene_kinds::{Cell, Cells, KindSet, Row, Schema, Shape};
-use serde_json::Value;
 use std::alloc::{AllocError, Global};
 
 /// The cells of a row, one for each of its table's kinds.
-#[tactic(auto, using(crate::proofs::Walking::walking))]
+#[tactic(auto, using(scene_forms::proofs::Walking::walking))]
 fn cells_from(
     alloc: Global,
     path: &Path<'_>,
     shapes: &[Shape],
-    values: &[Value],
+    parts: Parts<'_, '_>,
 ) -> Result<Vec<Cell>, FileFault>
-    requires { length shapes.now ≡ length values.now }
-    ensures found { IfOk result (λ cells. cells_from shapes.now (path_bytes path.now) 0 (each view values.now) ≡ Ok cells.items) }
-    ensures fault { IfErr result (λ e. IsTextFault e (cells_from shapes.now (path_bytes path.now) 0 (each view values.now))) }
+    requires { length shapes.now ≡ length (views parts) }
+    ensures found { IfOk result (λ cells. cells_from shapes.now (path_bytes path.now) 0 (views parts.entry) ≡ Ok cells.items) }
+    ensures fault { IfErr result (λ e. IsTextFault e (cells_from shapes.now (path_bytes path.now) 0 (views parts.entry))) }
 {
+    let mut parts = parts;
     let mut cells = Vec::new(alloc);
-    for (place, value) in values.iter().enumerate() {
+    'cells: while let Some(part) = parts.next() {
+        let place = cells.len();
         let form = CellForm(shapes[place]);
-        let cell = form.read(alloc, &Path::Item(&*path, place), value)?;
+        let cell = form.read(alloc, &Path::Item(&*path, place), &part)?;
         cells.push(cell)?;
     }
     Ok(cells)
@@ -61,13 +59,18 @@ impl Form for CellsForm<'_> {
 
     ghost follows = { λ _ _. true };
 
-    #[tactic(auto, using(crate::proofs::Walking::walking))]
-    fn read(&self, alloc: Global, path: &Path<'_>, value: &Value) -> Result<Vec<Cell>, FileFault> {
-        let values = list_at(alloc, path, value)?;
-        if values.len() != self.shapes.len() {
+    #[tactic(auto, using(scene_forms::proofs::Walking::walking))]
+    fn read(
+        &self,
+        alloc: Global,
+        path: &Path<'_>,
+        value: &Part<'_, '_>,
+    ) -> Result<Vec<Cell>, FileFault> {
+        let parts = list_at(alloc, path, value)?;
+        if parts.len() != self.shapes.len() {
             return Err(bad_field(alloc, path));
         }
-        cells_from(alloc, path, self.shapes, values)
+        cells_from(alloc, path, self.shapes, parts)
     }
 }
 
@@ -100,8 +103,8 @@ impl Form for RowForm<'_> {
 
     ghost follows = { λ _ _. true };
 
-    #[tactic(auto, using(crate::proofs::Walking::walking))]
-    fn read(&self, alloc: Global, path: &Path<'_>, value: &Value) -> Result<Row, FileFault> {
+    #[tactic(auto, using(scene_forms::proofs::Walking::walking))]
+    fn read(&self, alloc: Global, path: &Path<'_>, value: &Part<'_, '_>) -> Result<Row, FileFault> {
         object_at(alloc, path, value, &["cells", "entity"])?;
         let form = CellsForm {
             shapes: self.shapes,
@@ -159,12 +162,12 @@ impl Form for TableForm<'_> {
 
     ghost follows = { table_follows };
 
-    #[tactic(auto, using(crate::proofs::Walking::walking, crate::proofs::TableKinds::kinds, crate::proofs::SceneSteps::table_steps))]
+    #[tactic(auto, using(scene_forms::proofs::Walking::walking, crate::proofs::TableKinds::kinds, crate::proofs::SceneSteps::table_steps))]
     fn read(
         &self,
         alloc: Global,
         path: &Path<'_>,
-        value: &Value,
+        value: &Part<'_, '_>,
     ) -> Result<(KindSet, Vec<Row>), FileFault> {
         object_at(alloc, path, value, &["kinds", "rows"])?;
         let form = Rising(KindNumberForm {

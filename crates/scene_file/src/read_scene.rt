@@ -1,26 +1,22 @@
-//! The whole of a scene text of version 1.
+//! The whole of a scene text of version 1, and what version 2 shares with it.
 ghost use Rattle.std.specs.Prelude.{◌≡◌, [], Ok, IfOk, IfErr};
-ghost use Rattle.serde_json.specs.View.{view};
+ghost use Rattle.scene_json.specs.View.{view};
 ghost use Rattle.scene_parts.specs.Seen.{seen};
-ghost use Rattle.scene_file.specs.Members.{members_in};
-ghost use Rattle.scene_file.specs.Outcome.{IsTextFault};
-ghost use Rattle.scene_file.specs.Paths.{path_bytes};
-ghost use Rattle.scene_file.specs.Reading.{key_of};
-ghost use Rattle.scene_file.specs.Walk.{parts_in, parts_of, version_of};
+ghost use Rattle.scene_forms.specs.Members.{members_in};
+ghost use Rattle.scene_forms.specs.Outcome.{IsTextFault};
+ghost use Rattle.scene_forms.specs.Reading.{key_of};
+ghost use Rattle.scene_file.specs.Walk.{first_parts, head_of, parts_in, parts_of, tail_of, version_of};
+ghost use Rattle.scene_file.specs.SeenHead.{head_seen};
 
-use crate::fault::FileFault;
-use crate::form::{Form, ListOf};
-use crate::object::{key_of, object_at};
-use crate::path::{Path, bad_field};
 use crate::read_kinds::KindsForm;
-use crate::read_numbers::{LimitForm, TickForm, U32Form};
 use crate::read_rows::TableForm;
-use crate::read_texts::{EntityForm, NameForm};
-use crate::read_values::ResourceCellForm;
-use crate::rising::{Ordered, Rising};
-use scene_kinds::{Cell, Entity};
+use scene_forms::{
+    EntityForm, FileFault, Form, ListOf, NameForm, Ordered, Path, ResourceCellForm, Rising,
+    TickForm, U32Form, bad_field, if_good, key_of, object_at,
+};
+use scene_json::Part;
+use scene_kinds::{Cell, Entity, Schema};
 use scene_parts::WorldParts;
-use serde_json::Value;
 use std::alloc::Global;
 
 /// The keys of a scene, by their bytes.
@@ -35,6 +31,34 @@ const SCENE_KEYS: [&str; 9] = [
     "tables",
     "tick",
 ];
+
+const MOST_SLOTS: u64 = 1_048_576;
+
+/// Slot limits.
+#[derive(Drop)]
+struct LimitForm;
+
+impl Form for LimitForm {
+    ghost use Rattle.std.specs.Prelude.{ℕ, true};
+    ghost use Rattle.scene_file.specs.Walk.{limit_at};
+
+    type Item = u32;
+
+    ghost Meant = { ℕ };
+
+    ghost meant = { λ number. number };
+
+    ghost word = { λ _. limit_at };
+
+    ghost follows = { λ _ _. true };
+
+    #[tactic(auto, using(scene_forms::proofs::Walking::walking))]
+    fn read(&self, alloc: Global, path: &Path<'_>, value: &Part<'_, '_>) -> Result<u32, FileFault> {
+        let number = TickForm.read(alloc, path, value)?;
+        let limit = if_good(alloc, path, 1 <= number && number <= MOST_SLOTS, number)?;
+        Ok(limit as u32)
+    }
+}
 
 /// Parents with their lists.
 #[derive(Drop)]
@@ -55,12 +79,12 @@ impl Form for ChildrenForm {
 
     ghost follows = { parent_follows };
 
-    #[tactic(auto, using(crate::proofs::Walking::walking))]
+    #[tactic(auto, using(scene_forms::proofs::Walking::walking))]
     fn read(
         &self,
         alloc: Global,
         path: &Path<'_>,
-        value: &Value,
+        value: &Part<'_, '_>,
     ) -> Result<(Entity, Vec<Entity>), FileFault> {
         object_at(alloc, path, value, &["list", "parent"])?;
         let list = key_of(alloc, &ListOf(EntityForm), path, value, "list")?;
@@ -94,12 +118,12 @@ impl Form for ResourceForm {
 
     ghost follows = { name_follows };
 
-    #[tactic(auto, using(crate::proofs::Walking::walking))]
+    #[tactic(auto, using(scene_forms::proofs::Walking::walking))]
     fn read(
         &self,
         alloc: Global,
         path: &Path<'_>,
-        value: &Value,
+        value: &Part<'_, '_>,
     ) -> Result<(String, Cell), FileFault> {
         object_at(alloc, path, value, &["cell", "name"])?;
         let cell = key_of(alloc, &ResourceCellForm, path, value, "cell")?;
@@ -115,44 +139,90 @@ impl Ordered for ResourceForm {
 }
 
 /// The value of a key of a scene, which must be there, read as a form.
-#[tactic(auto, using(crate::proofs::Walking::walking))]
-fn top_key<F: Form>(alloc: Global, form: &F, scene: &Value, key: &str) -> Result<F::Item, FileFault>
+#[tactic(auto, using(scene_forms::proofs::Walking::walking))]
+pub(crate) fn top_key<F: Form>(
+    alloc: Global,
+    form: &F,
+    scene: &Part<'_, '_>,
+    key: &str,
+) -> Result<F::Item, FileFault>
     ensures found { IfOk result (λ item. key_of (F.word form.now) [] key.now (members_in (view scene.now)) ≡ Ok (F.meant item)) }
     ensures fault { IfErr result (λ e. IsTextFault e (key_of (F.word form.now) [] key.now (members_in (view scene.now)))) }
 {
     key_of(alloc, form, &Path::Root, scene, key)
 }
 
-/// The parts that the keys of a scene say.
-#[tactic(auto, using(crate::proofs::Walking::walking, crate::proofs::SceneSteps::scene_steps))]
-fn parts_of(alloc: Global, scene: &Value) -> Result<WorldParts, FileFault>
-    ensures found { IfOk result (λ parts. parts_of (members_in (view scene.now)) ≡ Ok (seen parts)) }
-    ensures fault { IfErr result (λ e. IsTextFault e (parts_of (members_in (view scene.now)))) }
+/// What the first five keys of a scene say.
+#[derive(Drop)]
+pub(crate) struct SceneHead {
+    pub(crate) children: Vec<(Entity, Vec<Entity>)>,
+    pub(crate) free: Vec<u32>,
+    pub(crate) generations: Vec<u32>,
+    pub(crate) schema: Schema,
+    pub(crate) limit: u32,
+}
+
+/// What the first five keys of a scene say, up to its slot limit.
+#[tactic(auto, using(scene_forms::proofs::Walking::walking))]
+pub(crate) fn head_of(alloc: Global, scene: &Part<'_, '_>) -> Result<SceneHead, FileFault>
+    ensures found { IfOk result (λ head. head_of (members_in (view scene.now)) ≡ Ok (head_seen head)) }
+    ensures fault { IfErr result (λ e. IsTextFault e (head_of (members_in (view scene.now)))) }
 {
     let children = top_key(alloc, &Rising(ChildrenForm), scene, "children")?;
     let free = top_key(alloc, &ListOf(U32Form), scene, "free")?;
     let generations = top_key(alloc, &ListOf(U32Form), scene, "generations")?;
     let schema = top_key(alloc, &KindsForm, scene, "kinds")?;
     let limit = top_key(alloc, &LimitForm, scene, "limit")?;
+    Ok(SceneHead {
+        children,
+        free,
+        generations,
+        schema,
+        limit,
+    })
+}
+
+/// The parts that the keys of a scene say, of which the first five were read.
+#[tactic(auto, using(scene_forms::proofs::Walking::walking))]
+pub(crate) fn tail_of(
+    alloc: Global,
+    head: SceneHead,
+    scene: &Part<'_, '_>,
+) -> Result<WorldParts, FileFault>
+    ensures found { IfOk result (λ parts. tail_of (head_seen head) (members_in (view scene.now)) ≡ Ok (seen parts)) }
+    ensures fault { IfErr result (λ e. IsTextFault e (tail_of (head_seen head) (members_in (view scene.now)))) }
+{
     let resources = top_key(alloc, &Rising(ResourceForm), scene, "resources")?;
-    let form = Rising(TableForm { schema: &schema });
+    let form = Rising(TableForm {
+        schema: &head.schema,
+    });
     let tables = top_key(alloc, &form, scene, "tables")?;
     let tick = top_key(alloc, &TickForm, scene, "tick")?;
     Ok(WorldParts {
-        schema,
-        limit,
+        schema: head.schema,
+        limit: head.limit,
         tick,
-        generations,
-        free,
+        generations: head.generations,
+        free: head.free,
         tables,
-        children,
+        children: head.children,
         resources,
     })
 }
 
+/// The parts that the keys of a scene say.
+#[tactic(auto, using(scene_forms::proofs::Walking::walking))]
+fn parts_of(alloc: Global, scene: &Part<'_, '_>) -> Result<WorldParts, FileFault>
+    ensures found { IfOk result (λ parts. parts_of (members_in (view scene.now)) ≡ Ok (seen parts)) }
+    ensures fault { IfErr result (λ e. IsTextFault e (parts_of (members_in (view scene.now)))) }
+{
+    let head = head_of(alloc, scene)?;
+    tail_of(alloc, head, scene)
+}
+
 /// The version of a text, which is an object.
-#[tactic(auto, using(crate::proofs::Walking::walking))]
-fn version_of(alloc: Global, value: &Value) -> Result<u64, FileFault>
+#[tactic(auto, using(scene_forms::proofs::Walking::walking))]
+pub(crate) fn version_of(alloc: Global, value: &Part<'_, '_>) -> Result<u64, FileFault>
     ensures found { IfOk result (λ version. version_of (view value.now) ≡ Ok version) }
     ensures fault { IfErr result (λ e. IsTextFault e (version_of (view value.now))) }
 {
@@ -163,9 +233,19 @@ fn version_of(alloc: Global, value: &Value) -> Result<u64, FileFault>
     key_of(alloc, &TickForm, &root, value, "scene")
 }
 
+/// The parts of a text whose version is 1.
+#[tactic(auto, using(scene_forms::proofs::Walking::walking))]
+pub(crate) fn first_parts(alloc: Global, value: &Part<'_, '_>) -> Result<WorldParts, FileFault>
+    ensures found { IfOk result (λ parts. first_parts (view value.now) ≡ Ok (seen parts)) }
+    ensures fault { IfErr result (λ e. IsTextFault e (first_parts (view value.now))) }
+{
+    object_at(alloc, &Path::Root, value, &SCENE_KEYS)?;
+    parts_of(alloc, value)
+}
+
 /// The parts that a scene text of version 1 says, or its first fault of form (docs/SCENE_FILES.md, "The walk").
-#[tactic(auto, using(crate::proofs::Walking::walking))]
-pub(crate) fn parts_in(alloc: Global, value: &Value) -> Result<WorldParts, FileFault>
+#[tactic(auto, using(scene_forms::proofs::Walking::walking))]
+pub(crate) fn parts_in(alloc: Global, value: &Part<'_, '_>) -> Result<WorldParts, FileFault>
     ensures found { IfOk result (λ parts. parts_in (view value.now) ≡ Ok (seen parts)) }
     ensures fault { IfErr result (λ e. IsTextFault e (parts_in (view value.now))) }
 {
@@ -173,6 +253,5 @@ pub(crate) fn parts_in(alloc: Global, value: &Value) -> Result<WorldParts, FileF
     if version != 1 {
         return Err(FileFault::BadVersion(version));
     }
-    object_at(alloc, &Path::Root, value, &SCENE_KEYS)?;
-    parts_of(alloc, value)
+    first_parts(alloc, value)
 }

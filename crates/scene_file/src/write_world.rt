@@ -3,13 +3,12 @@ ghost use Rattle.std.specs.Prelude.{◌≡◌, ◌++◌, ◌<◌, OnOk, Some, le
 ghost use Rattle.serde_json.specs.Written.{compact_text};
 ghost use Rattle.scene_links.specs.Forest.{children_of};
 ghost use Rattle.scene_parts.specs.Parts.{lists_of};
-ghost use Rattle.scene_file.specs.Text.{list_text, kind_text, children_text, resource_text, table_text, world_text};
+ghost use Rattle.scene_forms.specs.Text.{list_text};
+ghost use Rattle.scene_file.specs.Text.{kind_text, children_text, resource_text, table_text, world_text};
 ghost use Rattle.scene_file.specs.Printing.{named_cells, first_members, last_members};
 
 use crate::write_rows::write_tables;
-use crate::write_values::{
-    write_comma, write_counts, write_entities, write_entity, write_resource_cell,
-};
+use scene_forms::{write_comma, write_counts, write_entities, write_entity, write_resource_cell};
 use scene_kinds::{Cell, Entity, Schema, Shape};
 use scene_links::Links;
 use scene_resources::Resources;
@@ -145,7 +144,11 @@ fn write_archetypes(alloc: Global, out: &mut String, world: &World) -> Result<()
 }
 
 /// Adds the first five members of a world: what it was set up with, its slots and its links.
-fn write_first_members(alloc: Global, out: &mut String, world: &World) -> Result<(), AllocError>
+pub(crate) fn write_first_members(
+    alloc: Global,
+    out: &mut String,
+    world: &World,
+) -> Result<(), AllocError>
     ensures { OnOk result (string_bytes out.new ≡ string_bytes out.old ++ first_members world.now.world) }
 {
     out.push_str("{\"children\":")?;
@@ -160,15 +163,20 @@ fn write_first_members(alloc: Global, out: &mut String, world: &World) -> Result
     Ok(())
 }
 
-/// Adds the other members: its resources, the version of the text, its tables and its tick.
-fn write_last_members(alloc: Global, out: &mut String, world: &World) -> Result<(), AllocError>
-    ensures { OnOk result (string_bytes out.new ≡ string_bytes out.old ++ last_members world.now.world) }
+/// Adds the other members of a world: its resources, the version of the text, its tables and its tick.
+pub(crate) fn write_last_members(
+    alloc: Global,
+    out: &mut String,
+    world: &World,
+    version: u32,
+) -> Result<(), AllocError>
+    ensures { OnOk result (string_bytes out.new ≡ string_bytes out.old ++ last_members version world.now.world) }
 {
     out.push_str(",\"resources\":")?;
     write_resources(alloc, out, world.resources())?;
-    out.push_str(",\"scene\":1,\"tables\":")?;
+    write!(out, ",\"scene\":{version},\"tables\":")?;
     write_archetypes(alloc, out, world)?;
-    write!(out, ",\"tick\":{}}}", world.tick())?;
+    write!(out, ",\"tick\":{}", world.tick())?;
     Ok(())
 }
 
@@ -178,5 +186,6 @@ pub(crate) fn write_world(alloc: Global, out: &mut String, world: &World) -> Res
     ensures { OnOk result (string_bytes out.new ≡ string_bytes out.old ++ compact_text (world_text world.now.world)) }
 {
     write_first_members(alloc, out, world)?;
-    write_last_members(alloc, out, world)
+    write_last_members(alloc, out, world, 1)?;
+    out.push_str("}")
 }

@@ -2,60 +2,45 @@
 use Rattle.std.proofs.Common.{◌≡◌, ◌≢◌, ◌<◌, ◌+◌, ℕ, List, [], ◌∷◌, ◌++◌, map, length, Result, Ok, Err, IfOk, IfErr, nat_lt, if◌then◌else◌, true, false, Bool, refl, sym, ap, ◌∙◌, arith}
 use Rattle.std.proofs.lemmas.Bool.{lt-ltb}
 use Rattle.std.proofs.lemmas.List.{length-append, length-map, map-append}
-use Rattle.scene_kinds.specs.declared.entity.Entity.{Entity}
 use Rattle.scene_kinds.specs.declared.fault.Fault.TheVariants.{HistoryFull, NoMemory}
 use Rattle.scene_kinds.specs.declared.refusal.Refusal.{Refusal}
-use Rattle.scene_kinds.specs.Answers.{Outcome, refusal_of}
-use Rattle.scene_model.specs.World.{World}
-use Rattle.scene_machine.specs.Frame.{call}
-use Rattle.scene_machine.specs.Machine.{Machine}
+use Rattle.scene_kinds.specs.Answers.{refusal_of}
 use Rattle.scene_session.specs.declared.call.Call.{Call}
 use Rattle.scene_session.specs.declared.call.Reply.{Reply}
 use Rattle.scene_session.specs.declared.call.Stopped.{Stopped}
 use Rattle.scene_session.specs.declared.entry.Entry.{Entry}
 use Rattle.scene_session.specs.declared.state.Beginning.{Beginning}
-use Rattle.scene_session.specs.Calls.{Answer, Asked, Submit, Advance, Undo, Redo, Refused, asked, machine_call, told}
+use Rattle.scene_session.specs.Calls.{Answer, Asked, Refused, asked, told}
 use Rattle.scene_session.specs.History.{replay}
 use Rattle.scene_session.specs.Hand.{IsOnlyCall}
 use Rattle.scene_session.specs.State.{HasEntered, IsLegal, StateView, answer_after, replayed, stopping_at}
-use Rattle.scene_session.specs.Whole.{Whole, whole_of, stepped}
+use Rattle.scene_session.specs.Whole.{Whole, step, whole_of}
 use Rattle.scene_session.specs.Whole as whole
-use Rattle.scene_hand.specs.Hand.{HandState, answered, entered, hand_of, machine_at, made, next, performed, step, Tells}
+use Rattle.scene_hand.specs.Hand.{HandState, entered, hand_of, machine_at, made, next, performed, whole_at, Tells}
 
--- the machine after a call doesn't depend on records
-machine_stepped : (w : Whole) (a : Asked) (o : Outcome (List Entity) (Machine World)) → (stepped w a o).0.machine ≡ (answered w.machine a o).0
-machine_stepped w (Submit queues) (Ok p) = refl
-machine_stepped w (Advance schedule) (Ok p) = refl
-machine_stepped w Undo (Ok p) = refl
-machine_stepped w Redo (Ok p) = refl
-machine_stepped w a (Err r) = refl
+-- the entries of a state lead where the calls lead that were made
+whole_replayed : (w : Whole) (es : List Entry) → replay whole.next w es ≡ replay next w (map made es)
+whole_replayed w [] = refl
+whole_replayed w (e ∷ es) = whole_replayed (whole.next w e) es
 
--- nor does the answer
-answer_stepped : (w : Whole) (a : Asked) (o : Outcome (List Entity) (Machine World)) → (stepped w a o).1 ≡ (answered w.machine a o).1
-answer_stepped w a (Ok p) = refl
-answer_stepped w a (Err r) = refl
+whole_is : (o : Beginning) (h : List Entry) (n : ℕ) → replayed o h ≡ whole_at (hand_of (record { opening = o; history = h }) n)
+whole_is o h n = whole_replayed (whole_of o.editor) h
 
-machine_replayed : (w : Whole) (es : List Entry) → (replay whole.next w es).machine ≡ replay next w.machine (map made es)
-machine_replayed w [] = refl
-machine_replayed w (e ∷ es) = machine_replayed (whole.next w e) es
-    ∙ ap (λ m. replay next m (map made es)) (machine_stepped w (asked e.call) (call w.machine (machine_call (asked e.call))))
+-- the state that a hand tells is its whole
+pub whole_told : (h : HandState) (s : StateView) → Tells h s → replayed s.opening s.history ≡ whole_at h
+whole_told h s is = whole_is s.opening s.history h.session ∙ sym (ap whole_at is)
 
--- the machine of a state is that of its hand
-pub machine_is : (s : StateView) (n : ℕ) → (replayed s.opening s.history).machine ≡ machine_at (hand_of s n)
-machine_is s n = machine_replayed (whole_of s.opening.editor) s.history
-
--- the machine of the state that a hand tells
+-- and so is the machine
 pub machine_told : (h : HandState) (s : StateView) → Tells h s → (replayed s.opening s.history).machine ≡ machine_at h
-machine_told h s is = machine_is s h.session ∙ sym (ap machine_at is)
+machine_told h s is = ap (λ w. w.machine) (whole_told h s is)
 
--- and so is the answer to a call
-answer_is : (o : Beginning) (h : List Entry) (n : ℕ) (a : Asked) → answer_after o h a ≡ (step (machine_at (hand_of (record { opening = o; history = h }) n)) a).1
-answer_is o h n a = answer_stepped (replayed o h) a (call (replayed o h).machine (machine_call a))
-    ∙ ap (λ m. (step m a).1) (machine_is (record { opening = o; history = h }) n)
+-- and the answer to a call
+answer_is : (o : Beginning) (h : List Entry) (n : ℕ) (a : Asked) → answer_after o h a ≡ (step (whole_at (hand_of (record { opening = o; history = h }) n)) a).1
+answer_is o h n a = ap (λ w. (step w a).1) (whole_is o h n)
 
 -- what is performed where a test says whether there is room
 abbrev performed_by : HandState → Asked → Bool → HandState × Answer
-performed_by h a b = if b then (entered h a, (step (machine_at h) a).1) else (h, Refused (refusal_of (HistoryFull h.limit)))
+performed_by h a b = if b then (entered h a, (step (whole_at h) a).1) else (h, Refused (refusal_of (HistoryFull h.limit)))
 
 module _ (o : Beginning) (h : List Entry) (n : ℕ) where
   abbrev H : HandState
@@ -68,7 +53,7 @@ module _ (o : Beginning) (h : List Entry) (n : ℕ) where
       let e = t.0 in
       let long : length after ≡ length h + 1 = ap length t.1 ∙ length-append h (e ∷ []) in
       let few : length (map made h) < o.limit = omega (arith, long, legal.1, length-map h made) in
-      let given : (step (machine_at H) (asked c)).1 ≡ told r = sym (answer_is o h n (asked c)) ∙ sym answer in
+      let given : (step (whole_at H) (asked c)).1 ≡ told r = sym (answer_is o h n (asked c)) ∙ sym answer in
       let all : map made after ≡ map made h ++ made e ∷ [] = ap (map made) t.1 ∙ map-append made h (e ∷ []) in
       ap (performed_by H (asked c)) (lt-ltb (length (map made h)) o.limit few)
       ∙ (λ i. (

@@ -1,34 +1,20 @@
 -- How the values of a hand are told apart.
-use Rattle.std.specs.Prelude.{◌≡◌, ◌⊎◌, ℕ, List, [], refl}
+use Rattle.std.specs.Prelude.{◌≡◌, ◌⊎◌, ℕ, List, refl}
 use mathlib.Core.Logic.{inl, inr}
 use base.Stored.{coded_unit}
 use Rattle.std.specs.Coded.{Coded, code_by, coded×, coded⊎, coded_list, coded_ℕ}
-use Rattle.scene_kinds.specs.Map as map
 use Rattle.scene_kinds.specs.declared.entity.Entity.{Entity}
 use Rattle.scene_kinds.specs.declared.refusal.Refusal.{Refusal as Reason}
 use Rattle.scene_kinds.specs.contracts.entity.Entity as entity
 use Rattle.scene_kinds.specs.contracts.refusal.Refusal as refusal
-use Rattle.scene_world.specs.contracts.world.World as world
-use Rattle.scene_world.specs.Room.{Housed}
-use Rattle.scene_model.specs.World.{World}
-use Rattle.scene_machine.specs.Machine.{Machine}
 use Rattle.scene_queue.specs.contracts.queue.Queue as queue
 use Rattle.scene_queue.specs.Queue.{QueueState}
 use Rattle.scene_schedule.specs.contracts.schedule.Schedule as schedule
 use Rattle.scene_schedule.specs.Schedule.{ScheduleState}
 use Rattle.scene_session.specs.Calls.{Answer, Asked, Submit, Advance, Undo, Redo, Done, Undone, Redone, Refused}
+use Rattle.scene_session.specs.Codes.{whole_code}
+use Rattle.scene_session.specs.Whole.{Whole}
 use Rattle.scene_hand.specs.Hand.{HandState, Made}
-
--- a world is told apart as one with no room
-abbrev pub world_code : Coded World
-world_code = code_by Housed world.the_row.coded
-    (λ w. record { world = w; room = record { slots = 0; rows = map.empty; homes = 0; lists = []; names = [] } }) (λ h. h.world) (λ _. refl)
-
--- a machine by its parts
-abbrev pub machine_code : Coded (Machine World)
-machine_code = code_by (List World × (World × (List World × ℕ))) (coded× (coded_list world_code) (coded× world_code (coded× (coded_list world_code) coded_ℕ)))
-    (λ m. (m.past, (m.now, (m.future, m.rewinds))))
-    (λ p. record { past = p.0; now = p.1.0; future = p.1.1.0; rewinds = p.1.1.1 }) (λ _. refl)
 
 -- what a call asks
 abbrev Question : Type 0
@@ -87,6 +73,6 @@ made_code = code_by (ℕ × (Asked × Answer)) (coded× coded_ℕ (coded× asked
 
 -- a hand by its parts
 abbrev pub hand_code : Coded HandState
-hand_code = code_by (Machine World × (ℕ × (List Made × ℕ))) (coded× machine_code (coded× coded_ℕ (coded× (coded_list made_code) coded_ℕ)))
+hand_code = code_by (Whole × (ℕ × (List Made × ℕ))) (coded× whole_code (coded× coded_ℕ (coded× (coded_list made_code) coded_ℕ)))
     (λ h. (h.opening, (h.limit, (h.history, h.session))))
     (λ p. record { opening = p.0; limit = p.1.0; history = p.1.1.0; session = p.1.1.1 }) (λ _. refl)

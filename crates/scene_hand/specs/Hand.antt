@@ -1,29 +1,14 @@
--- What contracts see of a hand: the machine that its state began as, and the calls since, each with its answer.
-use Rattle.std.specs.Prelude.{◌≡◌, ◌++◌, ◌∷◌, [], ℕ, List, length, map, nat_lt, if◌then◌else◌, Ok, Err}
-use Rattle.scene_kinds.specs.declared.entity.Entity.{Entity}
+-- What contracts see of a hand: the machine that its state began as, with its records, and the calls since, each with its answer.
+use Rattle.std.specs.Prelude.{◌≡◌, ◌++◌, ◌∷◌, [], ℕ, List, length, map, nat_lt, if◌then◌else◌}
 use Rattle.scene_kinds.specs.declared.fault.Fault.TheVariants.{HistoryFull}
-use Rattle.scene_kinds.specs.Answers.{Outcome, refusal_of}
+use Rattle.scene_kinds.specs.Answers.{refusal_of}
 use Rattle.scene_model.specs.World.{World}
-use Rattle.scene_machine.specs.Frame.{call}
 use Rattle.scene_machine.specs.Machine.{Machine}
-use Rattle.scene_undo.specs.Editor.{machine_of}
 use Rattle.scene_session.specs.declared.entry.Entry.{Entry}
-use Rattle.scene_session.specs.Calls.{Answer, Asked, Refused, accepted_answer, asked, machine_call, told}
+use Rattle.scene_session.specs.Calls.{Answer, Asked, Refused, asked, told}
 use Rattle.scene_session.specs.History.{replay}
 use Rattle.scene_session.specs.State.{StateView}
-
--- ---- calls on the machine of saved worlds
-
--- the machine and the answer, by what the call came to; a refusal leaves the machine
-abbrev pub answered : Machine World → Asked → Outcome (List Entity) (Machine World) → Machine World × Answer
-answered m a (Ok p) = (p.1, accepted_answer a p.0)
-answered m a (Err r) = (m, Refused r)
-
--- one call
-abbrev pub step : Machine World → Asked → Machine World × Answer
-step m a = answered m a (call m (machine_call a))
-
--- ---- the hand
+use Rattle.scene_session.specs.Whole.{Whole, step, whole_of}
 
 -- a call that was made: of which session, and its answer
 pub record Made : Type 0 where
@@ -31,24 +16,28 @@ pub record Made : Type 0 where
   pub call : Asked
   pub answer : Answer
 
--- the machine at first, how many calls there may be, the calls so far, the oldest first, and whose turn it is
+-- the machine at first with its records, how many calls there may be, the calls so far, the oldest first, and whose turn it is
 pub record HandState : Type 0 where
-  pub opening : Machine World
+  pub opening : Whole
   pub limit : ℕ
   pub history : List Made
   pub session : ℕ
 
--- the machine after a call that was made
-abbrev pub next : Machine World → Made → Machine World
-next m c = (step m c.call).0
+-- the machine with its records after a call that was made
+abbrev pub next : Whole → Made → Whole
+next w c = (step w c.call).0
 
--- the machine now: what the calls make of the opening
+-- the machine with its records now: what the calls make of the opening
+abbrev pub whole_at : HandState → Whole
+whole_at h = replay next h.opening h.history
+
+-- the machine now
 abbrev pub machine_at : HandState → Machine World
-machine_at h = replay next h.opening h.history
+machine_at h = (whole_at h).machine
 
 -- with no calls yet, it is the turn of session 0
-abbrev pub opening_hand : Machine World → ℕ → HandState
-opening_hand m limit = record { opening = m; limit = limit; history = []; session = 0 }
+abbrev pub opening_hand : Whole → ℕ → HandState
+opening_hand w limit = record { opening = w; limit = limit; history = []; session = 0 }
 
 -- the turn of another session
 abbrev pub with_session : HandState → ℕ → HandState
@@ -56,11 +45,11 @@ with_session h session = record h { session = session }
 
 -- a call more, of the session whose turn it is, with the machine's answer
 abbrev pub entered : HandState → Asked → HandState
-entered h a = record h { history = h.history ++ record { session = h.session; call = a; answer = (step (machine_at h) a).1 } ∷ [] }
+entered h a = record h { history = h.history ++ record { session = h.session; call = a; answer = (step (whole_at h) a).1 } ∷ [] }
 
 -- a call and its answer; where there are as many calls as may be, it isn't entered
 abbrev pub performed : HandState → Asked → HandState × Answer
-performed h a = if nat_lt (length h.history) h.limit then (entered h a, (step (machine_at h) a).1) else (h, Refused (refusal_of (HistoryFull h.limit)))
+performed h a = if nat_lt (length h.history) h.limit then (entered h a, (step (whole_at h) a).1) else (h, Refused (refusal_of (HistoryFull h.limit)))
 
 -- ---- the state
 
@@ -70,7 +59,7 @@ made e = record { session = e.session; call = asked e.call; answer = told e.repl
 
 -- the hand of a state, where it is the turn of this session
 abbrev pub hand_of : StateView → ℕ → HandState
-hand_of s session = record { opening = machine_of s.opening.editor; limit = s.opening.limit; history = map made s.history; session = session }
+hand_of s session = record { opening = whole_of s.opening.editor; limit = s.opening.limit; history = map made s.history; session = session }
 
 -- a state that is the one in the hand
 abbrev pub Tells : HandState → StateView → Type 0

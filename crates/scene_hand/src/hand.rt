@@ -2,9 +2,9 @@
 ghost use Rattle.std.specs.Prelude.{◌≡◌, ◌≢◌, ◌≤◌, ◌<◌, length, IfOk, IfErr};
 ghost use Rattle.scene_kinds.specs.Answers.{refusal_of};
 ghost use Rattle.scene_kinds.specs.declared.fault.Fault.TheVariants.{NoMemory};
-ghost use Rattle.scene_undo.specs.Editor.{machine_of};
 ghost use Rattle.scene_session.specs.Calls.{Refused, asked, queue_count, told};
 ghost use Rattle.scene_session.specs.State.{StateView, stopping_at};
+ghost use Rattle.scene_session.specs.Whole.{whole_of};
 ghost use Rattle.scene_hand.specs.Hand.{Tells, opening_hand, performed, with_session};
 ghost use Rattle.scene_hand.specs.Passes.{AreOf};
 
@@ -22,7 +22,8 @@ const SESSIONS: u32 = 8;
 
 /// The passes of eight sessions with the lock over their state, in one hand (docs/SESSIONS.md, "All in one hand").
 ///
-/// Contracts see the machine that the state began as, the greatest number of calls, the calls so far, and whose turn it is.
+/// Contracts see the machine that the state began as with its records, the greatest number of calls, the calls so far, and
+/// whose turn it is.
 #[derive(Drop)]
 pub struct Hand {
     lock: WordLock<State>,
@@ -53,7 +54,7 @@ impl Hand {
     /// `AllocError` where no memory was found: the editor is dropped then.
     pub fn new(alloc: Global, editor: Editor, limit: u32) -> Result<Hand, AllocError>
         requires { (1 ≤ limit) × (limit ≤ 1048576) }
-        ensures { IfOk result (λ hand. hand ≡ opening_hand (machine_of editor) limit) }
+        ensures { IfOk result (λ hand. hand ≡ opening_hand (whole_of editor) limit) }
     {
         let state = State::new(alloc, editor, limit);
         let (lock, passes) = WordLock::new(alloc, state, SESSIONS)?;

@@ -7,11 +7,13 @@ ghost use Rattle.scene_journal.specs.Faults.{IsAfterSome, IsBeforeSome, IsRedone
 ghost use Rattle.scene_deltas.specs.Ready.{AreReady, AreReadyOn};
 ghost use Rattle.scene_deltas.specs.Deltas.{fwd_all, back_all};
 ghost use Rattle.scene_journal.specs.Records.{raised, redone, undone, RecordFitsOn, RecordFitsBack};
+ghost use Rattle.scene_newest.specs.Newest.{Covers};
 ghost use Rattle.scene_world.specs.Room.{IsWider};
 
 use crate::record::FrameRecord;
-use scene_deltas::{Delta, can_set_tick, redo_delta, undo_delta};
+use scene_deltas::{Delta, redo_delta, undo_delta};
 use scene_kinds::{Fault, Refusal};
+use scene_newest::NewestCells;
 use scene_world::{RawChanges, World};
 
 /// A law of faults: a record that has one doesn't fit.
@@ -90,18 +92,38 @@ impl FrameRecord {
         redo_fitting(draft, self.deltas())
     }
 
-    /// Undoes the record on a draft, as `undo_on` does, where it fits back; so many records are tried one after another on
-    /// one draft. Beside the deltas it costs a look at all cells of the draft.
+    /// Undoes the record on a draft, as `undo_on` does, where it fits back. Beside the deltas it costs a look at all cells of
+    /// the draft.
     ///
     /// Refused: `BadRecord` with frame 0 and the number of the last delta that doesn't fit back at its turn, or, where the
     /// draft's tick isn't one above the one before the record, or a cell would be left that was changed later than that,
     /// with the number of deltas (docs/JOURNAL.md, "Records"); `NoMemory`. Where the tick is at fault, the draft stays. Else
     /// some of the deltas are taken back then, the last ones.
-    #[tactic(auto, using(scene_deltas::proofs::Turns::ready_fits))]
     pub fn undo_checked(&self, draft: &mut World) -> Result<(), Refusal>
         ensures fits { OnOk result (RecordFitsBack self.now draft.old.world) }
         ensures ready { OnOk result (AreReady draft.new.room self.now.deltas draft.old.world) }
         ensures done { OnOk result (draft.new.world ≡ undone self.now draft.old.world) }
+        ensures refused { IfErr result (Names (IsFaultBack self.now draft.old.world)) }
+        ensures part { OnErr result (IsUndoneInPart self.now draft.old.world draft.new.world) }
+        ensures wide { IsWider draft.old.room draft.new.room }
+    {
+        self.undo_checked_with(draft, &mut NewestCells::none(self.alloc()))
+    }
+
+    /// Undoes the record on a draft, as `undo_checked` does, and is refused as it is. It looks for cells that were changed too
+    /// late only where they are listed, and lists those that come back: so many records are tried one after another on one
+    /// draft, and all together cost what their deltas cost, and at first one look at all cells (docs/JOURNAL.md, "In code").
+    #[tactic(auto, using(scene_deltas::proofs::Turns::ready_fits))]
+    pub fn undo_checked_with(
+        &self,
+        draft: &mut World,
+        newest: &mut NewestCells,
+    ) -> Result<(), Refusal>
+        requires { Covers newest.old draft.old.world }
+        ensures fits { OnOk result (RecordFitsBack self.now draft.old.world) }
+        ensures ready { OnOk result (AreReady draft.new.room self.now.deltas draft.old.world) }
+        ensures done { OnOk result (draft.new.world ≡ undone self.now draft.old.world) }
+        ensures covers { OnOk result (Covers newest.new draft.new.world) }
         ensures refused { IfErr result (Names (IsFaultBack self.now draft.old.world)) }
         ensures part { OnErr result (IsUndoneInPart self.now draft.old.world draft.new.world) }
         ensures wide { IsWider draft.old.room draft.new.room }
@@ -112,7 +134,8 @@ impl FrameRecord {
             return Err(bad_record(self.deltas().len()));
         }
         undo_fitting(draft, self.deltas())?;
-        if !can_set_tick(draft, before)? {
+        newest.take_back(self.deltas())?;
+        if !newest.can_set_tick(draft, before)? {
             return Err(bad_record(self.deltas().len()));
         }
         draft.set_tick(before);

@@ -3,7 +3,7 @@ ghost use Rattle.std.specs.Prelude.{◌≡◌, IfOk};
 ghost use Rattle.scene_journal.specs.Records.{record_of};
 
 use scene_deltas::Delta;
-use std::alloc::AllocError;
+use std::alloc::{AllocError, Global};
 use std::marker::Model;
 
 /// What one frame did: the tick of the world before it, and its deltas in order (docs/JOURNAL.md, "Records").
@@ -46,6 +46,11 @@ impl FrameRecord {
         ensures { result.now ≡ self.now.deltas }
     {
         self.deltas.as_slice()
+    }
+
+    /// Where the deltas have their memory from.
+    pub(crate) fn alloc(&self) -> Global {
+        *self.deltas.allocator()
     }
 
     /// The tick before the frame, and the list of deltas. It takes no memory.

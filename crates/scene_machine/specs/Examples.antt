@@ -7,7 +7,7 @@ use Rattle.scene_kinds.specs.Map as map
 use Rattle.scene_model.specs.World.{World, new_world, component_of}
 use Rattle.scene_model.specs.Commands.{highest_tick, spawn}
 use Rattle.scene_model.specs.Perform.{Despawn, DespawnRecursive, DespawnRecursiveIfAlive, Insert, Remove, SetParent, RemoveParent, PutResource, RemoveResource}
-use Rattle.scene_machine.specs.Machine.{Machine, opening}
+use Rattle.scene_machine.specs.Machine.{Machine, opening, opening_with}
 use Rattle.scene_machine.specs.Queue.{known, refused_at}
 use Rattle.scene_machine.specs.Frame.{Call, Submit, Undo, Redo, step, after_calls, replies}
 use Rattle.scene_machine.specs.ExampleWords.{ent, cell, int, schema, world, fresh, int_row, tag_row, spawn_int, spawn_tag, local, frame_of, one, only, empty_frame, ends, made, done, refused, refused_first}
@@ -203,3 +203,14 @@ RewindsTellOldCursors =
     let before : Machine World = after_calls fresh (empty_frame ∷ []) in
     let later : Machine World = after_calls fresh (empty_frame ∷ Undo ∷ empty_frame ∷ []) in
     (before.now ≡ later.now) × (before.rewinds ≡ 0) × (later.rewinds ≡ 1)
+
+-- of a depth of 2, the newest two of three frames can be undone, and both can be redone
+abbrev pub DepthKeepsTheNewest : Type 0
+DepthKeepsTheNewest =
+    let shallow : Machine World = opening_with (new_world schema 100) 2 in
+    let three : List Call = one (spawn_int 1) ∷ one (spawn_int 2) ∷ one (spawn_int 3) ∷ [] in
+    let undos : List Call = Undo ∷ Undo ∷ Undo ∷ [] in
+    let redos : List Call = Redo ∷ Redo ∷ Redo ∷ [] in
+    (replies (after_calls shallow three) (undos ++ redos) ≡ done ∷ done ∷ refused NothingToUndo ∷ done ∷ done ∷ refused NothingToRedo ∷ [])
+    × ((after_calls shallow (three ++ undos)).now ≡ world 1 (1 ∷ []) [] ((1, (int_row (ent 0 1) 1 1 1, [])) ∷ []) tt)
+    × ((after_calls shallow (three ++ undos ++ redos)).now ≡ (after_calls shallow three).now)

@@ -1,5 +1,5 @@
 //! Worked examples, which the definitions compute.
-ghost use Rattle.scene_machine.specs.Examples.{NothingToTakeBack, SpawnComesAndGoes, NewFrameEmptiesRedo, EmptyFramesCount, QueuesCountTheirOwn, SpawnsGoLast, DespawnSwapsTheLastIn, DespawnOfTheLastRow, MovesGoLast, EqualValueIsAWrite, RecursiveDespawnComesBack, DeadArePassedOver, ParentsInOrder, ResourcesKeepAdded, RefusalsOfTheWorld, RefusalsOfSpawn, RefusedFramesLeaveNothing, RetiredForGood, LastTickRefuses, RewindsTellOldCursors};
+ghost use Rattle.scene_machine.specs.Examples.{NothingToTakeBack, SpawnComesAndGoes, NewFrameEmptiesRedo, EmptyFramesCount, QueuesCountTheirOwn, SpawnsGoLast, DespawnSwapsTheLastIn, DespawnOfTheLastRow, MovesGoLast, EqualValueIsAWrite, RecursiveDespawnComesBack, DeadArePassedOver, ParentsInOrder, ResourcesKeepAdded, RefusalsOfTheWorld, RefusalsOfSpawn, RefusedFramesLeaveNothing, RetiredForGood, LastTickRefuses, RewindsTellOldCursors, DepthKeepsTheNewest};
 
 /// The definitions of commands, frames, undo and redo compute these short lists of calls: the replies, and the
 /// whole worlds after them.
@@ -24,4 +24,5 @@ pub fn worked_examples_hold()
     ensures retirement { RetiredForGood }
     ensures last_tick { LastTickRefuses }
     ensures cursors { RewindsTellOldCursors }
+    ensures depth { DepthKeepsTheNewest }
 {}

@@ -1,5 +1,5 @@
 -- The first words of lines.
-use Rattle.std.specs.Prelude.{ℕ, List, Bool, true, Option, Some, None, if◌then◌else◌, codes}
+use Rattle.std.specs.Prelude.{ℕ, List, Option, Some, None, if◌then◌else◌, codes}
 use Rattle.std.specs.Str.{bytes_eq}
 use Rattle.scene_script.specs.declared.form.Form.{Form}
 use Rattle.scene_script.specs.declared.form.Form.TheVariants as form
@@ -11,6 +11,7 @@ form_named word =
     else if bytes_eq word (codes "slots") then Some form.Slots
     else if bytes_eq word (codes "load") then Some form.Load
     else if bytes_eq word (codes "calls") then Some form.Calls
+    else if bytes_eq word (codes "depth") then Some form.Depth
     else if bytes_eq word (codes "spawn") then Some form.Spawn
     else if bytes_eq word (codes "insert") then Some form.Insert
     else if bytes_eq word (codes "despawn") then Some form.Despawn
@@ -36,12 +37,7 @@ form_named word =
     else if bytes_eq word (codes "clear") then Some form.Clear
     else if bytes_eq word (codes "advance") then Some form.Advance
     else if bytes_eq word (codes "dump") then Some form.Dump
+    else if bytes_eq word (codes "dumpall") then Some form.DumpAll
     else if bytes_eq word (codes "as") then Some form.As
     else if bytes_eq word (codes "history") then Some form.History
     else None
-
--- whether a first word is one of the language that doesn't run yet
-abbrev pub runs_later : List ℕ → Bool
-runs_later word =
-    if bytes_eq word (codes "depth") then true
-    else bytes_eq word (codes "dumpall")

@@ -4,12 +4,12 @@ use Rattle.std.specs.Str.{is_utf8}
 use Rattle.scene_kinds.specs.Schema.{Kinds}
 use Rattle.scene_commands.specs.declared.command.Command.TheVariants.{Spawn, Insert, Despawn, Remove, SetParent, RemoveParent, DespawnAll, DespawnAllIfAlive, PutResource, RemoveResource}
 use Rattle.scene_script.specs.declared.script_line.Line.{Line}
-use Rattle.scene_script.specs.declared.script_line.Line.TheVariants.{Empty, Kind, Slots, Load, Calls, Do, Begin, Queue, Commit, Undo, Redo, Show, Get, Mark, Changed, Added, Phase, System, Clear, Advance, Dump, As, History}
+use Rattle.scene_script.specs.declared.script_line.Line.TheVariants.{Empty, Kind, Slots, Load, Calls, Depth, Do, Begin, Queue, Commit, Undo, Redo, Show, Get, Mark, Changed, Added, Phase, System, Clear, Advance, Dump, DumpAll, As, History}
 use Rattle.scene_script.specs.declared.form.Form.{Form}
 use Rattle.scene_script.specs.declared.form.Form.TheVariants as form
 use Rattle.scene_script.specs.declared.bad_line.BadLine.{BadLine}
 use Rattle.scene_script.specs.declared.bad_line.BadLine.TheVariants as bad
-use Rattle.scene_script.specs.Forms.{form_named, runs_later}
+use Rattle.scene_script.specs.Forms.{form_named}
 use Rattle.scene_script.specs.Reading.{◌>>=◌, or_bad, next_word, ended, ended_behind}
 use Rattle.scene_script.specs.Cells.{kind_said, cell_said, cells_said, is_text, shape_said, shaped_value_said, target_said}
 use Rattle.scene_script.specs.Systems.{system_said}
@@ -24,7 +24,7 @@ kind_line words = do
   s ← shape_said shape.0
   ended form.Kind shape.1 (Kind name.0 s)
 
--- the limit that a number is, of slots or of calls
+-- the limit that a number is, of slots, of calls or of frames
 abbrev pub limit_of : ℕ → Option ℕ
 limit_of n = if nat_lt 0 n && nat_le n 1048576 then Some n else None
 
@@ -45,6 +45,13 @@ calls_line words = do
   word ← next_word form.Calls words
   n ← limit_said word.0
   ended form.Calls word.1 (Calls n)
+
+-- `depth N`
+abbrev pub depth_line : List (List ℕ) → Result Line BadLine
+depth_line words = do
+  word ← next_word form.Depth words
+  n ← limit_said word.0
+  ended form.Depth word.1 (Depth n)
 
 -- `spawn CELL..`
 abbrev pub spawn_line : Kinds → List (List ℕ) → Result Line BadLine
@@ -160,6 +167,7 @@ line_of_form kinds form.Kind line words = kind_line words
 line_of_form kinds form.Slots line words = slots_line words
 line_of_form kinds form.Load line words = load_line line
 line_of_form kinds form.Calls line words = calls_line words
+line_of_form kinds form.Depth line words = depth_line words
 line_of_form kinds form.Spawn line words = spawn_line kinds words
 line_of_form kinds form.Insert line words = insert_line kinds words
 line_of_form kinds form.Despawn line words = despawn_line words
@@ -185,17 +193,14 @@ line_of_form kinds form.System line words = system_line kinds words
 line_of_form kinds form.Clear line words = ended form.Clear words Clear
 line_of_form kinds form.Advance line words = ended form.Advance words Advance
 line_of_form kinds form.Dump line words = ended form.Dump words Dump
+line_of_form kinds form.DumpAll line words = ended form.DumpAll words DumpAll
 line_of_form kinds form.As line words = as_line words
 line_of_form kinds form.History line words = ended form.History words History
-
--- why a first word names no form
-abbrev pub unknown_word : List ℕ → BadLine
-unknown_word word = if runs_later word then bad.NotYet word else bad.UnknownCommand word
 
 -- a line by its first word and the others
 abbrev pub named_line : Kinds → List ℕ → List ℕ → List (List ℕ) → Result Line BadLine
 named_line kinds line first rest = do
-  f ← or_bad (unknown_word first) (form_named first)
+  f ← or_bad (bad.UnknownCommand first) (form_named first)
   line_of_form kinds f line rest
 
 -- whether a word begins a comment, with # (35)

@@ -16,9 +16,6 @@ pub enum BadLine {
     /// The first word names no line.
     #[error("no command is named {}", quoted(.0))]
     UnknownCommand(Text),
-    /// The first word names a line that doesn't run yet.
-    #[error("`{}` doesn't run yet", quoted(.0))]
-    NotYet(Text),
     #[error("a word is missing in `{0}`")]
     MissingWord(Form),
     /// The first word behind the last one of the form.
@@ -60,7 +57,7 @@ pub enum BadLine {
     #[error("a cell is missing in `{}`", quoted(.0))]
     MissingCell(Text),
     /// A line of the setup behind it.
-    #[error("the setup has ended: kind, slots, load and calls come before all other lines")]
+    #[error("the setup has ended: kind, slots, load, calls and depth come before all other lines")]
     SetupEnded,
     /// A kind or a slot limit behind a load, which gives both.
     #[error("a scene is loaded: its kinds and its slot limit stay")]

@@ -1,8 +1,7 @@
 //! What a line of a script says, or why it is bad.
 ghost use Rattle.std.specs.Prelude.{◌≡◌, IfOk, map};
 ghost use Rattle.scene_script.specs.Reading.{Reads, ended, ended_behind};
-ghost use Rattle.scene_script.specs.Forms.{runs_later};
-ghost use Rattle.scene_script.specs.Script.{line_in, line_of_words, unknown_word, named_line, line_of_form, kind_line, limit_said, slots_line, load_line, calls_line, spawn_line, insert_line, despawn_line, remove_line, parent_line, unparent_line, despawnall_line, despawnifalive_line, put_line, drop_line, get_line, system_line, session_said, as_line};
+ghost use Rattle.scene_script.specs.Script.{line_in, line_of_words, named_line, line_of_form, kind_line, limit_said, slots_line, load_line, calls_line, depth_line, spawn_line, insert_line, despawn_line, remove_line, parent_line, unparent_line, despawnall_line, despawnifalive_line, put_line, drop_line, get_line, system_line, session_said, as_line};
 
 use crate::bad_line::{BadLine, LineError, text_of};
 use crate::cell::{cell_word, cell_words, is_text, kind_word, shape_word, shaped_value_word};
@@ -31,6 +30,8 @@ pub enum Line {
     Load(Text),
     /// The greatest number of calls in the history.
     Calls(Limit),
+    /// How many frames can be undone.
+    Depth(Limit),
     /// A command, which is a frame by itself where none is open.
     Do(Command),
     /// A frame is opened.
@@ -56,6 +57,8 @@ pub enum Line {
     Advance,
     /// The scene text of the world.
     Dump,
+    /// The scene text of the world with all that can be undone and redone.
+    DumpAll,
     /// The session whose calls the next ones are.
     As(SessionNumber),
     /// How many calls the history has.
@@ -142,6 +145,17 @@ fn calls_line(alloc: Global, words: &[&str]) -> Result<Line, LineError>
     };
     let limit = limit_word(alloc, word)?;
     ended(alloc, Form::Calls, rest, Line::Calls(limit))
+}
+
+/// `depth N`.
+fn depth_line(alloc: Global, words: &[&str]) -> Result<Line, LineError>
+    ensures { Reads result (depth_line (map (λ w. w.now) words.now)) }
+{
+    let [word, rest @ ..] = words else {
+        return Err(LineError::Bad(BadLine::MissingWord(Form::Depth)));
+    };
+    let limit = limit_word(alloc, word)?;
+    ended(alloc, Form::Depth, rest, Line::Depth(limit))
 }
 
 /// `spawn CELL..`.
@@ -373,6 +387,7 @@ fn line_of_form(
         Form::Slots => slots_line(alloc, words),
         Form::Load => load_line(alloc, line),
         Form::Calls => calls_line(alloc, words),
+        Form::Depth => depth_line(alloc, words),
         Form::Spawn => spawn_line(alloc, schema, words),
         Form::Insert => insert_line(alloc, schema, words),
         Form::Despawn => despawn_line(alloc, words),
@@ -398,30 +413,9 @@ fn line_of_form(
         Form::Clear => ended(alloc, form, words, Line::Clear),
         Form::Advance => ended(alloc, form, words, Line::Advance),
         Form::Dump => ended(alloc, form, words, Line::Dump),
+        Form::DumpAll => ended(alloc, form, words, Line::DumpAll),
         Form::As => as_line(alloc, words),
         Form::History => ended(alloc, form, words, Line::History),
-    }
-}
-
-/// Whether a first word is one of the language that doesn't run yet.
-fn runs_later(word: &str) -> bool
-    ensures { result ≡ runs_later word.now }
-{
-    match word {
-        "depth" | "dumpall" => true,
-        _ => false,
-    }
-}
-
-/// Why a first word names no form.
-fn unknown_word(alloc: Global, word: &str) -> Result<BadLine, AllocError>
-    ensures { IfOk result (λ reason. reason ≡ unknown_word word.now) }
-{
-    let text = text_of(alloc, word)?;
-    if runs_later(word) {
-        Ok(BadLine::NotYet(text))
-    } else {
-        Ok(BadLine::UnknownCommand(text))
     }
 }
 
@@ -437,7 +431,7 @@ fn named_line(
 {
     match Form::named(first) {
         Some(form) => line_of_form(alloc, schema, form, line, rest),
-        None => Err(LineError::Bad(unknown_word(alloc, first)?)),
+        None => Err(LineError::Bad(BadLine::UnknownCommand(text_of(alloc, first)?))),
     }
 }
 

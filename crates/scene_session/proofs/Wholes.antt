@@ -1,5 +1,5 @@
 -- What an editor's call is to the whole.
-use Rattle.std.proofs.Common.{◌≡◌, List, [], ◌∷◌, Ok, Err, sym, ap, ◌∙◌}
+use Rattle.std.proofs.Common.{◌≡◌, List, [], ◌∷◌, take, Ok, Err, sym, ap, ◌∙◌}
 use Rattle.scene_kinds.specs.declared.entity.Entity.{Entity}
 use Rattle.scene_kinds.specs.declared.refusal.Refusal.{Refusal}
 use Rattle.scene_model.specs.World.{World}
@@ -13,15 +13,16 @@ use Rattle.scene_queue.specs.Queue.{QueueState}
 use Rattle.scene_queue.specs.Frames.{frame_of}
 use Rattle.scene_schedule.specs.Schedule.{ScheduleState}
 use Rattle.scene_schedule.specs.Systems.{advance_of}
-use Rattle.scene_undo.specs.Editor.{EditorState, IsMoved, IsRecordOf, machine_of}
+use Rattle.scene_undo.specs.Editor.{EditorState, IsRecordOf, machine_of}
+use Rattle.scene_undo.specs.Stacks.{IsRedone, IsUndone}
 use Rattle.scene_session.specs.Calls.{Asked, Submit, Advance, Undo, Redo, machine_call, Done, Undone, Redone, Refused, accepted_answer}
 use Rattle.scene_session.specs.Whole.{Whole, whole_of, moved, accepted_whole, advance_record, notes_of, stepped, step}
 
 step_done : (w : Whole) (a : Asked) (es : List Entity) (m : Machine World) → call w.machine (machine_call a) ≡ Ok (es, m) → step w a ≡ (accepted_whole w a m, accepted_answer a es)
 step_done w a es m is = ap (stepped w a) is
 
-moved_is : (from to old_from old_to : List Record) → IsMoved from to old_from old_to → moved old_from old_to ≡ (from, to)
-moved_is from to old_from old_to t = ap (λ l. moved l old_to) t.1.0 ∙ (λ i. (from, sym t.1.1 i))
+moved_is : (r : Record) (from old_from old_to : List Record) → old_from ≡ r ∷ from → moved old_from old_to ≡ (from, r ∷ old_to)
+moved_is r from old_from old_to is = ap (λ l. moved l old_to) is
 
 -- the record of an advance is what was noted of it
 record_is : (schedule : ScheduleState) (w v : World) (es : List Entity) (r : Record) → IsRecordOf (advance_of (act deltas_of) (λ t. t.world) schedule) w v es r
@@ -30,32 +31,35 @@ record_is schedule w v es r of = (λ i. record_of (sym of.tick i) (notes_of (of.
 
 -- an accepted frame of queues
 pub submitted_whole : (old new : EditorState) (queues : List QueueState) (es : List Entity) → call (machine_of old) (machine_call (Submit queues)) ≡ Ok (es, machine_of new)
-    → new.past ≡ frame_record (frame_of queues) old.world ∷ old.past → new.future ≡ [] → step (whole_of old) (Submit queues) ≡ (whole_of new, Done es)
+    → new.past ≡ take old.depth (frame_record (frame_of queues) old.world ∷ old.past) → new.future ≡ []
+    → step (whole_of old) (Submit queues) ≡ (whole_of new, Done es)
 submitted_whole old new queues es is past future = step_done (whole_of old) (Submit queues) es (machine_of new) is
     ∙ (λ i. (record { machine = machine_of new; past = sym past i; future = sym future i }, Done es))
 
 -- an accepted frame of systems
 pub advanced_whole : (old new : EditorState) (schedule : ScheduleState) (es : List Entity) (r : Record)
     → call (machine_of old) (machine_call (Advance schedule)) ≡ Ok (es, machine_of new)
-    → IsRecordOf (advance_of (act deltas_of) (λ t. t.world) schedule) old.world new.world es r → new.past ≡ r ∷ old.past → new.future ≡ []
+    → IsRecordOf (advance_of (act deltas_of) (λ t. t.world) schedule) old.world new.world es r → new.past ≡ take old.depth (r ∷ old.past) → new.future ≡ []
     → step (whole_of old) (Advance schedule) ≡ (whole_of new, Done es)
 advanced_whole old new schedule es r is of past future = step_done (whole_of old) (Advance schedule) es (machine_of new) is
-    ∙ ap (λ (x : Record). (record { machine = machine_of new; past = x ∷ old.past; future = [] }, Done es)) (record_is schedule old.world new.world es r of)
+    ∙ ap (λ (x : Record). (record { machine = machine_of new; past = take old.depth (x ∷ old.past); future = [] }, Done es)) (record_is schedule old.world new.world es r of)
     ∙ (λ i. (record { machine = machine_of new; past = sym past i; future = sym future i }, Done es))
 
 -- an accepted undo
-pub undone_whole : (old new : EditorState) → undo (machine_of old) ≡ Ok (tt, machine_of new) → IsMoved new.past new.future old.past old.future
+pub undone_whole : (old new : EditorState) → undo (machine_of old) ≡ Ok (tt, machine_of new) → IsUndone old.past old.future new.past new.future
     → step (whole_of old) Undo ≡ (whole_of new, Undone)
-undone_whole old new is gone = let m = moved_is new.past new.future old.past old.future gone in
+undone_whole old new is gone = let m = moved_is gone.0 new.past old.past old.future gone.1.0 in
     step_done (whole_of old) Undo [] (machine_of new) (ap spawning_none is)
     ∙ (λ i. (record { machine = machine_of new; past = (m i).0; future = (m i).1 }, Undone))
+    ∙ (λ i. (record { machine = machine_of new; past = new.past; future = sym gone.1.1 i }, Undone))
 
 -- an accepted redo
-pub redone_whole : (old new : EditorState) → redo (machine_of old) ≡ Ok (tt, machine_of new) → IsMoved new.future new.past old.future old.past
-    → step (whole_of old) Redo ≡ (whole_of new, Redone)
-redone_whole old new is gone = let m = moved_is new.future new.past old.future old.past gone in
+pub redone_whole : (old new : EditorState) → redo (machine_of old) ≡ Ok (tt, machine_of new)
+    → IsRedone old.depth old.past old.future new.past new.future → step (whole_of old) Redo ≡ (whole_of new, Redone)
+redone_whole old new is gone = let m = moved_is gone.0 new.future old.future old.past gone.1.0 in
     step_done (whole_of old) Redo [] (machine_of new) (ap spawning_none is)
-    ∙ (λ i. (record { machine = machine_of new; past = (m i).1; future = (m i).0 }, Redone))
+    ∙ (λ i. (record { machine = machine_of new; past = take old.depth (m i).1; future = (m i).0 }, Redone))
+    ∙ (λ i. (record { machine = machine_of new; past = sym gone.1.1 i; future = new.future }, Redone))
 
 -- a refused call
 pub refused_whole : (old new : EditorState) (a : Asked) (r : Refusal) → call (machine_of old) (machine_call a) ≡ Err r → new ≡ old → step (whole_of old) a ≡ (whole_of new, Refused r)

@@ -1,6 +1,7 @@
 pub mod History
 pub mod Calls
 pub mod Whole
+pub mod Codes
 pub mod State
 pub mod Queries
 pub mod Session

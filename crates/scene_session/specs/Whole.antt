@@ -1,5 +1,5 @@
 -- The machine of saved worlds, with the records that an editor keeps of its frames, and its one step.
-use Rattle.std.specs.Prelude.{◌≡◌, List, [], ◌∷◌, Ok, Err}
+use Rattle.std.specs.Prelude.{◌≡◌, List, [], ◌∷◌, take, Ok, Err}
 use Rattle.scene_kinds.specs.declared.entity.Entity.{Entity}
 use Rattle.scene_kinds.specs.Answers.{Outcome}
 use Rattle.scene_model.specs.World.{World}
@@ -17,7 +17,8 @@ use Rattle.scene_undo.specs.Editor.{EditorState, machine_of}
 use Rattle.scene_session.specs.Calls.{Asked, Submit, Advance, Undo, Redo, machine_call, Answer, Refused, accepted_answer, asked, told}
 use Rattle.scene_session.specs.declared.entry.Entry.{Entry}
 
--- the machine, the records of the frames before, the newest first, and those of the frames that were undone, the next one first
+-- the machine, the records that are kept of the frames before, the newest first, and those of the frames that were undone, the next
+-- one first
 pub record Whole : Type 0 where
   pub machine : Machine World
   pub past : List Record
@@ -42,16 +43,20 @@ abbrev pub moved : List Record → List Record → List Record × List Record
 moved [] to = ([], to)
 moved (r ∷ from) to = (from, r ∷ to)
 
+-- the newest of these records, as many as the machine has depth
+abbrev pub newest : Whole → List Record → List Record
+newest w rs = take w.machine.depth rs
+
 -- the whole after an accepted frame: its record is kept, and those of what was undone are forgotten
 abbrev pub framed_whole : Whole → Record → Machine World → Whole
-framed_whole w r m = record { machine = m; past = r ∷ w.past; future = [] }
+framed_whole w r m = record { machine = m; past = newest w (r ∷ w.past); future = [] }
 
 -- the whole after an accepted call that made this of the machine
 abbrev pub accepted_whole : Whole → Asked → Machine World → Whole
 accepted_whole w (Submit queues) m = framed_whole w (frame_record (frame_of queues) w.machine.now) m
 accepted_whole w (Advance schedule) m = framed_whole w (advance_record schedule w.machine.now) m
 accepted_whole w Undo m = record { machine = m; past = (moved w.past w.future).0; future = (moved w.past w.future).1 }
-accepted_whole w Redo m = record { machine = m; past = (moved w.future w.past).1; future = (moved w.future w.past).0 }
+accepted_whole w Redo m = record { machine = m; past = newest w (moved w.future w.past).1; future = (moved w.future w.past).0 }
 
 -- the whole and the answer, by what the call came to on the machine; a refusal is an answer, and leaves the whole
 abbrev pub stepped : Whole → Asked → Outcome (List Entity) (Machine World) → Whole × Answer

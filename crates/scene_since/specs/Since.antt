@@ -18,10 +18,6 @@ pub record IsNew (e : EditorState) : Type 0 where
   pub past : e.past ≡ []
   pub future : e.future ≡ []
 
--- the editor that is made of a world
-abbrev pub new_editor : World → EditorState
-new_editor w = record { world = w; past = []; future = []; rewinds = 0 }
-
 -- the machine after the first entries of a state's history
 abbrev pub machine_after : StateView → List Entry → Machine World
 machine_after s before = (replayed s.opening before).machine

@@ -1,6 +1,8 @@
 //! States of which the law speaks.
 ghost use Rattle.std.specs.Prelude.{◌≡◌, ◌≤◌, []};
-ghost use Rattle.scene_since.specs.Since.{IsNew, new_editor};
+ghost use Rattle.scene_machine.specs.Machine.{most_frames};
+ghost use Rattle.scene_undo.specs.Editor.{new_editor};
+ghost use Rattle.scene_since.specs.Since.{IsNew};
 
 use scene_session::State;
 use scene_undo::Editor;
@@ -11,7 +13,7 @@ use std::alloc::Global;
 /// lists that it answers tell two worlds apart (docs/SESSIONS.md, "What it has seen"). It takes no memory.
 pub fn new_state(alloc: Global, world: World, limit: u32) -> State
     requires { (1 ≤ limit) × (limit ≤ 1048576) }
-    ensures state { result ≡ record { opening = record { editor = new_editor world.world; limit = limit }; history = [] } }
+    ensures state { result ≡ record { opening = record { editor = new_editor world.world most_frames; limit = limit }; history = [] } }
     ensures new { IsNew result.opening.editor }
 {
     State::new(alloc, Editor::new(alloc, world), limit)

@@ -1,15 +1,11 @@
 -- What an editor keeps from one call to the next.
-use Rattle.std.proofs.Common.{◌≡◌, ◌-◌, List, [], ◌∷◌, ◌++◌, length, reverse, ap, sym, ◌∙◌, Some, slice_get}
-use Rattle.scene_alloc.specs.Ends.{front}
-use Rattle.scene_alloc.proofs.SlotLaws.{push-last}
+use Rattle.std.proofs.Common.{◌≡◌, ℕ, zero, suc, List, [], ◌∷◌, take, sym, subst}
 use Rattle.scene_model.specs.World.{World}
 use Rattle.scene_world.specs.Room.{Room}
 use Rattle.scene_journal.specs.Records.{Record, raised, redone, undone}
-use Rattle.scene_deltas.proofs.Ends.{last_is}
 use Rattle.scene_deltas.proofs.Truncated.{each_ready, each_ready_on}
 use Rattle.scene_journal.proofs.FoundRecords.{fits_back_from, fits_on_from}
 use Rattle.scene_undo.specs.Kept.{CanUndoAll, CanRedoAll}
-use Rattle.scene_undo.proofs.Machines.{reverse_push}
 
 -- ---- where it is known that records can be undone and redone, it is found how
 
@@ -34,14 +30,21 @@ found room past future w known =
     let all : Type 0 = CanUndoAll room past w × CanRedoAll room future w in
     (each_undo all known room past w (λ p. p.0), each_redo all known room future w (λ p. p.1))
 
--- ---- stacks whose last record is the first that contracts see
+-- the newest records of a past can be undone where all can
+pub newest : (room : Room) (depth : ℕ) (rs : List Record) (w : World) → CanUndoAll room rs w → CanUndoAll room (take depth rs) w
+newest room zero rs w can = tt
+newest room (suc n) [] w can = tt
+newest room (suc n) (r ∷ rs) w can = (can.0, newest room n rs (undone r w) can.1)
 
-pub first_of : (rs : List Record) (r : Record) → slice_get rs (length rs - 1) ≡ Some r → reverse rs ≡ r ∷ reverse (front rs)
-first_of rs r is = ap reverse (sym (push-last rs r (sym (last_is rs) ∙ is))) ∙ reverse_push (front rs) r
+-- what can be undone and redone, in an equal world with equal room
+pub elsewhere : (room other : Room) (w v : World) (past future : List Record) → other ≡ room → v ≡ w
+    → CanUndoAll room past w × CanRedoAll room future w → CanUndoAll other past v × CanRedoAll other future v
+elsewhere room other w v past future rooms worlds both =
+    subst (λ r. CanUndoAll r past v × CanRedoAll r future v) (sym rooms)
+    (subst (λ u. CanUndoAll room past u × CanRedoAll room future u) (sym worlds) both)
 
-pub popped : (rs left : List Record) (r : Record) → rs ≡ left ++ r ∷ [] → reverse rs ≡ r ∷ reverse left
-popped rs left r is = ap reverse is ∙ reverse_push left r
-
--- the last record is the one that is popped
-pub same_last : (rs left : List Record) (r q : Record) → slice_get rs (length rs - 1) ≡ Some q → rs ≡ left ++ r ∷ [] → q ≡ r
-same_last rs left r q is gone = let both : q ∷ reverse (front rs) ≡ r ∷ reverse left = sym (first_of rs q is) ∙ popped rs left r gone in cc
+-- and of equal records
+pub of_equal : (room : Room) (w : World) (past other_past future other_future : List Record) → other_past ≡ past → other_future ≡ future
+    → CanUndoAll room past w × CanRedoAll room future w → CanUndoAll room other_past w × CanRedoAll room other_future w
+of_equal room w past other_past future other_future pasts futures both =
+    (subst (λ rs. CanUndoAll room rs w) (sym pasts) both.0, subst (λ rs. CanRedoAll room rs w) (sym futures) both.1)

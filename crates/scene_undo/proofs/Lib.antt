@@ -1,6 +1,7 @@
 pub mod EditorLaws
 pub mod Kept
 pub mod Machines
-pub mod Stacks
+pub mod StackLaws
+pub mod Turns
 pub mod TwoStacks
 pub mod WholeFrames

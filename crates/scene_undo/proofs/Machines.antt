@@ -1,15 +1,9 @@
 -- What an editor's machine becomes where a record goes to its past, or from it.
-use Rattle.std.proofs.Common.{◌≡◌, ℕ, ◌+◌, true, false, List, [], ◌∷◌, ◌++◌, reverse, refl, ap, sym, subst, ◌∙◌, Ok, nat_eq, if◌then◌else◌}
-use Rattle.std.proofs.lemmas.List.{reverse-append}
-use Rattle.std.specs.Prelude.{Err}
+use Rattle.std.proofs.Common.{◌≡◌, ℕ, zero, suc, ◌+◌, true, false, List, [], ◌∷◌, take, refl, ap, sym, subst, ◌∙◌, Ok, nat_eq, if◌then◌else◌}
 use Rattle.std.proofs.lemmas.Bool.{eqb-true}
-use Rattle.scene_kinds.specs.declared.entity.Entity.{Entity}
-use Rattle.scene_kinds.specs.declared.refusal.Refusal.{Refusal}
 use Rattle.scene_kinds.specs.Answers.{refuse}
 use Rattle.scene_kinds.specs.declared.fault.Fault.TheVariants.{TickFull}
-use Rattle.scene_machine.specs.Frame.{Submit, call, frame}
-use Rattle.scene_machine.specs.Machine.{Machine, submitted, undo, redo}
-use Rattle.scene_machine.specs.Queue.{Request}
+use Rattle.scene_machine.specs.Machine.{Machine, accepted, undo, redo}
 use Rattle.scene_model.specs.World.{World}
 use Rattle.scene_model.specs.Valid.{IsValid}
 use Rattle.scene_world.specs.Room.{Room, Holds}
@@ -19,9 +13,12 @@ use Rattle.scene_undo.specs.Editor.{machine_of, worlds_along}
 use Rattle.scene_undo.specs.Kept.{CanUndo, CanRedo, CanUndoAll, CanRedoAll}
 use Rattle.scene_undo.proofs.Kept.{undone_can, redone_can}
 
--- the last of a stack is the first of the list that contracts see
-pub reverse_push : (rs : List Record) (r : Record) → reverse (rs ++ r ∷ []) ≡ r ∷ reverse rs
-reverse_push rs r = reverse-append rs (r ∷ [])
+-- the worlds of the newest records are the newest worlds
+pub along_newest : (step : Record → World → World) (depth : ℕ) (rs : List Record) (w : World)
+    → worlds_along step (take depth rs) w ≡ take depth (worlds_along step rs w)
+along_newest step zero rs w = refl
+along_newest step (suc n) [] w = refl
+along_newest step (suc n) (r ∷ rs) w = ap (λ ws. step r w ∷ ws) (along_newest step n rs (step r w))
 
 module _ (room : Room) (r : Record) (w : World) (valid : IsValid w) (held : Holds room w) where
   -- after an undo the world of the record comes first in the future
@@ -42,24 +39,26 @@ module _ (room : Room) (r : Record) (w : World) (valid : IsValid w) (held : Hold
 
 -- ---- the machine after an undo, and after a redo
 
-module _ (room : Room) (r : Record) (w : World) (rest others : List Record) (rewinds : ℕ) (valid : IsValid w) (held : Holds room w) where
+module _ (room : Room) (r : Record) (w : World) (rest others : List Record) (rewinds depth : ℕ) (valid : IsValid w) (held : Holds room w) where
   abbrev undone_once : List World → Machine World
-  undone_once ws = record { past = worlds_along undone rest (undone r w); now = undone r w; future = ws; rewinds = rewinds + 1 }
+  undone_once ws =
+      record { past = worlds_along undone rest (undone r w); now = undone r w; future = ws; rewinds = rewinds + 1; depth = depth }
 
   pub machine_undone : CanUndo room r w → nat_eq rewinds 18446744073709551615 ≡ false
-      → undo (machine_of (record { world = w; past = r ∷ rest; future = others; rewinds = rewinds }))
-      ≡ Ok (tt, machine_of (record { world = undone r w; past = rest; future = r ∷ others; rewinds = rewinds + 1 }))
+      → undo (machine_of (record { world = w; past = r ∷ rest; future = others; rewinds = rewinds; depth = depth }))
+      ≡ Ok (tt, machine_of (record { world = undone r w; past = rest; future = r ∷ others; rewinds = rewinds + 1; depth = depth }))
   machine_undone can few =
       ap (λ b. if b then refuse TickFull else Ok (tt, undone_once (w ∷ worlds_along redone others w))) few
       ∙ ap (λ ws. Ok (tt, undone_once ws)) (sym (undone_worlds room r w valid held others can))
 
   abbrev redone_once : List World → Machine World
-  redone_once ws = record { past = ws; now = redone r w; future = worlds_along redone rest (redone r w); rewinds = rewinds }
+  redone_once ws = record { past = ws; now = redone r w; future = worlds_along redone rest (redone r w); rewinds = rewinds; depth = depth }
 
   pub machine_redone : CanRedo room r w
-      → redo (machine_of (record { world = w; past = others; future = r ∷ rest; rewinds = rewinds }))
-      ≡ Ok (tt, machine_of (record { world = redone r w; past = r ∷ others; future = rest; rewinds = rewinds }))
-  machine_redone can = ap (λ ws. Ok (tt, redone_once ws)) (sym (redone_worlds room r w valid held others can))
+      → redo (machine_of (record { world = w; past = others; future = r ∷ rest; rewinds = rewinds; depth = depth }))
+      ≡ Ok (tt, machine_of (record { world = redone r w; past = take depth (r ∷ others); future = rest; rewinds = rewinds; depth = depth }))
+  machine_redone can = ap (λ ws. Ok (tt, redone_once ws))
+      (ap (take depth) (sym (redone_worlds room r w valid held others can)) ∙ sym (along_newest undone depth (r ∷ others) (redone r w)))
 
 -- numbers that aren't equal are told apart
 pub told_apart : (m n : ℕ) → (m ≡ n → ⊥) → nat_eq m n ≡ false
@@ -70,15 +69,10 @@ told_apart m n differ = elim (nat_eq m n) as (λ b. nat_eq m n ≡ b → b ≡ f
 
 -- ---- the machine after a frame
 
-module _ (w v : World) (past future : List Record) (rewinds : ℕ) (queues : List (List Request)) where
-  pub machine_submitted : (r : Record) (es : List Entity) → undone r v ≡ w → frame queues w ≡ Ok (es, v)
-      → call (machine_of (record { world = w; past = past; future = future; rewinds = rewinds })) (Submit queues)
-      ≡ Ok (es, machine_of (record { world = v; past = r ∷ past; future = []; rewinds = rewinds }))
-  machine_submitted r es back is =
-      let m = machine_of (record { world = w; past = past; future = future; rewinds = rewinds }) in
-      ap (submitted m) is ∙ (λ i. Ok
-      (es, record { past = sym back i ∷ worlds_along undone past (sym back i); now = v; future = []; rewinds = rewinds }))
-
-  pub machine_refused : (r : Refusal) → frame queues w ≡ Err r
-      → call (machine_of (record { world = w; past = past; future = future; rewinds = rewinds })) (Submit queues) ≡ Err r
-  machine_refused r is = ap (submitted (machine_of (record { world = w; past = past; future = future; rewinds = rewinds }))) is
+-- where undoing the frame's record gives the world from before
+pub machine_framed : (w v : World) (past future : List Record) (rewinds depth : ℕ) (r : Record) → undone r v ≡ w
+    → accepted (machine_of (record { world = w; past = past; future = future; rewinds = rewinds; depth = depth })) v
+    ≡ machine_of (record { world = v; past = take depth (r ∷ past); future = []; rewinds = rewinds; depth = depth })
+machine_framed w v past future rewinds depth r back =
+    (λ i. record { past = take depth (sym back i ∷ worlds_along undone past (sym back i)); now = v; future = []; rewinds = rewinds; depth = depth })
+    ∙ (λ i. record { past = sym (along_newest undone depth (r ∷ past) v) i; now = v; future = []; rewinds = rewinds; depth = depth })

@@ -1,40 +1,38 @@
 -- An editor of parts: what it keeps, and the first fault of its records.
-use Rattle.std.proofs.Common.{◌≡◌, ◌+◌, ◌<◌, ◌^◌, ℕ, List, ◌∷◌, ◌++◌, length, reverse, Result, Ok, IfErr, IsErrAnd, refl, ap, subst, sym, ◌∙◌, arith}
+use Rattle.std.proofs.Common.{◌≡◌, ◌+◌, ◌<◌, ℕ, List, ◌∷◌, length, Result, Ok, IfErr, IsErrAnd, refl, ap, subst, sym, ◌∙◌, arith}
 use Rattle.std.specs.Prelude.{Err}
 use Rattle.std.proofs.lemmas.List.{length-append}
 use Rattle.scene_kinds.specs.declared.refusal.Refusal.{Refusal}
-use Rattle.scene_kinds.specs.declared.fault.Fault.{Fault}
 use Rattle.scene_kinds.specs.declared.fault.Fault.TheVariants.{BadRecord, NoMemory}
 use Rattle.scene_kinds.specs.Answers.{refusal_of}
 use Rattle.scene_model.specs.World.{World}
 use Rattle.scene_world.specs.Room.{Room, IsWider}
-use Rattle.scene_journal.specs.Records.{Record, redone, undone}
-use Rattle.scene_deltas.proofs.Lists.{may_turned}
+use Rattle.scene_journal.specs.Records.{Record}
 use Rattle.scene_undo.specs.declared.direction.Direction.{Direction}
 use Rattle.scene_undo.specs.declared.direction.Direction.TheVariants.{Undo, Redo}
 use Rattle.scene_undo.specs.Direction.{AllFit, CanAll}
-use Rattle.scene_undo.specs.Kept.{CanRedo, CanRedoAll, CanUndo, CanUndoAll}
-use Rattle.scene_undo.specs.Parts.{IsFaultOf, IsFirstFault, NamesFrame}
+use Rattle.scene_undo.specs.Kept.{CanRedoAll, CanUndoAll}
+use Rattle.scene_undo.specs.Parts.{IsFirstFault, NamesFrame}
+use Rattle.scene_verdicts.specs.Faults.{IsFaultOf}
 use Rattle.scene_undo.proofs.Kept.{undo_wider}
-use Rattle.scene_undo.proofs.Stacks.{no_fault}
+use Rattle.scene_undo.proofs.Turns.{no_fault}
 
--- both stacks as the editor keeps them
+-- both lists as the editor keeps them
 pub kept : (room wider : Room) (past future : List Record) (w : World) → IsWider room wider → CanAll Undo room past w → CanAll Redo wider future w
-    → CanUndoAll wider (reverse past) w × CanRedoAll wider (reverse future) w
-kept room wider past future w wide undoes redoes =
-    (undo_wider room wider (reverse past) w wide (may_turned (CanUndo room) undone past w undoes), may_turned (CanRedo wider) redone future w redoes)
+    → CanUndoAll wider past w × CanRedoAll wider future w
+kept room wider past future w wide undoes redoes = (undo_wider room wider past w wide undoes, redoes)
 
--- the number of a frame at fault is one of the stack
+-- the number of a frame at fault is one of the list
 pub in_range : (way : Direction) (rs : List Record) (w : World) (r : Refusal) → NamesFrame (IsFirstFault way rs w) r → (frame delta : ℕ)
     → r.fault ≡ BadRecord frame delta → frame < length rs
 in_range way rs w r named frame delta is =
     let found = named (λ none. absurd (let both : BadRecord frame delta ≡ NoMemory = sym is ∙ ap (λ (q : Refusal). q.fault) none in cc)) in
     let same : BadRecord found.0 found.1 ≡ BadRecord frame delta = sym (ap (λ (q : Refusal). q.fault) found.2.0) ∙ is in
     let number : found.0 ≡ frame = cc in
-    let behind = found.2.1.number in
+    let before = found.2.1.number in
     let all : length rs ≡ length found.2.1.before + length (found.2.1.unfit ∷ found.2.1.behind) =
     ap length found.2.1.cut ∙ length-append found.2.1.before (found.2.1.unfit ∷ found.2.1.behind) in
-    omega (arith, number, behind, all)
+    omega (arith, number, before, all)
 
 pub past_fault : (past future : List Record) (w : World) (r : Refusal) → NamesFrame (IsFirstFault Undo past w) r
     → NamesFrame (IsFaultOf past future w) r

@@ -1,5 +1,5 @@
 -- A frame that a recorder accepted, as a record: the deltas that it noted, and the way back.
-use Rattle.std.proofs.Common.{◌≡◌, ℕ, ◌+◌, List, [], ◌∷◌, ◌++◌, refl, ap, sym, subst, ◌∙◌, Option, Some, None, Ok}
+use Rattle.std.proofs.Common.{◌≡◌, ℕ, ◌+◌, List, [], ◌∷◌, ◌++◌, take, refl, ap, sym, subst, ◌∙◌, Option, Some, None, Ok}
 use Rattle.std.specs.Prelude.{Result, Err, IfOk, OnOk}
 use Rattle.scene_kinds.specs.declared.entity.Entity.{Entity}
 use Rattle.scene_kinds.specs.declared.refusal.Refusal.{Refusal}
@@ -98,9 +98,10 @@ record_of_queues queues w v es r is =
     (after_whole deltas_of 0 queues (record { world = raised w; notes = [] }) (record { world = v; notes = r.deltas }) es is.noted)))
 
 -- and where it comes first in the past, so does the frame's
-pub record_kept : (queues : List (List Request)) (w v : World) (new_past old_past new_future : List Record) (result : Result Made Refusal)
-    → IfOk result (λ m. (r : Record) × (IsRecordOf (queues_from (act deltas_of) 0 queues) w v m.entities.items r × ((new_past ≡ r ∷ old_past) × (new_future ≡ []))))
-    → OnOk result ((new_past ≡ frame_record queues w ∷ old_past) × (new_future ≡ []))
-record_kept queues w v new_past old_past new_future (Ok m) h =
-    (h.1.1.0 ∙ ap (λ r. r ∷ old_past) (record_of_queues queues w v m.entities.items h.0 h.1.0), h.1.1.1)
-record_kept queues w v new_past old_past new_future (Err r) h = tt
+pub record_kept : (queues : List (List Request)) (w v : World) (depth : ℕ) (new_past old_past new_future : List Record) (result : Result Made Refusal)
+    → IfOk result (λ m. (r : Record) × (IsRecordOf (queues_from (act deltas_of) 0 queues) w v m.entities.items r
+    × ((new_past ≡ take depth (r ∷ old_past)) × (new_future ≡ []))))
+    → OnOk result ((new_past ≡ take depth (frame_record queues w ∷ old_past)) × (new_future ≡ []))
+record_kept queues w v depth new_past old_past new_future (Ok m) h =
+    (h.1.1.0 ∙ ap (λ r. take depth (r ∷ old_past)) (record_of_queues queues w v m.entities.items h.0 h.1.0), h.1.1.1)
+record_kept queues w v depth new_past old_past new_future (Err r) h = tt

@@ -1,7 +1,7 @@
 -- Undoing and redoing records, told at once.
-use Rattle.std.specs.Prelude.{ℕ, List}
+use Rattle.std.specs.Prelude.{ℕ, List, reverse}
 use Rattle.scene_model.specs.World.{World}
-use Rattle.scene_model.specs.RawLists.{MayAll, MayUndoAll, after_all, before_all}
+use Rattle.scene_model.specs.RawLists.{MayAll, after_all}
 use Rattle.scene_world.specs.Room.{Room}
 use Rattle.scene_journal.specs.Faults.{IsFaultBack, IsFaultOn}
 use Rattle.scene_journal.specs.Records.{Record, redone, undone, RecordFitsBack, RecordFitsOn}
@@ -34,26 +34,21 @@ abbrev pub IsFault : Direction → Record → World → ℕ → Type 0
 IsFault Undo = IsFaultBack
 IsFault Redo = IsFaultOn
 
--- ---- a stack of records, whose last goes first
+-- ---- records, in the order in which they go
+
+-- the records of a list that begins with the oldest
+abbrev pub in_turn : Direction → List Record → List Record
+in_turn Undo rs = reverse rs
+in_turn Redo rs = rs
 
 -- the world after all of them
-abbrev pub after_stack : Direction → List Record → World → World
-after_stack way rs w = before_all (step way) rs w
+abbrev pub after : Direction → List Record → World → World
+after way rs w = after_all (step way) rs w
 
 -- each fits at its turn
 abbrev pub AllFit : Direction → List Record → World → Type 0
-AllFit way rs w = MayUndoAll (Fits way) (step way) rs w
+AllFit way rs w = MayAll (Fits way) (step way) rs w
 
 -- each can go at its turn
 abbrev pub CanAll : Direction → Room → List Record → World → Type 0
-CanAll way room rs w = MayUndoAll (Can way room) (step way) rs w
-
--- ---- the way home, from the first on
-
--- the world after all of them
-abbrev pub after_list : Direction → List Record → World → World
-after_list way rs w = after_all (step way) rs w
-
--- each can go at its turn
-abbrev pub CanEach : Direction → Room → List Record → World → Type 0
-CanEach way room rs w = MayAll (Can way room) (step way) rs w
+CanAll way room rs w = MayAll (Can way room) (step way) rs w

@@ -3,3 +3,4 @@ pub mod Direction
 pub mod Editor
 pub mod Kept
 pub mod Parts
+pub mod Stacks

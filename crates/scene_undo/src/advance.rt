@@ -1,5 +1,5 @@
 //! Advances: the systems of a schedule as one frame of an editor.
-ghost use Rattle.std.specs.Prelude.{◌≡◌, ◌∷◌, [], IfOk, OnErr};
+ghost use Rattle.std.specs.Prelude.{◌≡◌, ◌∷◌, [], take, IfOk, OnErr};
 ghost use Rattle.scene_kinds.specs.Answers.{Answers};
 ghost use Rattle.scene_machine.specs.Frame.{Advance as Advancing, call};
 ghost use Rattle.scene_model.specs.Perform.{perform};
@@ -33,7 +33,7 @@ impl Editor {
         ensures copy { IfOk result (λ m. m.copy.items ≡ m.entities.items) }
         ensures records { IfOk result (λ m. (r : Record)
             × (IsRecordOf (advance_of (act deltas_of) (λ t. t.world) schedule.now) self.old.world self.new.world m.entities.items r
-            × ((self.new.past ≡ r ∷ self.old.past) × (self.new.future ≡ [])))) }
+            × ((self.new.past ≡ take self.old.depth (r ∷ self.old.past)) × (self.new.future ≡ [])))) }
         ensures same { OnErr result (self.new ≡ self.old) }
     {
         let runner = Alone;
@@ -54,7 +54,7 @@ impl Editor {
         ensures copy { IfOk result (λ m. m.copy.items ≡ m.entities.items) }
         ensures records { IfOk result (λ m. (r : Record)
             × (IsRecordOf (advance_of (act deltas_of) (λ t. t.world) schedule.now) self.old.world self.new.world m.entities.items r
-            × ((self.new.past ≡ r ∷ self.old.past) × (self.new.future ≡ [])))) }
+            × ((self.new.past ≡ take self.old.depth (r ∷ self.old.past)) × (self.new.future ≡ [])))) }
         ensures same { OnErr result (self.new ≡ self.old) }
     {
         let alloc = self.alloc;

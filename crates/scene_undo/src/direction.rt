@@ -1,12 +1,15 @@
 //! Which way records are gone through.
 ghost use Rattle.std.specs.Prelude.{◌≡◌, OnOk, OnErr, IfErr};
 ghost use Rattle.scene_journal.specs.Faults.{Names};
+ghost use Rattle.scene_newest.specs.Newest.{Covers};
 ghost use Rattle.scene_world.specs.Room.{IsWider};
+ghost use Rattle.scene_undo.specs.declared.direction.Direction.TheVariants.{Undo};
 ghost use Rattle.scene_undo.specs.Direction.{Can, IsFault, opposite, step};
 
 use crate::records::{redo_record, undo_record};
 use scene_journal::FrameRecord;
 use scene_kinds::Refusal;
+use scene_newest::NewestCells;
 use scene_world::World;
 use std::alloc::AllocError;
 
@@ -28,15 +31,23 @@ impl Direction {
         }
     }
 
-    /// Undoes or redoes a record where it fits; the world makes room for what comes.
-    pub(crate) fn check(self, draft: &mut World, frame: &FrameRecord) -> Result<(), Refusal>
+    /// Undoes or redoes a record where it fits; the world makes room for what comes. An undo looks for cells that were changed
+    /// too late only where they are listed.
+    pub(crate) fn check(
+        self,
+        draft: &mut World,
+        frame: &FrameRecord,
+        newest: &mut NewestCells,
+    ) -> Result<(), Refusal>
+        requires { self ≡ Undo → Covers newest.old draft.old.world }
         ensures can { OnOk result (Can self draft.new.room frame.now draft.old.world) }
         ensures done { OnOk result (draft.new.world ≡ step self frame.now draft.old.world) }
+        ensures covers { OnOk result (self ≡ Undo → Covers newest.new draft.new.world) }
         ensures refused { IfErr result (Names (IsFault self frame.now draft.old.world)) }
         ensures wide { IsWider draft.old.room draft.new.room }
     {
         match self {
-            Direction::Undo => frame.undo_checked(draft),
+            Direction::Undo => frame.undo_checked_with(draft, newest),
             Direction::Redo => frame.redo_checked(draft),
         }
     }

@@ -1,9 +1,9 @@
 //! The editor: a world with the records of its frames, and how a frame is done on a world with its record.
-ghost use Rattle.std.specs.Prelude.{◌≡◌, ◌≢◌, ◌≤◌, ◌∷◌, [], length, reverse, Ok, Err, IfOk, IfErr, OnOk, OnErr};
+ghost use Rattle.std.specs.Prelude.{◌≡◌, ◌≢◌, ◌≤◌, ◌∷◌, [], length, reverse, take, Ok, Err, IfOk, IfErr, OnOk, OnErr};
 ghost use Rattle.scene_kinds.specs.Answers.{Answers, refusal_of};
 ghost use Rattle.scene_kinds.specs.declared.fault.Fault.TheVariants.{NoMemory};
 ghost use Rattle.scene_machine.specs.Frame.{Submit, call, framed};
-ghost use Rattle.scene_machine.specs.Machine.{opening, redo, submitted, undo};
+ghost use Rattle.scene_machine.specs.Machine.{most_frames, opening, opening_with, redo, submitted, undo};
 ghost use Rattle.scene_world.specs.Room.{IsWider};
 ghost use Rattle.scene_queue.specs.Frames.{frame_of};
 ghost use Rattle.scene_journal.specs.Frames.{frame_record};
@@ -15,15 +15,18 @@ ghost use Rattle.scene_journal.specs.Recorder.{opening_of, staged_of};
 ghost use Rattle.scene_undo.specs.declared.direction.Direction.TheVariants.{Undo, Redo};
 ghost use Rattle.scene_undo.specs.Cursor.{cursor_of, since};
 ghost use Rattle.scene_undo.specs.Direction.{AllFit};
-ghost use Rattle.scene_undo.specs.Editor.{IsMoved, IsRecordOf, entities_of, machine_of};
+ghost use Rattle.scene_undo.specs.Editor.{IsRecordOf, at_depth, entities_of, machine_of, new_editor};
 ghost use Rattle.scene_undo.specs.Kept.{CanUndo};
-ghost use Rattle.scene_undo.specs.Parts.{IsFaultOf, NamesFrame};
+ghost use Rattle.scene_undo.specs.Parts.{NamesFrame};
+ghost use Rattle.scene_undo.specs.Stacks.{IsRedone, IsUndone};
+ghost use Rattle.scene_verdicts.specs.Faults.{IsFaultOf};
 
 use crate::cursor::Cursor;
 use crate::direction::Direction;
 use crate::made::Made;
-use crate::parts::{after_frames, try_stack};
+use crate::parts::{after_frames, try_records};
 use crate::records::{redo_record, undo_record};
+use crate::stacks::Stacks;
 use scene_deltas::Delta;
 use scene_journal::{FrameRecord, Recorder};
 use scene_kinds::{Fault, Refusal, Schema};
@@ -35,31 +38,31 @@ use std::marker::Model;
 /// A world that frames change, all or nothing, with every change taken back and made again on demand
 /// (docs/JOURNAL.md, "The editor").
 ///
-/// Contracts see the world, the records of the frames before it and of those that were undone, and the count of undos;
-/// `machine_of` makes of them the machine of saved worlds. Nothing but the world now is kept as a world.
+/// Contracts see the world, the records of the frames before it and of those that were undone, the count of undos, and the
+/// depth: of how many frames a record is kept. `machine_of` makes of them the machine of saved worlds. Nothing but the world
+/// now is kept as a world.
 #[derive(Drop, Debug)]
 pub struct Editor {
     pub(crate) alloc: Global,
     world: World,
-    /// The records of the frames so far, the newest last.
-    past: Vec<FrameRecord>,
-    /// Those of the frames that were undone, the next one last.
-    future: Vec<FrameRecord>,
+    stacks: Stacks,
     rewinds: u64,
 }
 
 impl Model for Editor {
-    ghost use Rattle.std.specs.Prelude.{reverse};
     ghost use Rattle.scene_undo.specs.Editor.{EditorState};
     ghost use Rattle.scene_undo.specs.Kept.{CanRedoAll, CanUndoAll};
 
     ghost Value = { EditorState };
 
-    ghost view = { λ e. record { world = e.world.world; past = reverse e.past.items; future = reverse e.future.items; rewinds = e.rewinds } };
+    ghost view = { λ e. record { world = e.world.world; past = e.stacks.past; future = e.stacks.future; rewinds = e.rewinds; depth = e.stacks.depth } };
 
     // Each record can be undone, or redone, at its turn, with the memory that the world has.
-    ghost invariant = { λ e. ∥ CanUndoAll e.world.room (reverse e.past.items) e.world.world × CanRedoAll e.world.room (reverse e.future.items) e.world.world ∥₁ };
+    ghost invariant = { λ e. ∥ CanUndoAll e.world.room e.stacks.past e.world.world × CanRedoAll e.world.room e.stacks.future e.world.world ∥₁ };
 }
+
+/// The greatest depth that the lines of a script may set, and that of an editor where none was set.
+pub const MOST_FRAMES: u32 = 1_048_576;
 
 /// An accepted frame: what it made, and the record to keep.
 #[derive(Drop)]
@@ -150,24 +153,35 @@ fn frame<F: Frame>(alloc: Global, world: World, asked: &F) -> (World, Result<Fra
 }
 
 impl Editor {
-    /// An editor of this world, with no past and no future, and no undos so far. It takes no memory.
+    /// An editor of this world, with no past and no future, no undos so far, and the greatest depth, 1,048,576 frames. It takes
+    /// no memory.
     pub fn new(alloc: Global, world: World) -> Editor
-        ensures state { result ≡ record { world = world.world; past = []; future = []; rewinds = 0 } }
+        ensures state { result ≡ new_editor world.world most_frames }
         ensures machine { machine_of result ≡ opening world.world }
+    {
+        Editor::with_depth(alloc, world, MOST_FRAMES)
+    }
+
+    /// An editor of this world, with no past and no future and no undos so far, that keeps the newest `depth` frames
+    /// (docs/MODEL.md, "The rule of undo"): what they changed is forgotten oldest first, so with a depth of 0 nothing can be undone.
+    /// It takes no memory.
+    pub fn with_depth(alloc: Global, world: World, depth: u32) -> Editor
+        ensures state { result ≡ new_editor world.world depth }
+        ensures machine { machine_of result ≡ opening_with world.world depth }
     {
         Editor {
             alloc,
             world,
-            past: Vec::new(alloc),
-            future: Vec::new(alloc),
+            stacks: Stacks::new(alloc, depth),
             rewinds: 0,
         }
     }
 
-    /// An editor of this world, with these records of the frames before it and of frames that were undone, and no undos so
-    /// far. In each list the one that goes next stands last: of the past the newest frame, of the future the one that was
-    /// undone last. It undoes all of the past and makes it again, and redoes all of the future and takes it back, so it costs
-    /// twice what these do, and for each frame of the past a look at all cells.
+    /// An editor of this world that keeps the newest `depth` frames, with these records of the frames before it, the oldest
+    /// first, and of frames that were undone, the next one first, and no undos so far. All records are tried before any is
+    /// dropped: it undoes all of the past and makes it again, and redoes all of the future and takes it back. So it costs
+    /// twice what these do, and one look at all cells, however many frames there are; and it has a list of where the cells
+    /// stand that were changed in the frames of the past.
     ///
     /// Refused, and then all is dropped: `BadRecord` where a record doesn't fit at its turn; the frames are numbered from the
     /// newest of the past, 0, to its oldest, and on from the next one of the future, and a delta by its place, or by the
@@ -177,36 +191,56 @@ impl Editor {
         world: World,
         past: Vec<FrameRecord>,
         future: Vec<FrameRecord>,
+        depth: u32,
     ) -> Result<Editor, Refusal>
-        ensures state { IfOk result (λ e. e ≡ record { world = world.world; past = reverse past.items; future = reverse future.items; rewinds = 0 }) }
-        ensures past { OnOk result (AllFit Undo past.items world.world) }
+        ensures state { IfOk result (λ e. e ≡ record {
+          world = world.world;
+          past = take depth (reverse past.items);
+          future = future.items;
+          rewinds = 0;
+          depth = depth;
+        }) }
+        ensures past { OnOk result (AllFit Undo (reverse past.items) world.world) }
         ensures future { OnOk result (AllFit Redo future.items world.world) }
-        ensures refused { IfErr result (NamesFrame (IsFaultOf past.items future.items world.world)) }
+        ensures refused { IfErr result (NamesFrame (IsFaultOf (reverse past.items) future.items world.world)) }
     {
         let mut tried = world;
-        try_stack(Direction::Undo, &mut tried, past.as_slice())?;
-        match try_stack(Direction::Redo, &mut tried, future.as_slice()) {
-            Ok(()) => {
-                let (world, rewinds) = (tried, 0);
-                Ok(Editor {
-                    alloc,
-                    world,
-                    past,
-                    future,
-                    rewinds,
-                })
-            }
-            Err(refusal) => Err(after_frames(refusal, past.len())),
+        try_records(alloc, Direction::Undo, &mut tried, past.as_slice())?;
+        if let Err(refusal) = try_records(alloc, Direction::Redo, &mut tried, future.as_slice()) {
+            return Err(after_frames(refusal, past.len()));
         }
+        let (world, rewinds) = (tried, 0);
+        let stacks = Stacks::from_parts(alloc, past, future, depth)?;
+        Ok(Editor {
+            alloc,
+            world,
+            stacks,
+            rewinds,
+        })
     }
 
-    /// The records of the past and of the future, in the form that `from_parts` takes: in each list the one that goes next
-    /// stands last.
+    /// The records of the past that are kept, the oldest first, and those of the future, the next one first: what
+    /// `from_parts` takes.
     pub fn records(&self) -> (&[FrameRecord], &[FrameRecord])
         ensures past { reverse result.0.now ≡ self.now.past }
-        ensures future { reverse result.1.now ≡ self.now.future }
+        ensures future { result.1.now ≡ self.now.future }
     {
-        (self.past.as_slice(), self.future.as_slice())
+        self.stacks.records()
+    }
+
+    /// Of how many frames a record is kept.
+    pub fn depth(&self) -> u32
+        ensures { result ≡ self.now.depth }
+    {
+        self.stacks.depth()
+    }
+
+    /// Sets of how many frames a record is kept, and drops those beyond it, the oldest first (docs/MODEL.md, "The rule of
+    /// undo"). It takes no memory, and costs the records that are dropped.
+    pub fn set_depth(&mut self, depth: u32)
+        ensures { self.new ≡ at_depth depth self.old }
+    {
+        self.stacks.set_depth(depth);
     }
 
     /// The world now.
@@ -220,14 +254,14 @@ impl Editor {
     pub fn undo_len(&self) -> usize
         ensures { result ≡ length self.now.past }
     {
-        self.past.len()
+        self.stacks.past_len()
     }
 
     /// How many undone frames can be redone, one after another.
     pub fn redo_len(&self) -> usize
         ensures { result ≡ length self.now.future }
     {
-        self.future.len()
+        self.stacks.future_len()
     }
 
     /// How many undos there were. It never falls.
@@ -272,7 +306,7 @@ impl Editor {
         ensures machine { Answers (entities_of result) (machine_of self.old) (machine_of self.new)
             (call (machine_of self.old) (Submit (frame_of queues.now))) }
         ensures copy { IfOk result (λ m. m.copy.items ≡ m.entities.items) }
-        ensures records { OnOk result ((self.new.past ≡ frame_record (frame_of queues.now) self.old.world ∷ self.old.past)
+        ensures records { OnOk result ((self.new.past ≡ take self.old.depth (frame_record (frame_of queues.now) self.old.world ∷ self.old.past))
             × (self.new.future ≡ [])) }
         ensures same { OnErr result (self.new ≡ self.old) }
     {
@@ -291,10 +325,10 @@ impl Editor {
             (submitted (machine_of self.old) (framed (F.does asked.now) self.old.world)) }
         ensures copy { IfOk result (λ m. m.copy.items ≡ m.entities.items) }
         ensures records { IfOk result (λ m. (r : Record) × (IsRecordOf (F.plays deltas_of asked.now) self.old.world self.new.world m.entities.items r
-            × ((self.new.past ≡ r ∷ self.old.past) × (self.new.future ≡ [])))) }
+            × ((self.new.past ≡ take self.old.depth (r ∷ self.old.past)) × (self.new.future ≡ [])))) }
         ensures same { OnErr result (self.new ≡ self.old) }
     {
-        self.past.reserve(1)?;
+        self.stacks.make_room()?;
         let nothing = World::new(self.alloc, Schema::new(self.alloc), 1);
         let world = std::mem::replace(&mut self.world, nothing);
         let (world, framed) = frame(self.alloc, world, asked);
@@ -302,8 +336,7 @@ impl Editor {
         match framed {
             Ok(done) => {
                 let Framed { made, kept } = done;
-                self.past.push_reserved(kept);
-                self.future = Vec::new(self.alloc);
+                self.stacks.keep(kept);
                 Ok(made)
             }
             Err(refusal) => Err(refusal),
@@ -317,25 +350,20 @@ impl Editor {
     /// 18,446,744,073,709,551,615 undos; `NoMemory`.
     pub fn undo(&mut self) -> Result<(), Refusal>
         ensures machine { Answers result (machine_of self.old) (machine_of self.new) (undo (machine_of self.old)) }
-        ensures records { OnOk result (IsMoved self.new.past self.new.future self.old.past self.old.future) }
+        ensures records { OnOk result (IsUndone self.old.past self.old.future self.new.past self.new.future) }
         ensures same { OnErr result (self.new ≡ self.old) }
     {
         self.world.room_holds();
         let _tick = self.world.tick();
-        match self.past.last() {
-            None => return Err(Refusal::from(Fault::NothingToUndo)),
-            Some(record) => {
-                if self.rewinds == u64::MAX {
-                    return Err(Refusal::from(Fault::TickFull));
-                }
-                self.future.reserve(1)?;
-                undo_record(&mut self.world, record)?;
-            }
+        let Some(record) = self.stacks.newest() else {
+            return Err(Refusal::from(Fault::NothingToUndo));
+        };
+        if self.rewinds == u64::MAX {
+            return Err(Refusal::from(Fault::TickFull));
         }
-        if let Some(record) = self.past.pop() {
-            self.future.push_reserved(record);
-            self.rewinds += 1;
-        }
+        undo_record(&mut self.world, record)?;
+        self.stacks.undo();
+        self.rewinds += 1;
         Ok(())
     }
 
@@ -344,21 +372,16 @@ impl Editor {
     /// Refused, in this order, and then the editor is as it was: `NothingToRedo`; `NoMemory`.
     pub fn redo(&mut self) -> Result<(), Refusal>
         ensures machine { Answers result (machine_of self.old) (machine_of self.new) (redo (machine_of self.old)) }
-        ensures records { OnOk result (IsMoved self.new.future self.new.past self.old.future self.old.past) }
+        ensures records { OnOk result (IsRedone self.old.depth self.old.past self.old.future self.new.past self.new.future) }
         ensures same { OnErr result (self.new ≡ self.old) }
     {
         self.world.room_holds();
         let _tick = self.world.tick();
-        match self.future.last() {
-            None => return Err(Refusal::from(Fault::NothingToRedo)),
-            Some(record) => {
-                self.past.reserve(1)?;
-                redo_record(&mut self.world, record)?;
-            }
-        }
-        if let Some(record) = self.future.pop() {
-            self.past.push_reserved(record);
-        }
+        let Some(record) = self.stacks.next() else {
+            return Err(Refusal::from(Fault::NothingToRedo));
+        };
+        redo_record(&mut self.world, record)?;
+        self.stacks.redo();
         Ok(())
     }
 }

@@ -13,7 +13,8 @@ mod editor;
 mod made;
 mod parts;
 mod records;
+mod stacks;
 
 pub use cursor::Cursor;
-pub use editor::Editor;
+pub use editor::{Editor, MOST_FRAMES};
 pub use made::Made;

@@ -1,16 +1,18 @@
 //! Records that are gone through before an editor takes them.
-ghost use Rattle.std.specs.Prelude.{◌≡◌, ℕ, ◌+◌, ◌<◌, ◌^◌, OnOk, IfErr};
+ghost use Rattle.std.specs.Prelude.{◌≡◌, ℕ, ◌+◌, ◌<◌, ◌^◌, length, slice_get, Some, OnOk, IfOk, IfErr};
 ghost use Rattle.scene_kinds.specs.Answers.{refusal_of};
 ghost use Rattle.scene_kinds.specs.declared.fault.Fault.TheVariants.{BadRecord, NoMemory};
+ghost use Rattle.scene_newest.specs.Newest.{Covers};
 ghost use Rattle.scene_world.specs.Room.{IsWider};
-ghost use Rattle.scene_undo.specs.Direction.{CanAll, CanEach, after_list, after_stack, opposite};
+ghost use Rattle.scene_undo.specs.Direction.{CanAll, after, in_turn};
 ghost use Rattle.scene_undo.specs.Parts.{IsFirstFault, NamesFrame};
 
 use crate::direction::Direction;
 use scene_journal::FrameRecord;
 use scene_kinds::{Fault, Refusal};
+use scene_newest::NewestCells;
 use scene_world::{RawChanges, World};
-use std::alloc::AllocError;
+use std::alloc::{AllocError, Global};
 
 /// A refusal of the first record, as that of a frame of this number.
 fn in_frame(refusal: Refusal, frame: usize) -> Refusal
@@ -41,57 +43,87 @@ pub(crate) fn after_frames(refusal: Refusal, before: usize) -> Refusal
     }
 }
 
-/// Goes through a stack of records, the last first, as far as each fits at its turn.
+/// The record of a list, which begins with the oldest, whose turn it is after so many others.
+fn at_turn(direction: Direction, frames: &[FrameRecord], number: usize) -> &FrameRecord
+    requires { number < length frames.now }
+    ensures { slice_get (in_turn direction frames.now) number ≡ Some result.now }
+{
+    match direction {
+        Direction::Undo => &frames[frames.len() - 1 - number],
+        Direction::Redo => &frames[number],
+    }
+}
+
+/// Where cells that were changed too late could stand, as so many records are gone through: where they are redone there are
+/// none, and nothing is listed.
+fn newest_for(
+    alloc: Global,
+    direction: Direction,
+    world: &World,
+    frames: usize,
+) -> Result<NewestCells, AllocError>
+    ensures { IfOk result (λ newest. Covers newest world.now.world) }
+{
+    match direction {
+        Direction::Undo => NewestCells::new(alloc, world, frames),
+        Direction::Redo => Ok(NewestCells::none(alloc)),
+    }
+}
+
+/// Goes through records, as far as each fits at its turn. It costs what their deltas cost, and where they are undone a look
+/// at all cells, once.
 fn go_through(
+    alloc: Global,
     direction: Direction,
     draft: &mut World,
     frames: &[FrameRecord],
 ) -> Result<(), Refusal>
-    ensures can { OnOk result (CanAll direction draft.new.room frames.now draft.old.world) }
-    ensures done { OnOk result (draft.new.world ≡ after_stack direction frames.now draft.old.world) }
-    ensures refused { IfErr result (NamesFrame (IsFirstFault direction frames.now draft.old.world)) }
+    ensures can { OnOk result (CanAll direction draft.new.room (in_turn direction frames.now) draft.old.world) }
+    ensures done { OnOk result (draft.new.world ≡ after direction (in_turn direction frames.now) draft.old.world) }
+    ensures refused { IfErr result (NamesFrame (IsFirstFault direction (in_turn direction frames.now) draft.old.world)) }
     ensures wide { IsWider draft.old.room draft.new.room }
 {
-    let mut left = frames;
-    while let Some((frame, before)) = left.split_last() {
-        match direction.check(draft, frame) {
-            Ok(()) => left = before,
-            Err(refusal) => return Err(in_frame(refusal, frames.len() - left.len())),
+    let mut newest = newest_for(alloc, direction, draft, frames.len())?;
+    for number in 0..frames.len() {
+        let frame = at_turn(direction, frames, number);
+        if let Err(refusal) = direction.check(draft, frame, &mut newest) {
+            return Err(in_frame(refusal, number));
         }
     }
     Ok(())
 }
 
-/// Goes through records that are known to fit, the first first, in a world that has room for them.
+/// Goes through records that are known to fit, in a world that has room for them.
 fn go_home(
     direction: Direction,
     draft: &mut World,
     frames: &[FrameRecord],
 ) -> Result<(), AllocError>
-    requires { CanEach direction draft.old.room frames.now draft.old.world }
-    ensures done { OnOk result (draft.new.world ≡ after_list direction frames.now draft.old.world) }
+    requires { CanAll direction draft.old.room (in_turn direction frames.now) draft.old.world }
+    ensures done { OnOk result (draft.new.world ≡ after direction (in_turn direction frames.now) draft.old.world) }
     ensures room { draft.new.room ≡ draft.old.room }
 {
-    for frame in frames {
-        direction.go(draft, frame)?;
+    for number in 0..frames.len() {
+        direction.go(draft, at_turn(direction, frames, number))?;
     }
     Ok(())
 }
 
-/// Goes through a stack of records and back to the same world, which has room for that then.
-pub(crate) fn try_stack(
+/// Goes through records, of which the first is the oldest, and back to the same world, which has room for that then.
+pub(crate) fn try_records(
+    alloc: Global,
     direction: Direction,
     draft: &mut World,
     frames: &[FrameRecord],
 ) -> Result<(), Refusal>
-    ensures can { OnOk result (CanAll direction draft.new.room frames.now draft.old.world) }
+    ensures can { OnOk result (CanAll direction draft.new.room (in_turn direction frames.now) draft.old.world) }
     ensures same { OnOk result (draft.new.world ≡ draft.old.world) }
-    ensures refused { IfErr result (NamesFrame (IsFirstFault direction frames.now draft.old.world)) }
+    ensures refused { IfErr result (NamesFrame (IsFirstFault direction (in_turn direction frames.now) draft.old.world)) }
     ensures wide { IsWider draft.old.room draft.new.room }
 {
     let _tick = draft.tick();
     draft.room_holds();
-    go_through(direction, draft, frames)?;
+    go_through(alloc, direction, draft, frames)?;
     go_home(direction.opposite(), draft, frames)?;
     Ok(())
 }

@@ -72,7 +72,7 @@ fn linked_to_itself(alloc: Global) -> Result<FrameRecord, Refusal> {
 /// Why an editor of such a record of the spawn is refused, if it is.
 fn fault(alloc: Global, tick_before: u64, number: i64) -> Result<Option<Fault>, Refusal> {
     let past = vec![in alloc; spawned(alloc, tick_before, number)?]?;
-    let made = Editor::from_parts(alloc, world(alloc)?, past, Vec::new(alloc));
+    let made = Editor::from_parts(alloc, world(alloc)?, past, Vec::new(alloc), 1);
     Ok(made.err().map(|refusal| refusal.fault))
 }
 
@@ -80,7 +80,7 @@ fn fault(alloc: Global, tick_before: u64, number: i64) -> Result<Option<Fault>, 
 fn later_fault(alloc: Global, future: FrameRecord) -> Result<Option<Fault>, Refusal> {
     let future = vec![in alloc; future]?;
     let past = vec![in alloc; spawned(alloc, 0, 5)?]?;
-    let made = Editor::from_parts(alloc, world(alloc)?, past, future);
+    let made = Editor::from_parts(alloc, world(alloc)?, past, future, 1);
     Ok(made.err().map(|refusal| refusal.fault))
 }
 

@@ -4,8 +4,9 @@ use crate::editors::tree::{goes_back_and_on, goes_on, grow};
 use crate::scenes::first;
 use scene_commands::{Command, Target};
 use scene_journal::FrameRecord;
-use scene_kinds::{Refusal, Shape};
-use scene_undo::Editor;
+use scene_kinds::{Refusal, Schema, Shape};
+use scene_undo::{Editor, MOST_FRAMES};
+use scene_world::World;
 use std::alloc::{AllocError, Global};
 use std::test::Fail;
 
@@ -36,7 +37,13 @@ fn taken_up(alloc: Global, editor: &Editor) -> Result<Editor, Refusal> {
     let (past, future) = editor.records();
     let past = copies(alloc, past)?;
     let future = copies(alloc, future)?;
-    Editor::from_parts(alloc, editor.world().try_clone()?, past, future)
+    Editor::from_parts(
+        alloc,
+        editor.world().try_clone()?,
+        past,
+        future,
+        MOST_FRAMES,
+    )
 }
 
 /// Whether a past that is taken up can be undone and redone, and how many rewinds that makes.
@@ -72,5 +79,29 @@ fn future_taken_up(alloc: Global) -> Result<(bool, u64), Refusal> {
 #[test]
 fn kept_future_is_redone(rt: HostRuntime) -> Result<(), Fail> {
     assert_eq!(rt; future_taken_up(rt.alloc()), Ok((true, 0)));
+    Ok(())
+}
+
+/// The tick of a world after so many frames without commands of this depth, how many of them can be undone, and the tick after
+/// these undos.
+fn after_idle_frames(alloc: Global, depth: u32, frames: u32) -> Result<(u64, usize, u64), Refusal> {
+    let world = World::new(alloc, Schema::new(alloc), 1);
+    let mut editor = Editor::with_depth(alloc, world, depth);
+    for _frame in 0..frames {
+        let _made = editor.submit(&[])?;
+    }
+    let (tick, kept) = (editor.world().tick(), editor.undo_len());
+    for _undo in 0..kept {
+        editor.undo()?;
+    }
+    Ok((tick, kept, editor.world().tick()))
+}
+
+#[test]
+fn depth_keeps_the_newest_frames(rt: HostRuntime) -> Result<(), Fail> {
+    let alloc = rt.alloc();
+    assert_eq!(rt; after_idle_frames(alloc, 1, 2), Ok((2, 1, 1)));
+    assert_eq!(rt; after_idle_frames(alloc, 3, 40), Ok((40, 3, 37)));
+    assert_eq!(rt; after_idle_frames(alloc, 0, 2), Ok((2, 0, 2)));
     Ok(())
 }

@@ -1,11 +1,15 @@
-use Rattle.std.proofs.Common.{◌≡◌, drop, map as each}
-use Rattle.serde_json.specs.View.{view}
-use Rattle.scene_file.specs.Paths.{path_bytes}
+use Rattle.std.proofs.Common.{◌≡◌, ◌+◌, drop, length}
+use Rattle.scene_json.specs.View.{views}
+use Rattle.scene_forms.specs.Paths.{path_bytes}
 use Rattle.scene_file.specs.Walk.{cells_from}
-use Rattle.scene_file.proofs.Lists.{joined}
+use Rattle.scene_forms.proofs.Lists.{joined}
 use Rattle.scene_file.proofs.read_rows.cells_from.Given as goal
 
-abbrev pub invariant-loop-place : goal.invariant-loop-place
-invariant-loop-place l =
-    cells_from l.shapes (path_bytes l.path) 0 (each view l.values)
-    ≡ joined l.cells.items (cells_from (drop l.place l.shapes) (path_bytes l.path) l.place (each view (drop l.place l.values)))
+abbrev pub invariant-cells : goal.invariant-cells
+invariant-cells l =
+    (cells_from l.shapes (path_bytes l.path) 0 (views l.initial.parts)
+    ≡ joined l.cells.items (cells_from (drop (length l.cells.items) l.shapes) (path_bytes l.path) (length l.cells.items) (views l.parts)))
+    × (length l.cells.items + length (views l.parts) ≡ length l.shapes)
+
+abbrev pub decreases-cells : goal.decreases-cells
+decreases-cells l = length (views l.parts)

@@ -1,40 +1,50 @@
-use Rattle.std.proofs.Common.{◌≡◌, ◌+◌, ◌<◌, ◌^◌, OnOk, IfErr, length, reverse, ap, arith, rules, subst, sym, ◌∙◌}
+use Rattle.std.proofs.Common.{◌≡◌, ◌+◌, length, reverse, take, ap, arith, subst, sym, ◌∙◌}
+use Rattle.std.proofs.lemmas.List.{length-reverse}
 use Rattle.scene_kinds.specs.declared.fault.Fault.TheVariants.{BadRecord}
 use Rattle.scene_kinds.specs.Answers.{refusal_of}
 use Rattle.scene_undo.specs.declared.direction.Direction.TheVariants.{Undo, Redo}
-use Rattle.scene_undo.specs.Direction.{AllFit, CanAll}
+use Rattle.scene_undo.specs.Direction.{CanAll}
 use Rattle.scene_undo.specs.Kept.{CanUndoAll, CanRedoAll}
-use Rattle.scene_undo.specs.Parts.{IsFaultOf, IsFirstFault, NamesFrame}
+use Rattle.scene_undo.specs.Parts.{IsFirstFault, NamesFrame}
+use Rattle.scene_verdicts.specs.Faults.{IsFaultOf}
+use Rattle.scene_undo.proofs.EditorLaws.{newest}
 use Rattle.scene_undo.proofs.TwoStacks.{future_fault, handed_on, in_range, kept, past_fault}
-use Rattle.scene_undo.proofs.Stacks.{all_fit}
+use Rattle.scene_undo.proofs.Turns.{all_fit}
 use Rattle.scene_undo.proofs.editor.Editor.from_parts.Goals as goal
 
-pub returns-in_err-try_stack-clause-refused : goal.returns-in_err-try_stack-clause-refused
-returns-in_err-try_stack-clause-refused c =
+pub returns-in_err-try_records-clause-refused : goal.returns-in_err-try_records-clause-refused
+returns-in_err-try_records-clause-refused c =
     let w = c.args.world.world in
-    let r = c.in_err-try_stack.field-0.0 in
-    let named = subst (λ rs. NamesFrame (IsFirstFault Undo rs w) r) c.as_slice.ensures.value c.in_err-try_stack.ensures.refused in
-    let known = past_fault c.args.past.items c.args.future.items w r named in
-    handed_on (NamesFrame (IsFaultOf c.args.past.items c.args.future.items w)) c.from_residual.result r c.from_residual.ensures.1 known
+    let r = c.in_err-try_records.field-0.0 in
+    let past = reverse c.args.past.items in
+    let named = subst (λ rs. NamesFrame (IsFirstFault Undo (reverse rs) w) r) c.as_slice.ensures.value c.in_err-try_records.ensures.refused in
+    let known = past_fault past c.args.future.items w r named in
+    handed_on (NamesFrame (IsFaultOf past c.args.future.items w)) c.from_residual.result r c.from_residual.ensures.1 known
 
 pub invariant_of-result : goal.invariant_of-result
 invariant_of-result c =
     let w = c.args.world.world in
-    let first = c.try_stack.new.draft in
-    let last = c.try_stack-2.new.draft in
-    let same = c.in_ok-try_stack.ensures.same in
-    let undoes = subst (λ rs. CanAll Undo first.room rs w) c.as_slice.ensures.value c.in_ok-try_stack.ensures.can in
+    let first = c.try_records.new.draft in
+    let last = c.try_records-2.new.draft in
+    let past = reverse c.args.past.items in
+    let future = c.args.future.items in
+    let same = c.in_ok-try_records.ensures.same in
+    let undoes = subst (λ rs. CanAll Undo first.room (reverse rs) w) c.as_slice.ensures.value c.in_ok-try_records.ensures.can in
     let redoes =
-    subst (λ u. CanAll Redo last.room c.args.future.items u) same
-    (subst (λ rs. CanAll Redo last.room rs first.world) c.as_slice-2.ensures.value c.in-Ok.ensures.can) in
-    let both = kept first.room last.room c.args.past.items c.args.future.items w c.try_stack-2.ensures.wide undoes redoes in
-    let here : last.world ≡ w = c.in-Ok.ensures.same ∙ same in
-    let at = subst (λ u. CanUndoAll last.room (reverse c.args.past.items) u × CanRedoAll last.room (reverse c.args.future.items) u) (sym here) both in
-    ∣ (at.0, at.1) ∣₁
+    subst (λ u. CanAll Redo last.room future u) same
+    (subst (λ rs. CanAll Redo last.room rs first.world) c.as_slice-2.ensures.value c.in_default.ensures.can) in
+    let both = kept first.room last.room past future w c.try_records-2.ensures.wide undoes redoes in
+    let here : last.world ≡ w = c.in_default.ensures.same ∙ same in
+    let at = subst (λ u. CanUndoAll last.room (take c.args.depth past) u × CanRedoAll last.room future u) (sym here)
+    (newest last.room c.args.depth past w both.0, both.1) in
+    ∣ (
+      subst (λ rs. CanUndoAll last.room rs last.world) (sym c.in_ok-stacks.ensures.past) at.0,
+      subst (λ rs. CanRedoAll last.room rs last.world) (sym c.in_ok-stacks.ensures.future) at.1,
+    ) ∣₁
 
 pub after_frames-requires : goal.after_frames-requires
 after_frames-requires c = λ frame delta is.
-    let w = c.try_stack.new.draft.world in
+    let w = c.try_records.new.draft.world in
     let future = c.args.future in
     let past = c.args.past in
     let low = in_range Redo c.as_slice-2.result.now w c.in-Err.refusal c.in-Err.ensures.refused frame delta is in
@@ -48,28 +58,30 @@ after_frames-requires c = λ frame delta is.
     let g = future.small in
     omega (arith, low, there, count, a, b, d, e, f, g)
 
-pub returns-in-Ok-clause-past : goal.returns-in-Ok-clause-past
-returns-in-Ok-clause-past c =
+pub returns-clause-past : goal.returns-clause-past
+returns-clause-past c =
     let w = c.args.world.world in
-    all_fit Undo c.try_stack.new.draft.room c.args.past.items w
-    (subst (λ rs. CanAll Undo c.try_stack.new.draft.room rs w) c.as_slice.ensures.value c.in_ok-try_stack.ensures.can)
+    all_fit Undo c.try_records.new.draft.room (reverse c.args.past.items) w
+    (subst (λ rs. CanAll Undo c.try_records.new.draft.room (reverse rs) w) c.as_slice.ensures.value c.in_ok-try_records.ensures.can)
 
-pub returns-in-Ok-clause-future : goal.returns-in-Ok-clause-future
-returns-in-Ok-clause-future c =
-    let last = c.try_stack-2.new.draft in
-    let first = c.try_stack.new.draft in
+pub returns-clause-future : goal.returns-clause-future
+returns-clause-future c =
+    let last = c.try_records-2.new.draft in
+    let first = c.try_records.new.draft in
     all_fit Redo last.room c.args.future.items c.args.world.world
-    (subst (λ u. CanAll Redo last.room c.args.future.items u) c.in_ok-try_stack.ensures.same
-    (subst (λ rs. CanAll Redo last.room rs first.world) c.as_slice-2.ensures.value c.in-Ok.ensures.can))
+    (subst (λ u. CanAll Redo last.room c.args.future.items u) c.in_ok-try_records.ensures.same
+    (subst (λ rs. CanAll Redo last.room rs first.world) c.as_slice-2.ensures.value c.in_default.ensures.can))
 
 pub returns-in-Err-clause-refused : goal.returns-in-Err-clause-refused
 returns-in-Err-clause-refused c =
     let w = c.args.world.world in
-    let first = c.try_stack.new.draft in
-    let fits = all_fit Undo first.room c.args.past.items w
-    (subst (λ rs. CanAll Undo first.room rs w) c.as_slice.ensures.value c.in_ok-try_stack.ensures.can) in
-    let here = subst (λ u. NamesFrame (IsFirstFault Redo c.args.future.items u) c.in-Err.refusal) c.in_ok-try_stack.ensures.same
+    let first = c.try_records.new.draft in
+    let past = reverse c.args.past.items in
+    let fits = all_fit Undo first.room past w
+    (subst (λ rs. CanAll Undo first.room (reverse rs) w) c.as_slice.ensures.value c.in_ok-try_records.ensures.can) in
+    let here = subst (λ u. NamesFrame (IsFirstFault Redo c.args.future.items u) c.in-Err.refusal) c.in_ok-try_records.ensures.same
     (subst (λ rs. NamesFrame (IsFirstFault Redo rs first.world) c.in-Err.refusal) c.as_slice-2.ensures.value c.in-Err.ensures.refused) in
-    future_fault c.args.past.items c.args.future.items w c.in-Err.refusal c.after_frames.result fits here
+    future_fault past c.args.future.items w c.in-Err.refusal c.after_frames.result fits here
     (λ frame delta is. c.after_frames.ensures.named frame delta is
-    ∙ ap (λ n. refusal_of (BadRecord (n + frame) delta)) (c.len.ensures ∙ c.args.past.ok.0)) c.after_frames.ensures.memory
+    ∙ ap (λ n. refusal_of (BadRecord (n + frame) delta)) (c.len.ensures ∙ c.args.past.ok.0 ∙ sym (length-reverse c.args.past.items)))
+    c.after_frames.ensures.memory

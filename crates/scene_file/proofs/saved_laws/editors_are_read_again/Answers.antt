@@ -1,0 +1,8 @@
+use Rattle.scene_file.proofs.EditorBack.{editor_back, world_editor_back}
+use Rattle.scene_file.proofs.saved_laws.editors_are_read_again.Goals as goal
+
+pub returns : goal.returns
+returns c = record {
+  records = λ depth w past future f. editor_back depth w past future f;
+  world = λ depth w v. world_editor_back depth w v;
+}

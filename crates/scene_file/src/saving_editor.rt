@@ -1,0 +1,73 @@
+//! Saving an editor: its text, and the writing of it.
+ghost use Rattle.std.specs.Prelude.{◌≡◌, ◌≢◌, ◌↔◌, true, false, reverse, Ok, Err, IfOk, IfErr, OnOk, OnErr, string_bytes};
+ghost use Rattle.std.specs.Io.KnownBytes.{Appends};
+ghost use Rattle.scene_streams.specs.Known.{AppendsPrefix};
+ghost use Rattle.scene_streams.specs.Sink.{writer_of, write_failed};
+ghost use Rattle.scene_forms.specs.declared.fault.FileFault.TheVariants.{WriteFault};
+ghost use Rattle.scene_forms.specs.Outcome.{IsFault};
+ghost use Rattle.scene_file.specs.Saving.{save_editor_of};
+ghost use Rattle.scene_file.specs.EditorText.{editor_saved};
+
+use crate::write_editor::write_editor;
+use scene_forms::FileFault;
+use scene_streams::{MOST_BYTES, Sink};
+use scene_undo::Editor;
+use std::alloc::{AllocError, Global};
+use std::io::Write;
+
+/// The text of an editor and a newline, however long they are.
+fn whole_text(alloc: Global, editor: &Editor) -> Result<String, AllocError>
+    ensures { IfOk result (λ text. string_bytes text ≡ editor_saved editor.now.world (reverse editor.now.past) editor.now.future) }
+{
+    let mut text = String::new(alloc);
+    write_editor(alloc, &mut text, editor)?;
+    text.push_str("\n")?;
+    Ok(text)
+}
+
+/// The text of an editor as a save writes it, with its newline: its world and its records, but neither its depth nor how many
+/// undos there were (docs/SCENE_FILES.md, "Writing" and "Version 2").
+///
+/// Refused: `TooLong` where text and newline are more than `MOST_BYTES` bytes, which no load reads; or `NoMemory`. It
+/// costs a walk over the world, with a look for each kind set, parent and resource, a walk over the records, and the
+/// memory of the text alone.
+pub fn save_editor_text(alloc: Global, editor: &Editor) -> Result<String, FileFault>
+    ensures text { IfOk result (λ s. save_editor_of editor.now.world (reverse editor.now.past) editor.now.future ≡ Ok (string_bytes s)) }
+    ensures fault { IfErr result (λ e. IsFault e (save_editor_of editor.now.world (reverse editor.now.past) editor.now.future)) }
+{
+    let text = whole_text(alloc, editor)?;
+    if text.len() > MOST_BYTES {
+        return Err(FileFault::TooLong);
+    }
+    Ok(text)
+}
+
+/// Writes the text of an editor, with its newline, to a sink (docs/SCENE_FILES.md, "Writing").
+///
+/// Refused, in this order: `TooLong` or `NoMemory` as by `save_editor_text`, and then nothing was written; `WriteFault`
+/// where a call of the writer fails or takes no byte, or did so before, and then a prefix of the text was written. It costs
+/// what `save_editor_text` costs, and a call of the writer for each part that it takes.
+pub fn save_editor<W: Write>(
+    alloc: Global,
+    sink: &mut Sink<W>,
+    editor: &Editor,
+) -> Result<(), FileFault>
+    ensures written { OnOk result (Appends (W.contents (writer_of sink.old)) (W.contents (writer_of sink.new))
+        (editor_saved editor.now.world (reverse editor.now.past) editor.now.future)) }
+    ensures within { OnOk result (save_editor_of editor.now.world (reverse editor.now.past) editor.now.future
+        ≡ Ok (editor_saved editor.now.world (reverse editor.now.past) editor.now.future)) }
+    ensures prefix { OnErr result (AppendsPrefix (W.contents (writer_of sink.old)) (W.contents (writer_of sink.new))
+        (editor_saved editor.now.world (reverse editor.now.past) editor.now.future)) }
+    ensures nothing { IfErr result (λ f. f ≢ WriteFault → sink.new ≡ sink.old) }
+    ensures fault { IfErr result (λ f. f ≢ WriteFault
+        → IsFault f (save_editor_of editor.now.world (reverse editor.now.past) editor.now.future)) }
+    ensures first { IfErr result (λ f. f ≡ WriteFault → save_editor_of editor.now.world (reverse editor.now.past) editor.now.future
+        ≡ Ok (editor_saved editor.now.world (reverse editor.now.past) editor.now.future)) }
+    ensures write { write_failed sink.old ≡ false → (result ≡ Err WriteFault) ↔ (write_failed sink.new ≡ true) }
+    ensures refused { write_failed sink.old ≡ true → sink.new ≡ sink.old }
+    ensures unmarked { OnOk result (write_failed sink.new ≡ false) }
+{
+    let text = save_editor_text(alloc, editor)?;
+    sink.write_all(text.as_bytes())?;
+    Ok(())
+}

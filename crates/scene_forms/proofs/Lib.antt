@@ -1,0 +1,15 @@
+pub mod Walking
+pub mod Lists
+pub mod Parted
+pub mod PathSteps
+pub mod Quoted
+pub mod ListsWritten
+pub mod GoodSteps
+pub mod ListsBack
+pub mod ValuesBack
+pub mod Ascending
+pub mod ReadValues
+pub mod KnownMembers
+pub mod ListsExact
+pub mod ValuesExact
+pub mod FitKinds

@@ -1,0 +1,19 @@
+//! A JSON text that is read in place: it is checked whole, and then looked into, and no tree is made of it.
+//!
+//! `Document::read` takes just the texts that `serde_json` takes for its `Value`, and keeps their tokens in one flat list.
+//! A `Part` is a value in the document, and `Parts` are the elements of a list. They are seen as `serde_json`'s data
+//! (`specs/View.antt`), so each look answers what the same look into a `Value` does, by the words of its `Find`. A look never
+//! fails, as the document was read whole. It takes no memory.
+#![tactic(auto)]
+
+mod document;
+mod examples;
+mod number;
+mod part;
+mod parts;
+mod sound;
+
+pub use document::{Document, DocumentError};
+pub use examples::worked_texts;
+pub use part::Part;
+pub use parts::Parts;

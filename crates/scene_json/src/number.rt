@@ -1,0 +1,85 @@
+//! Numbers, by their texts.
+ghost use Rattle.std.specs.Prelude.{◌≡◌, ◌==◌, ◌<◌, IsTrue, is_some, length, option_and_then, slice_index, true, false};
+ghost use Rattle.std.specs.Float.{binary64, float_is_finite};
+ghost use Rattle.fast_float.specs.Text.{minus, nearest};
+ghost use Rattle.serde_json.specs.Find.{as_i64, as_u64};
+ghost use Rattle.serde_json.specs.Read.{number_from, number_of};
+
+use fast_float::Numeral;
+
+/// Whether a number is below zero, or is -0.
+fn has_minus(text: &[u8]) -> bool
+    ensures sign { result ≡ (slice_index text.now 0 == minus) }
+    ensures there { IsTrue result → 0 < length text.now }
+{
+    match text.first() {
+        Some(first) => *first == b'-',
+        None => false,
+    }
+}
+
+/// A whole number without a sign.
+#[tactic(auto, using(crate::proofs::Numbers::numbers))]
+fn unsigned(numeral: &Numeral<'_>) -> Option<u64>
+    ensures { result ≡ option_and_then as_u64 (number_from false numeral.now) }
+{
+    numeral.to_u64()
+}
+
+/// A whole number below zero, of what stands behind its sign.
+#[tactic(auto, using(crate::proofs::Numbers::numbers))]
+fn negative(numeral: &Numeral<'_>) -> Option<i64>
+    ensures { result ≡ option_and_then as_i64 (number_from true numeral.now) }
+{
+    match numeral.to_i64(true) {
+        Some(number) if number < 0 => Some(number),
+        _ => None,
+    }
+}
+
+/// Whether a number is within the finite floats.
+fn is_finite(negative: bool, numeral: &Numeral<'_>) -> bool
+    ensures { result ≡ float_is_finite (nearest binary64 negative numeral.now) }
+{
+    numeral.to_float::<f64>(negative).is_finite()
+}
+
+/// The whole number of 64 bits without a sign that a text says.
+pub(crate) fn u64_of(text: &str) -> Option<u64>
+    ensures { result ≡ option_and_then as_u64 (number_of text.now) }
+{
+    let text = text.as_bytes();
+    if has_minus(text) {
+        return None;
+    }
+    unsigned(&Numeral::scan(text))
+}
+
+/// The whole number of 64 bits with a sign that a text says.
+pub(crate) fn i64_of(text: &str) -> Option<i64>
+    ensures { result ≡ option_and_then as_i64 (number_of text.now) }
+{
+    let text = text.as_bytes();
+    if has_minus(text) {
+        return negative(&Numeral::scan(&text[1..]));
+    }
+    let number = unsigned(&Numeral::scan(text))?;
+    if number <= i64::MAX as u64 {
+        Some(number as i64)
+    } else {
+        None
+    }
+}
+
+/// Whether a text says a number that is in range. Only one that is no whole number of 64 bits is read as a float.
+pub(crate) fn is_in_range(text: &str) -> bool
+    ensures { result ≡ is_some (number_of text.now) }
+{
+    let text = text.as_bytes();
+    if has_minus(text) {
+        let numeral = Numeral::scan(&text[1..]);
+        return negative(&numeral).is_some() || is_finite(true, &numeral);
+    }
+    let numeral = Numeral::scan(text);
+    unsigned(&numeral).is_some() || is_finite(false, &numeral)
+}

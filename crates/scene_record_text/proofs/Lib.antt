@@ -1,0 +1,5 @@
+pub mod Parted
+pub mod SameLists
+pub mod Objects
+pub mod RecordsBack
+pub mod RecordsExact

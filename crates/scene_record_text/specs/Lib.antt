@@ -1,0 +1,6 @@
+pub mod Op
+pub mod Text
+pub mod Walk
+pub mod Examples
+pub mod Writable
+pub mod Laws

@@ -1,0 +1,72 @@
+#!/usr/bin/env python3
+"""Holds docs/scene.schema.json to the texts of the examples, by the jsonschema package: each scene text that an example
+prints or loads well has the form that the schema says. It prints how many of those that are refused have not, and ends with
+1 where the schema refuses a text that is read."""
+import json
+import re
+import sys
+from pathlib import Path
+
+import jsonschema
+
+ROOT = Path(__file__).resolve().parent.parent
+EXAMPLES = ROOT / "examples"
+# NotJson is no text for a schema; the orders, the rules of a world and the records are more than a form.
+FORM = re.compile(r'fault (51 UnknownKey|52 BadField|53 BadVersion) (.*)')
+
+
+def lines_of(path):
+    return path.read_bytes().decode("utf-8", "replace").split("\n")
+
+
+def loads_of(script, answers):
+    """The texts of the `load` lines at the head of a script, each with its answer."""
+    printing = [line for line in lines_of(script) if line.split() and not line.startswith("#")]
+    for line, answer in zip(printing, answers):
+        words = line.split(maxsplit=1)
+        if words[0] == "load":
+            yield (words[1] if len(words) > 1 else ""), answer
+
+
+def texts():
+    for script in sorted(EXAMPLES.glob("*.scene")):
+        answers = lines_of(script.with_suffix(".out"))
+        args = script.with_suffix(".args")
+        word = args.read_text().split()[0] if args.exists() and args.read_text().split() else "run"
+        if word in ("check", "print"):
+            yield script.name, script.read_bytes().decode("utf-8", "replace"), answers[0]
+            continue
+        if word != "run":
+            continue
+        for text, answer in loads_of(script, answers):
+            yield script.name, text, answer
+        for answer in answers:
+            if answer.startswith('{"children"'):
+                yield script.name, answer, "ok"
+
+
+def main():
+    schema = json.loads((ROOT / "docs" / "scene.schema.json").read_text())
+    validator = jsonschema.Draft202012Validator(schema)
+    validator.check_schema(schema)
+    good = bad = beyond = wrong = 0
+    for name, text, answer in texts():
+        try:
+            value = json.loads(text)
+        except ValueError:
+            continue
+        fits = validator.is_valid(value)
+        if answer.startswith(("ok", "good ", "tick ")):
+            good += fits
+            wrong += not fits
+            if not fits:
+                print(f"{name}: is read, and the schema refuses it", file=sys.stderr)
+        elif FORM.match(answer):
+            bad += not fits
+            beyond += fits
+    print(f"{good} texts fit, {bad} are refused for their form, {beyond} for more than that, {wrong} differ")
+    sys.exit(wrong > 0)
+
+
+if __name__ == "__main__":
+    main()
