@@ -113,10 +113,14 @@ impl Level {
         })
     }
 
-    /// A level that was closed: it is as it was, with all that can be taken back and made again.
+    /// A level that was closed: it is as it was, with all that can be taken back and made again. A text of other kinds than
+    /// a level's is refused.
     pub fn reopen(alloc: Global, text: &str) -> Result<Level, LevelError> {
+        let motion = motion(alloc, &kinds(alloc)?)?;
         let editor = load_editor_text(alloc, text.as_bytes(), KEPT)?;
-        let motion = motion(alloc, editor.world().schema())?;
+        if !motion.is_for(editor.world().schema()) {
+            return Err(LevelError::Refused(Refusal::from(Fault::OtherSchema)));
+        }
         Ok(Level {
             alloc,
             editor,

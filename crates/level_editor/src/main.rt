@@ -91,18 +91,23 @@ fn play(rt: &impl Print, level: &mut Level) -> Result<()> {
     show(rt, level, "door")
 }
 
-/// Closes the level, opens it on the day after, and takes work of the day before back.
-fn day_after(rt: &HostRuntime, level: &Level) -> Result<()> {
-    let text = level.close()?;
-    let mut level = Level::reopen(rt.alloc(), text.as_str())?;
+/// Takes work of the day before back.
+fn take_back(rt: &impl Print, level: &mut Level) -> Result<()> {
     println!(rt; "the day after, {} frames can be undone:", level.undo_len())?;
     tell(rt, "redo the step", level.redo())?;
-    show(rt, &level, "lamp")?;
+    show(rt, level, "lamp")?;
     for _ in 0..level.undo_len() {
         level.undo()?;
     }
     tell(rt, "find the house", level.find("house").map(|_| ()))?;
     Ok(())
+}
+
+/// Closes the level and opens it on the day after.
+fn day_after(rt: &HostRuntime, level: &Level) -> Result<()> {
+    let text = level.close()?;
+    let mut level = Level::reopen(rt.alloc(), text.as_str())?;
+    take_back(rt, &mut level)
 }
 
 /// Drags things, and shows what is refused and what can be taken back.

@@ -83,16 +83,9 @@ fn help(rt: &HostRuntime, text: &str) -> Ending {
     }
 }
 
-/// Does what the command line asks for.
-fn end(rt: &HostRuntime, threads: &(impl Threads + Wait + Sync)) -> Ending {
-    let words = match words_given(rt) {
-        Ok(words) => words,
-        Err(error) if error.kind() == ErrorKind::OutOfMemory => {
-            return Ending::Fault(AppFault::NoMemory);
-        }
-        Err(_) => return Ending::BadCommandLine,
-    };
-    match read_words(rt.alloc(), words.as_slice()) {
+/// Does what the words of the command line ask for.
+fn end(rt: &HostRuntime, threads: &(impl Threads + Wait + Sync), words: &[String]) -> Ending {
+    match read_words(rt.alloc(), words) {
         Ok(Asked::Run(workers)) => run(rt, threads, workers),
         Ok(Asked::Check) => check(rt),
         Ok(Asked::Print) => print(rt),
@@ -102,29 +95,46 @@ fn end(rt: &HostRuntime, threads: &(impl Threads + Wait + Sync)) -> Ending {
     }
 }
 
-/// Says that the command line is bad, and what is wrong with it.
-fn tell_mistake(rt: &HostRuntime) -> io::Result<()> {
-    eprintln!(rt; "scene: bad command line")?;
-    match words_given(rt) {
-        Ok(words) => eprintln!(rt; "scene: {}", mistake_in(words.as_slice())),
-        Err(error) if error.kind() == ErrorKind::OutOfMemory => Ok(()),
-        Err(_) => eprintln!(rt; "scene: a word is no UTF-8"),
-    }
-}
-
-/// Says on standard error why the program ends, where its output doesn't say it.
-fn tell(rt: &HostRuntime, ending: Ending) -> io::Result<()> {
+/// Says on standard error why the program ends, where its output doesn't say it. The words are those that were read, so
+/// that no want of memory keeps back what is wrong with them.
+fn tell(rt: &HostRuntime, ending: Ending, words: &[String]) -> io::Result<()> {
     match ending {
         Ending::Done | Ending::Refused => Ok(()),
-        Ending::BadCommandLine => tell_mistake(rt),
+        Ending::BadCommandLine => {
+            eprintln!(rt; "scene: bad command line")?;
+            eprintln!(rt; "scene: {}", mistake_in(words))
+        }
         Ending::Fault(fault) => eprintln!(rt; "scene: {fault}"),
     }
 }
 
+/// Says on standard error why the words of the command line weren't read.
+fn tell_unread(rt: &HostRuntime, error: &io::Error) -> io::Result<Ending> {
+    if error.kind() == ErrorKind::OutOfMemory {
+        eprintln!(rt; "scene: {}", AppFault::NoMemory)?;
+        Ok(Ending::Fault(AppFault::NoMemory))
+    } else {
+        eprintln!(rt; "scene: bad command line")?;
+        eprintln!(rt; "scene: a word is no UTF-8")?;
+        Ok(Ending::BadCommandLine)
+    }
+}
+
+/// Does what the command line asks for, and says why the program ends.
+fn end_told(rt: &HostRuntime, threads: &(impl Threads + Wait + Sync)) -> io::Result<Ending> {
+    match words_given(rt) {
+        Ok(words) => {
+            let ending = end(rt, threads, words.as_slice());
+            tell(rt, ending, words.as_slice())?;
+            Ok(ending)
+        }
+        Err(error) => tell_unread(rt, &error),
+    }
+}
+
 fn main(rt: HostRuntime) -> ExitCode {
-    let ending = end(&rt, &rt);
-    match tell(&rt, ending) {
-        Ok(()) => ending.exit_code(),
+    match end_told(&rt, &rt) {
+        Ok(ending) => ending.exit_code(),
         Err(_) => ExitCode::from(3),
     }
 }

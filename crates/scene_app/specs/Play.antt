@@ -273,6 +273,7 @@ abbrev pub base_kinds : Base → Kinds
 base_kinds (Declared kinds limit) = kinds
 base_kinds (Loaded e) = e.world.schema
 
+-- and of the setup, by its base
 abbrev pub setup_kinds : SetupState → Kinds
 setup_kinds s = base_kinds s.base
 

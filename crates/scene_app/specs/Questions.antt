@@ -6,6 +6,7 @@ use Rattle.scene_app.specs.declared.question.WorldText.{WorldText}
 use Rattle.scene_app.specs.declared.question.WorldText.TheVariants.{Show, Get, Dump}
 use Rattle.scene_app.specs.Play.{get_text, dump_text}
 
+-- the text that a question asks of a world
 abbrev pub asked_text : WorldText → World → List ℕ
 asked_text Show w = show_text w
 asked_text (Get e) w = get_text w e

@@ -82,7 +82,8 @@ pub fn run_script<T: Threads + Wait + Sync, R: Read, W: Write>(
         (λ script. Appends (W.contents (writer_of sink.old)) (W.contents (writer_of sink.new)) (output script))) }
     ensures bad { IfOk result (λ end. IfSome (R.remaining (reader_of source.old)) (λ script. end.bad_lines ≡ length (bad_lines script))) }
     ensures reports { IfOk result (λ end. IfSome (R.remaining (reader_of source.old)) (λ script. end.reports.items ≡ take 10 (bad_lines script))) }
-    ensures passes { IfOk result (λ end. IfSome (R.remaining (reader_of source.old)) (λ script. AreOf end.lock end.passes.items (hand_after script))) }
+    ensures passes { IfOk result (λ end. IfSome (R.remaining (reader_of source.old))
+        (λ script. AreOf end.lock end.passes.items (hand_after script))) }
     ensures eight { IfOk result (λ end. (hand : HandState) × AreOf end.lock end.passes.items hand) }
     ensures within { OnOk result (IfSome (R.remaining (reader_of source.old)) (λ script. length script ≤ most_bytes)) }
     ensures end { OnOk result (IsAtEnd (R.remaining (reader_of source.new))) }

@@ -46,9 +46,10 @@ undone_text =
     ++ codes "\"redo\":[{\"deltas\":[{\"cells\":[[0,5,1,1]],\"entity\":\"0v1\",\"fresh\":true,\"op\":\"spawned\"}],\"tick\":0}],"
     ++ codes "\"resources\":[],\"scene\":2,\"tables\":[],\"tick\":0,\"undo\":[]}"
 
--- each is written, with a newline
+-- the first is written, with a newline
 abbrev pub SpawnIsSaved : Type 0
 SpawnIsSaved = editor_saved (world_of after_spawn) spawn [] ≡ spawned_text ++ 10 ∷ []
 
+-- and so is the second
 abbrev pub UndoneSpawnIsSaved : Type 0
 UndoneSpawnIsSaved = editor_saved (world_of before_spawn) [] spawn ≡ undone_text ++ 10 ∷ []

@@ -16,6 +16,10 @@ use Rattle.scene_file.specs.Scene.{if_unbroken, json_in}
 abbrev pub editor_of : (depth : ℕ) → (past future : List Record) → World → EditorState
 editor_of depth past future w = record { world = w; past = take depth (reverse past); future = future; rewinds = 0; depth = depth }
 
+-- an editor as its text gives it: the same world and records, as many of the past as a depth keeps, and no undos so far
+abbrev pub loaded_again : (depth : ℕ) → EditorState → EditorState
+loaded_again depth e = record { world = e.world; past = take depth e.past; future = e.future; rewinds = 0; depth = depth }
+
 -- the editor, unless a record doesn't fit
 abbrev pub if_fit : Option (ℕ × ℕ) → EditorState → Result EditorState FileFault
 if_fit None e = Ok e

@@ -37,15 +37,21 @@ EditorsAreReadAgain = (depth : ℕ) (w : World) (past future : List Record) → 
 abbrev pub WorldsAreReadAsEditors : Type 0
 WorldsAreReadAsEditors = (depth : ℕ) (w : World) → IsValid w → editor_in depth (world_text w) ≡ Ok (new_editor w depth)
 
--- and so are the bytes that are saved of both
+-- and so are the bytes that are saved of it
 abbrev pub SavedWorldsAreEditors : Type 0
 SavedWorldsAreEditors = (depth : ℕ) (w : World) → IsValid w → loaded_editor depth (saved w) ≡ Ok (new_editor w depth)
 
+-- the bytes that are saved of such are loaded as that editor
 abbrev pub SavedEditorsAreLoaded : Type 0
 SavedEditorsAreLoaded = (depth : ℕ) (w : World) (past future : List Record) → FitTogether w past future
     → loaded_editor depth (editor_saved w past future) ≡ Ok (editor_of depth past future w)
 
--- equal bytes come from equal worlds with equal records
+-- equal texts come from equal worlds with equal records
+abbrev pub TextsTellEditorsApart : Type 0
+TextsTellEditorsApart = (v w : World) (past future older later : List Record) → FitTogether v past future → FitTogether w older later
+    → editor_text v past future ≡ editor_text w older later → (v ≡ w) × (past ≡ older) × (future ≡ later)
+
+-- and so do equal bytes
 abbrev pub SavesTellEditorsApart : Type 0
 SavesTellEditorsApart = (v w : World) (past future older later : List Record) → FitTogether v past future → FitTogether w older later
     → editor_saved v past future ≡ editor_saved w older later → (v ≡ w) × (past ≡ older) × (future ≡ later)

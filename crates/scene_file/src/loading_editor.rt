@@ -86,8 +86,8 @@ fn editor_in(alloc: Global, text: &[u8], depth: u32) -> Result<Editor, FileFault
 /// the walk through the text meets, with its path; `BadWorld` with the first rule that is broken; `BadRecord` with the
 /// first record that doesn't fit at its turn, and its fault, as `Editor::from_parts` names them: all are tried, and then
 /// the depth drops the oldest. `NoMemory` may stand in place of any answer, and does where the text has more than
-/// 4,294,967,040 bytes. It costs what `load_text` costs, and twice what the records changed, with a look at all cells for
-/// each record of the past. The text's document is given back before the world is made.
+/// 4,294,967,040 bytes. It costs what `load_text` costs, and what `Editor::from_parts` does: twice what the records changed,
+/// and one look at all cells, however many frames there are. The text's document is given back before the world is made.
 #[tactic(auto, using(crate::proofs::TextFaults::loading))]
 pub fn load_editor_text(alloc: Global, text: &[u8], depth: u32) -> Result<Editor, FileFault>
     ensures editor { IfOk result (λ editor. loaded_editor depth text.now ≡ Ok editor) }
@@ -113,7 +113,8 @@ pub fn load_editor<R: Read>(
     ensures value { IfOk result (λ editor. IfSome (R.remaining (reader_of source.old)) (λ text. IsTextOf text editor)) }
     ensures within { OnOk result (IfSome (R.remaining (reader_of source.old)) (λ text. length text ≤ most_bytes)) }
     ensures end { OnOk result (IsAtEnd (R.remaining (reader_of source.new))) }
-    ensures fault { IfErr result (λ e. e ≢ ReadFault → e ≢ TooLong → IfSome (R.remaining (reader_of source.old)) (λ text. IsFault e (loaded_editor depth text))) }
+    ensures fault { IfErr result (λ e. e ≢ ReadFault → e ≢ TooLong
+        → IfSome (R.remaining (reader_of source.old)) (λ text. IsFault e (loaded_editor depth text))) }
     ensures read { (result ≡ Err ReadFault) ↔ (read_failed source.new ≡ true) }
     ensures marked { read_failed source.old ≡ true → source.new ≡ source.old }
     ensures called { read_failed source.old ≡ false → IfErr result (λ e. e ≡ ReadFault → turns_left source.new < turns_left source.old) }

@@ -6,6 +6,7 @@ ghost use Rattle.scene_streams.specs.Sink.{writer_of, write_failed};
 ghost use Rattle.scene_forms.specs.declared.fault.FileFault.TheVariants.{WriteFault};
 ghost use Rattle.scene_forms.specs.Outcome.{IsFault};
 ghost use Rattle.scene_file.specs.Saving.{save_of};
+ghost use Rattle.scene_file.specs.Scene.{loaded};
 ghost use Rattle.scene_file.specs.Text.{saved};
 
 use crate::write_world::write_world;
@@ -25,12 +26,8 @@ fn whole_text(alloc: Global, world: &World) -> Result<String, AllocError>
     Ok(text)
 }
 
-/// The text of a world as a save writes it, with its newline (docs/SCENE_FILES.md, "Writing"). Equal texts come from
-/// equal worlds.
-///
-/// Refused: `TooLong` where text and newline are more than `MOST_BYTES` bytes, which no load reads; or `NoMemory`. It
-/// costs a walk over the world, with a look for each kind set, parent and resource, and the memory of the text alone.
-pub fn save_text(alloc: Global, world: &World) -> Result<String, FileFault>
+/// The text of a world and a newline, unless they are too long.
+fn short_text(alloc: Global, world: &World) -> Result<String, FileFault>
     ensures text { IfOk result (λ s. save_of world.now.world ≡ Ok (string_bytes s)) }
     ensures fault { IfErr result (λ e. IsFault e (save_of world.now.world)) }
 {
@@ -41,13 +38,29 @@ pub fn save_text(alloc: Global, world: &World) -> Result<String, FileFault>
     Ok(text)
 }
 
-/// Writes the text of a world, with its newline, to a sink (docs/SCENE_FILES.md, "Writing").
+/// The text of a world as a save writes it, with its newline (docs/SCENE_FILES.md, "Writing"). Loading it gives just this
+/// world, so equal texts come from equal worlds.
+///
+/// Refused: `TooLong` where text and newline are more than `MOST_BYTES` bytes, which no load reads; or `NoMemory`. It
+/// costs a walk over the world, with a look for each kind set, parent and resource, and the memory of the text alone.
+pub fn save_text(alloc: Global, world: &World) -> Result<String, FileFault>
+    ensures text { IfOk result (λ s. save_of world.now.world ≡ Ok (string_bytes s)) }
+    ensures loads { IfOk result (λ s. loaded (string_bytes s) ≡ Ok world.now.world) }
+    ensures fault { IfErr result (λ e. IsFault e (save_of world.now.world)) }
+{
+    let _tick = world.tick();
+    short_text(alloc, world)
+}
+
+/// Writes the text of a world, with its newline, to a sink (docs/SCENE_FILES.md, "Writing"). Loading what was written gives
+/// just this world.
 ///
 /// Refused, in this order: `TooLong` or `NoMemory` as by `save_text`, and then nothing was written; `WriteFault` where a
 /// call of the writer fails or takes no byte, or did so before, and then a prefix of the text was written. It costs what
 /// `save_text` costs, and a call of the writer for each part that it takes.
 pub fn save<W: Write>(alloc: Global, sink: &mut Sink<W>, world: &World) -> Result<(), FileFault>
     ensures written { OnOk result (Appends (W.contents (writer_of sink.old)) (W.contents (writer_of sink.new)) (saved world.now.world)) }
+    ensures loads { OnOk result (loaded (saved world.now.world) ≡ Ok world.now.world) }
     ensures within { OnOk result (save_of world.now.world ≡ Ok (saved world.now.world)) }
     ensures prefix { OnErr result (AppendsPrefix (W.contents (writer_of sink.old)) (W.contents (writer_of sink.new)) (saved world.now.world)) }
     ensures nothing { IfErr result (λ f. f ≢ WriteFault → sink.new ≡ sink.old) }
@@ -57,7 +70,8 @@ pub fn save<W: Write>(alloc: Global, sink: &mut Sink<W>, world: &World) -> Resul
     ensures refused { write_failed sink.old ≡ true → sink.new ≡ sink.old }
     ensures unmarked { OnOk result (write_failed sink.new ≡ false) }
 {
-    let text = save_text(alloc, world)?;
+    let _tick = world.tick();
+    let text = short_text(alloc, world)?;
     sink.write_all(text.as_bytes())?;
     Ok(())
 }

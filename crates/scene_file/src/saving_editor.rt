@@ -1,12 +1,14 @@
 //! Saving an editor: its text, and the writing of it.
-ghost use Rattle.std.specs.Prelude.{◌≡◌, ◌≢◌, ◌↔◌, true, false, reverse, Ok, Err, IfOk, IfErr, OnOk, OnErr, string_bytes};
+ghost use Rattle.std.specs.Prelude.{◌≡◌, ◌≢◌, ◌↔◌, ℕ, true, false, reverse, Ok, Err, IfOk, IfErr, OnOk, OnErr, string_bytes};
 ghost use Rattle.std.specs.Io.KnownBytes.{Appends};
 ghost use Rattle.scene_streams.specs.Known.{AppendsPrefix};
 ghost use Rattle.scene_streams.specs.Sink.{writer_of, write_failed};
 ghost use Rattle.scene_forms.specs.declared.fault.FileFault.TheVariants.{WriteFault};
 ghost use Rattle.scene_forms.specs.Outcome.{IsFault};
 ghost use Rattle.scene_file.specs.Saving.{save_editor_of};
+ghost use Rattle.scene_file.specs.EditorScene.{loaded_again, loaded_editor};
 ghost use Rattle.scene_file.specs.EditorText.{editor_saved};
+ghost use Rattle.scene_file.specs.SavedLaws.{FitTogether};
 
 use crate::write_editor::write_editor;
 use scene_forms::FileFault;
@@ -14,6 +16,14 @@ use scene_streams::{MOST_BYTES, Sink};
 use scene_undo::Editor;
 use std::alloc::{AllocError, Global};
 use std::io::Write;
+
+/// What each editor keeps: a valid world, and records that fit at their turns.
+fn records_fit(editor: &Editor)
+    ensures { FitTogether editor.now.world (reverse editor.now.past) editor.now.future }
+{
+    let _tick = editor.world().tick();
+    let _records = editor.records();
+}
 
 /// The text of an editor and a newline, however long they are.
 fn whole_text(alloc: Global, editor: &Editor) -> Result<String, AllocError>
@@ -26,15 +36,18 @@ fn whole_text(alloc: Global, editor: &Editor) -> Result<String, AllocError>
 }
 
 /// The text of an editor as a save writes it, with its newline: its world and its records, but neither its depth nor how many
-/// undos there were (docs/SCENE_FILES.md, "Writing" and "Version 2").
+/// undos there were (docs/SCENE_FILES.md, "Writing" and "Version 2"). Loading it at any depth gives just this editor, with
+/// that depth, the newest of its past that the depth keeps, and no undos so far.
 ///
 /// Refused: `TooLong` where text and newline are more than `MOST_BYTES` bytes, which no load reads; or `NoMemory`. It
 /// costs a walk over the world, with a look for each kind set, parent and resource, a walk over the records, and the
 /// memory of the text alone.
 pub fn save_editor_text(alloc: Global, editor: &Editor) -> Result<String, FileFault>
     ensures text { IfOk result (λ s. save_editor_of editor.now.world (reverse editor.now.past) editor.now.future ≡ Ok (string_bytes s)) }
+    ensures loads { IfOk result (λ s. (depth : ℕ) → loaded_editor depth (string_bytes s) ≡ Ok (loaded_again depth editor.now)) }
     ensures fault { IfErr result (λ e. IsFault e (save_editor_of editor.now.world (reverse editor.now.past) editor.now.future)) }
 {
+    records_fit(editor);
     let text = whole_text(alloc, editor)?;
     if text.len() > MOST_BYTES {
         return Err(FileFault::TooLong);
@@ -42,7 +55,8 @@ pub fn save_editor_text(alloc: Global, editor: &Editor) -> Result<String, FileFa
     Ok(text)
 }
 
-/// Writes the text of an editor, with its newline, to a sink (docs/SCENE_FILES.md, "Writing").
+/// Writes the text of an editor, with its newline, to a sink (docs/SCENE_FILES.md, "Writing"). Loading what was written
+/// gives just this editor, as `save_editor_text` says.
 ///
 /// Refused, in this order: `TooLong` or `NoMemory` as by `save_editor_text`, and then nothing was written; `WriteFault`
 /// where a call of the writer fails or takes no byte, or did so before, and then a prefix of the text was written. It costs
@@ -54,6 +68,8 @@ pub fn save_editor<W: Write>(
 ) -> Result<(), FileFault>
     ensures written { OnOk result (Appends (W.contents (writer_of sink.old)) (W.contents (writer_of sink.new))
         (editor_saved editor.now.world (reverse editor.now.past) editor.now.future)) }
+    ensures loads { OnOk result ((depth : ℕ) → loaded_editor depth (editor_saved editor.now.world (reverse editor.now.past) editor.now.future)
+        ≡ Ok (loaded_again depth editor.now)) }
     ensures within { OnOk result (save_editor_of editor.now.world (reverse editor.now.past) editor.now.future
         ≡ Ok (editor_saved editor.now.world (reverse editor.now.past) editor.now.future)) }
     ensures prefix { OnErr result (AppendsPrefix (W.contents (writer_of sink.old)) (W.contents (writer_of sink.new))
@@ -67,6 +83,7 @@ pub fn save_editor<W: Write>(
     ensures refused { write_failed sink.old ≡ true → sink.new ≡ sink.old }
     ensures unmarked { OnOk result (write_failed sink.new ≡ false) }
 {
+    records_fit(editor);
     let text = save_editor_text(alloc, editor)?;
     sink.write_all(text.as_bytes())?;
     Ok(())

@@ -38,8 +38,10 @@ asked_back (Advance s) = refl
 asked_back Undo = refl
 asked_back Redo = refl
 
+-- an asked call, by its question
 abbrev pub asked_code : Coded Asked
-asked_code = code_by Question (coded⊎ (coded_list queue.the_row.coded) (coded⊎ schedule.the_row.coded (coded⊎ coded_unit coded_unit))) of_asked to_asked asked_back
+asked_code = code_by Question (coded⊎ (coded_list queue.the_row.coded) (coded⊎ schedule.the_row.coded (coded⊎ coded_unit coded_unit)))
+    of_asked to_asked asked_back
 
 -- what a reply tells
 abbrev Told : Type 0
@@ -63,8 +65,10 @@ answer_back (Refused r) = refl
 answer_back Undone = refl
 answer_back Redone = refl
 
+-- an answer, by what it tells
 abbrev pub answer_code : Coded Answer
-answer_code = code_by Told (coded⊎ (coded_list entity.the_row.coded) (coded⊎ refusal.the_row.coded (coded⊎ coded_unit coded_unit))) of_answer to_answer answer_back
+answer_code = code_by Told (coded⊎ (coded_list entity.the_row.coded) (coded⊎ refusal.the_row.coded (coded⊎ coded_unit coded_unit)))
+    of_answer to_answer answer_back
 
 -- a call that was made
 abbrev pub made_code : Coded Made

@@ -7,7 +7,7 @@ ghost use Rattle.scene_journal.specs.Faults.{IsAfterSome, IsBeforeSome, IsRedone
 ghost use Rattle.scene_deltas.specs.Ready.{AreReady, AreReadyOn};
 ghost use Rattle.scene_deltas.specs.Deltas.{fwd_all, back_all};
 ghost use Rattle.scene_journal.specs.Records.{raised, redone, undone, RecordFitsOn, RecordFitsBack};
-ghost use Rattle.scene_newest.specs.Newest.{Covers};
+ghost use Rattle.scene_newest.specs.Newest.{Covers, KeepsAges};
 ghost use Rattle.scene_world.specs.Room.{IsWider};
 
 use crate::record::FrameRecord;
@@ -124,6 +124,7 @@ impl FrameRecord {
         ensures ready { OnOk result (AreReady draft.new.room self.now.deltas draft.old.world) }
         ensures done { OnOk result (draft.new.world ≡ undone self.now draft.old.world) }
         ensures covers { OnOk result (Covers newest.new draft.new.world) }
+        ensures ages { OnOk result (KeepsAges newest.old newest.new) }
         ensures refused { IfErr result (Names (IsFaultBack self.now draft.old.world)) }
         ensures part { OnErr result (IsUndoneInPart self.now draft.old.world draft.new.world) }
         ensures wide { IsWider draft.old.room draft.new.room }

@@ -30,7 +30,7 @@ use Rattle.scene_newest.proofs.Listed.{cells_wider}
 pub covers_wider : (a b : Newest) (w : World) → IsWider a b → Covers a w → Covers b w
 covers_wider a b w wide c = record {
   rows = λ h row at. cells_wider a b row.entity row.cells wide (c.rows h row at);
-  resources = λ name cell is. wide cell.changed (Resource name) (c.resources name cell is);
+  resources = λ name cell is. wide.spots cell.changed (Resource name) (c.resources name cell is);
 }
 
 -- ---- the cells of a row
@@ -142,14 +142,14 @@ module _ (n : Newest) where
 pub lists_wider : (a b : Newest) (d : Delta) → IsWider a b → ListsBack a d → ListsBack b d
 lists_wider a b (Spawned e cells fresh) wide h = tt
 lists_wider a b (Despawned e place cells link retired) wide h = cells_wider a b e cells wide h
-lists_wider a b (Shifted e place kind cell inward) wide h = λ out. wide cell.changed (Component e kind) (h out)
-lists_wider a b (CellSet e kind before after) wide h = wide before.changed (Component e kind) h
+lists_wider a b (Shifted e place kind cell inward) wide h = λ out. wide.spots cell.changed (Component e kind) (h out)
+lists_wider a b (CellSet e kind before after) wide h = wide.spots before.changed (Component e kind) h
 lists_wider a b (Linked e before after) wide h = tt
 lists_wider a b (ResourceSet name before after) wide h = from before h
   where
     from : (o : Option Cell) → IfSome o (λ cell. IsListed a cell.changed (Resource name)) → IfSome o (λ cell. IsListed b cell.changed (Resource name))
     from None k = tt
-    from (Some cell) k = wide cell.changed (Resource name) k
+    from (Some cell) k = wide.spots cell.changed (Resource name) k
 
 -- another tick changes no cell
 pub covers_at : (n : Newest) (w : World) (tick : ℕ) → Covers n w → Covers n (set_tick w tick)

@@ -5,6 +5,7 @@ use Rattle.std.specs.declared.cmp.Ordering.{Ordering}
 use Rattle.std.specs.Ordering.{nat_cmp, eq_by_cmp}
 use Rattle.std.specs.FinMap.{IsAntisymmetric, nat_cmp-IsAntisymmetric}
 use Rattle.std.specs.FinMap.Entries.{find}
+use Rattle.std.proofs.lemmas.List.{length-set}
 use Rattle.std.proofs.lemmas.List.Elements.{Contains-append_left, Contains-push}
 use Rattle.std.proofs.lemmas.Option.{same_Some, slice_get-map, slice_get_within}
 use Rattle.scene_kinds.specs.declared.entity.Entity.{Entity}
@@ -22,13 +23,16 @@ use Rattle.scene_newest.specs.declared.spot.Spot.TheVariants.{Component, Resourc
 use Rattle.scene_newest.specs.Newest.{Newest, AreListed, AreRowsListed, IsListed, IsNameListed, IsWider}
 
 pub wider_itself : (n : Newest) → IsWider n n
-wider_itself n tick spot h = h
+wider_itself n = record { spots = λ tick spot h. h; ages = (refl, refl) }
 
 pub wider_wider : (a b c : Newest) → IsWider a b → IsWider b c → IsWider a c
-wider_wider a b c p q tick spot h = q tick spot (p tick spot h)
+wider_wider a b c p q = record {
+  spots = λ tick spot h. q.spots tick spot (p.spots tick spot h);
+  ages = (q.ages.0 ∙ p.ages.0, q.ages.1 ∙ p.ages.1);
+}
 
 pub cells_wider : (a b : Newest) (e : Entity) (cells : List (ℕ × Cell)) → IsWider a b → AreListed a e cells → AreListed b e cells
-cells_wider a b e cells wide h kind cell is = wide cell.changed (Component e kind) (h kind cell is)
+cells_wider a b e cells wide h kind cell is = wide.spots cell.changed (Component e kind) (h kind cell is)
 
 -- ---- one more spot
 
@@ -40,11 +44,14 @@ module _ (n m : Newest) (tick at : ℕ) (spot : Spot) (there : List Spot) (same 
       (λ e s. subst (λ xs. Contains xs spot) s (Contains-push there spot))
       (λ other k. absurd (other (omega (arith, is, same, age))))
 
-  pub added_wider : IsWider n m
-  added_wider t x h a spots is here =
+  still_listed : (t : ℕ) (x : Spot) → IsListed n t x → IsListed m t x
+  still_listed t x h a spots is here =
       written (Contains spots x) n.by_age at (there ++ spot ∷ []) a spots (ap (λ ls. slice_get ls a) (sym now) ∙ here)
       (λ e s. subst (λ xs. Contains xs x) s (Contains-append_left there (spot ∷ []) x (h a there (is ∙ same) (ap (slice_get n.by_age) e ∙ was))))
       (λ other k. h a spots (is ∙ same) k)
+
+  pub added_wider : IsWider n m
+  added_wider = record { spots = still_listed; ages = (same, ap length now ∙ length-set n.by_age at (there ++ spot ∷ [])) }
 
 -- no spots are kept of a tick
 pub none_listed : (n : Newest) (tick : ℕ) (spot : Spot) → ((age : ℕ) → tick + age ≡ n.opening → length n.by_age ≤ age) → IsListed n tick spot
@@ -93,7 +100,7 @@ abbrev pub IsCellListed : Newest → Entity → ℕ × Cell → Type 0
 IsCellListed n e c = IsListed n c.1.changed (Component e c.0)
 
 pub cell_wider : (a b : Newest) (e : Entity) → IsWider a b → (c : ℕ × Cell) → IsCellListed a e c → IsCellListed b e c
-cell_wider a b e wide c h = wide c.1.changed (Component e c.0) h
+cell_wider a b e wide c h = wide.spots c.1.changed (Component e c.0) h
 
 pub cells_listed : (n : Newest) (e : Entity) (cells : List (ℕ × Cell)) (count : ℕ) → length cells ≤ count → UpTo (IsCellListed n e) cells count → AreListed n e cells
 cells_listed n e cells count all h kind cell is =
@@ -107,7 +114,7 @@ pub rows_wider : (a b : Newest) → IsWider a b → (rows : List Row) → AreRow
 rows_wider a b wide rows h at row is = row_wider a b wide row (h at row is)
 
 pub name_wider : (a b : Newest) (r : NamedCells) → IsWider a b → (name : List ℕ) → IsNameListed a r name → IsNameListed b r name
-name_wider a b r wide name h cell is = wide cell.changed (Resource name) (h cell is)
+name_wider a b r wide name h cell is = wide.spots cell.changed (Resource name) (h cell is)
 
 -- ---- what is known of a call that was accepted
 

@@ -1,5 +1,6 @@
 -- Which spots are listed of the cells that were changed in a world's newest ticks.
-use Rattle.std.specs.Prelude.{◌≡◌, ℕ, ◌+◌, Bool, true, false, not, nat_eq, List, Option, Some, None, ⊤, Contains, IfSome, option_map, slice_get}
+use Rattle.std.specs.Prelude.{◌≡◌, ℕ, ◌+◌, Bool, true, false, not, nat_eq, ⊤, List, length, slice_get, Contains}
+use Rattle.std.specs.Prelude.{Option, Some, None, IfSome, option_map}
 use Rattle.scene_kinds.specs.declared.entity.Entity.{Entity}
 use Rattle.scene_kinds.specs.declared.cell.Cell.{Cell}
 use Rattle.scene_kinds.specs.declared.cells.Row.{Row}
@@ -48,9 +49,18 @@ CoversAny n = (w : World) → Covers n w
 abbrev pub GoesBack : List Delta → (old new : Newest) → Type 0
 GoesBack ds old new = (w : World) → Covers old w → Covers new (back_all ds w)
 
--- what was listed still is
-abbrev pub IsWider : (old new : Newest) → Type 0
-IsWider old new = (tick : ℕ) (spot : Spot) → IsListed old tick spot → IsListed new tick spot
+-- spots are kept of so many ticks, of which this one is the newest
+abbrev pub HasAges : Newest → (opening ticks : ℕ) → Type 0
+HasAges n opening ticks = (n.opening ≡ opening) × (length n.by_age ≡ ticks)
+
+-- they are kept of the same ticks
+abbrev pub KeepsAges : (old new : Newest) → Type 0
+KeepsAges old new = HasAges new old.opening (length old.by_age)
+
+-- what was listed still is, and spots are kept of the same ticks
+pub record IsWider (old new : Newest) : Type 0 where
+  pub spots : (tick : ℕ) (spot : Spot) → IsListed old tick spot → IsListed new tick spot
+  pub ages : KeepsAges old new
 
 -- those of the cells are that come where a delta is taken back
 abbrev pub ListsBack : Newest → Delta → Type 0

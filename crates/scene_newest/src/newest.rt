@@ -1,10 +1,12 @@
 //! The cells of a world that were changed in its newest ticks.
-ghost use Rattle.std.specs.Prelude.{◌≡◌, ◌↔◌, ◌+◌, ◌<◌, ◌≤◌, ℕ, List, map, Some, IsTrue, IfOk, OnOk, IfSome, IfNone, length, slice_get, string_bytes};
+ghost use Rattle.std.specs.Prelude.{◌≡◌, ◌↔◌, ◌+◌, ◌<◌, ◌≤◌, ℕ, List, [], map, length, slice_get, string_bytes};
+ghost use Rattle.std.specs.Prelude.{Some, IfOk, IfNone, IfSome, IsOk, IsTrue, OnOk};
 ghost use Rattle.scene_kinds.specs.declared.cells.Row.{Row};
 ghost use Rattle.scene_table.specs.Tables.{EachRow};
 ghost use Rattle.scene_model.specs.Can.{CanSetTick};
 ghost use Rattle.scene_newest.specs.declared.spot.Spot.TheVariants.{Resource};
-ghost use Rattle.scene_newest.specs.Newest.{AreListed, AreRowsListed, Covers, CoversAny, GoesBack, IsListed, IsNameListed, IsWider, ListsBack};
+ghost use Rattle.scene_newest.specs.Newest.{AreListed, AreRowsListed, Covers, CoversAny, GoesBack, HasAges, KeepsAges};
+ghost use Rattle.scene_newest.specs.Newest.{IsListed, IsNameListed, IsWider, ListsBack};
 
 use crate::spot::{Spot, Spots, were_changed_otherwise};
 use scene_deltas::{Delta, can_set_tick};
@@ -34,9 +36,10 @@ impl Model for NewestCells {
 }
 
 impl NewestCells {
-    /// The cells of no tick: a look for late cells goes over the whole world. It takes no memory.
+    /// The cells of no tick: a look for late cells goes over the whole world (docs/JOURNAL.md, "In code"). It takes no memory.
     pub fn none(alloc: Global) -> NewestCells
-        ensures { CoversAny result }
+        ensures covers { CoversAny result }
+        ensures ages { result.by_age ≡ [] }
     {
         NewestCells {
             opening: 0,
@@ -47,7 +50,8 @@ impl NewestCells {
     /// The cells of a world that were changed in its newest ticks, or an error where no memory was found. It costs a look at
     /// all cells, and a place for each tick and for each cell that is listed.
     pub fn new(alloc: Global, world: &World, ticks: usize) -> Result<NewestCells, AllocError>
-        ensures { IfOk result (λ n. Covers n world.now.world) }
+        ensures covers { IfOk result (λ n. Covers n world.now.world) }
+        ensures ages { IfOk result (λ n. HasAges n world.now.world.tick ticks) }
     {
         let mut newest = NewestCells {
             opening: world.tick(),
@@ -61,7 +65,8 @@ impl NewestCells {
     /// Lists the cells that come back where deltas are taken back, or answers an error where no memory was found. It costs a
     /// look at these cells.
     pub fn take_back(&mut self, deltas: &[Delta]) -> Result<(), AllocError>
-        ensures { OnOk result (GoesBack deltas.now self.old self.new) }
+        ensures back { OnOk result (GoesBack deltas.now self.old self.new) }
+        ensures ages { OnOk result (KeepsAges self.old self.new) }
     {
         for delta in deltas {
             self.add_delta(delta)?;
@@ -75,7 +80,8 @@ impl NewestCells {
     pub fn can_set_tick(&self, world: &World, tick: u64) -> Result<bool, AllocError>
         requires covered { Covers self.now world.now.world }
         requires one_before { world.now.world.tick ≡ tick + 1 }
-        ensures { IfOk result (λ can. IsTrue can ↔ CanSetTick world.now.world tick) }
+        ensures can { IfOk result (λ can. IsTrue can ↔ CanSetTick world.now.world tick) }
+        ensures kept { (age : ℕ) → world.now.world.tick + age ≡ self.now.opening → age < length self.now.by_age → IsOk result }
     {
         let now = world.tick();
         match self.spots_of(now) {
@@ -102,7 +108,9 @@ impl NewestCells {
 
     /// The spots that are listed of a tick, if they are kept.
     fn spots_of(&self, tick: u64) -> Option<&[Spot]>
-        ensures { IfSome result (λ spots. (age : ℕ) × ((tick + age ≡ self.now.opening) × (slice_get self.now.by_age age ≡ Some spots.now))) }
+        ensures some { IfSome result (λ spots. (age : ℕ) × ((tick + age ≡ self.now.opening)
+            × (slice_get self.now.by_age age ≡ Some spots.now))) }
+        ensures none { IfNone result ((age : ℕ) → tick + age ≡ self.now.opening → length self.now.by_age ≤ age) }
     {
         let age = self.age_of(tick)?;
         Some(self.by_age[age].as_slice())
@@ -164,7 +172,8 @@ impl NewestCells {
 
     /// Lists the cells of tables.
     fn add_tables(&mut self, tables: &[&Table]) -> Result<(), AllocError>
-        ensures listed { OnOk result ((i : ℕ) (rows : List Row) → slice_get (map (λ t. t.now.rows) tables.now) i ≡ Some rows → AreRowsListed self.new rows) }
+        ensures listed { OnOk result ((i : ℕ) (rows : List Row) → slice_get (map (λ t. t.now.rows) tables.now) i ≡ Some rows
+            → AreRowsListed self.new rows) }
         ensures wide { OnOk result (IsWider self.old self.new) }
     {
         for number in 0..tables.len() {
@@ -204,7 +213,8 @@ impl NewestCells {
 
     /// Lists the cells of the resources of names.
     fn add_names(&mut self, resources: &Resources, names: &[String]) -> Result<(), AllocError>
-        ensures listed { OnOk result ((i : ℕ) (name : List ℕ) → slice_get (map string_bytes names.now) i ≡ Some name → IsNameListed self.new resources.now.cells name) }
+        ensures listed { OnOk result ((i : ℕ) (name : List ℕ) → slice_get (map string_bytes names.now) i ≡ Some name
+            → IsNameListed self.new resources.now.cells name) }
         ensures wide { OnOk result (IsWider self.old self.new) }
     {
         for number in 0..names.len() {
@@ -263,9 +273,11 @@ impl NewestCells {
 }
 
 /// No spots of so many ages.
-fn empty(alloc: Global, ages: usize) -> Result<Vec<Spots>, AllocError> {
+fn empty(alloc: Global, ages: usize) -> Result<Vec<Spots>, AllocError>
+    ensures { IfOk result (λ by_age. length by_age.items ≡ ages) }
+{
     let mut by_age = Vec::new(alloc);
-    for _ in 0..ages {
+    'fill: for _ in 0..ages {
         by_age.push(Spots::new(alloc))?;
     }
     Ok(by_age)

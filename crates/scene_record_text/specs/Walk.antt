@@ -71,7 +71,8 @@ maybe_resource_cell_at path d = maybe_of resource_cell_at path d
 abbrev pub spawned_of : Kinds → List ℕ → Members → Result Delta FileFault
 spawned_of schema path ms =
     key_of (kcells_at schema) path (codes "cells") ms
-    >>= λ cells. key_of entity_at path (codes "entity") ms >>= λ entity. key_of flag_at path (codes "fresh") ms >>= λ fresh. Ok (Spawned entity cells fresh)
+    >>= λ cells. key_of entity_at path (codes "entity") ms >>= λ entity. key_of flag_at path (codes "fresh") ms
+    >>= λ fresh. Ok (Spawned entity cells fresh)
 
 abbrev pub despawned_of : Kinds → List ℕ → Members → Result Delta FileFault
 despawned_of schema path ms =
@@ -99,7 +100,8 @@ cell_set_of schema path ms =
 abbrev pub linked_of : List ℕ → Members → Result Delta FileFault
 linked_of path ms =
     key_of link_at path (codes "after") ms
-    >>= λ after. key_of link_at path (codes "before") ms >>= λ before. key_of entity_at path (codes "entity") ms >>= λ entity. Ok (Linked entity before after)
+    >>= λ after. key_of link_at path (codes "before") ms >>= λ before. key_of entity_at path (codes "entity") ms
+    >>= λ entity. Ok (Linked entity before after)
 
 abbrev pub resource_set_of : List ℕ → Members → Result Delta FileFault
 resource_set_of path ms =
@@ -135,7 +137,8 @@ delta_at schema path d = op_of path d >>= λ op. object_at (op_keys op) path d >
 abbrev pub record_at : Kinds → List ℕ → Data → Result Record FileFault
 record_at schema path d =
     object_at (codes "deltas" ∷ codes "tick" ∷ []) path d
-    >>= λ ms. key_of (list_of (delta_at schema)) path (codes "deltas") ms >>= λ deltas. key_of tick_at path (codes "tick") ms >>= λ tick. Ok (record_of tick deltas)
+    >>= λ ms. key_of (list_of (delta_at schema)) path (codes "deltas") ms >>= λ deltas. key_of tick_at path (codes "tick") ms
+    >>= λ tick. Ok (record_of tick deltas)
 
 -- records, as those of the past or of the future
 abbrev pub records_at : Kinds → List ℕ → Data → Result (List Record) FileFault

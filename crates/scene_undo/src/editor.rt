@@ -19,7 +19,7 @@ ghost use Rattle.scene_undo.specs.Editor.{IsRecordOf, at_depth, entities_of, mac
 ghost use Rattle.scene_undo.specs.Kept.{CanUndo};
 ghost use Rattle.scene_undo.specs.Parts.{NamesFrame};
 ghost use Rattle.scene_undo.specs.Stacks.{IsRedone, IsUndone};
-ghost use Rattle.scene_verdicts.specs.Faults.{IsFaultOf};
+ghost use Rattle.scene_verdicts.specs.Faults.{FutureFits, IsFaultOf, PastFits};
 
 use crate::cursor::Cursor;
 use crate::direction::Direction;
@@ -220,10 +220,13 @@ impl Editor {
     }
 
     /// The records of the past that are kept, the oldest first, and those of the future, the next one first: what
-    /// `from_parts` takes.
+    /// `from_parts` takes. Each fits at its turn: those of the past are undone from the world now, and those of the future
+    /// redone (docs/JOURNAL.md, "Records").
     pub fn records(&self) -> (&[FrameRecord], &[FrameRecord])
         ensures past { reverse result.0.now ≡ self.now.past }
         ensures future { result.1.now ≡ self.now.future }
+        ensures fit_back { PastFits self.now.past self.now.world }
+        ensures fit_on { FutureFits self.now.future self.now.world }
     {
         self.stacks.records()
     }

@@ -28,7 +28,7 @@ pub can_set_tick-requires-clause-covered : goal.can_set_tick-requires-clause-cov
 can_set_tick-requires-clause-covered c =
     let w = c.args.draft.now.world in
     subst (Covers c.take_back.new.self) (sym (c.in_ok-undo_fitting.ensures.done ∙ ap (λ ds. back_all ds w) (c.deltas-2.ensures ∙ sym c.deltas-3.ensures)))
-    (c.in_ok-take_back.ensures w c.requires)
+    (c.in_ok-take_back.ensures.back w c.requires)
 
 pub can_set_tick-requires-clause-one_before : goal.can_set_tick-requires-clause-one_before
 can_set_tick-requires-clause-one_before c =
@@ -45,7 +45,7 @@ returns-clause-covers c =
     let v = c.undo_fitting.new.draft.world in
     let m = c.take_back.new.self in
     let covered : Covers m v = subst (Covers m) (sym (c.in_ok-undo_fitting.ensures.done ∙ ap (λ ds. back_all ds w) (c.deltas-2.ensures ∙ sym c.deltas-3.ensures)))
-    (c.in_ok-take_back.ensures w c.requires) in
+    (c.in_ok-take_back.ensures.back w c.requires) in
     subst (Covers m) (sym c.set_tick.ensures.world) (covers_at m v c.tick_before-before.result covered)
 
 pub returns-clause-fits : goal.returns-clause-fits
@@ -60,5 +60,5 @@ returns-clause-fits c =
     let tick : w.tick ≡ r.tick_before + 1 = grind (arith, nat_tests) in
     let ready = subst (λ ds. AreReady v.room ds w) c.deltas-2.ensures c.in_ok-undo_fitting.ensures.ready in
     let done : v.world ≡ back_all r.deltas w = c.in_ok-undo_fitting.ensures.done ∙ ap (λ ds. back_all ds w) c.deltas-2.ensures in
-    let can : CanSetTick v.world r.tick_before = subst (CanSetTick v.world) before (c.in_ok-can_set_tick.ensures.0 c.if-not-branch.false) in
+    let can : CanSetTick v.world r.tick_before = subst (CanSetTick v.world) before (c.in_ok-can_set_tick.ensures.can.0 c.if-not-branch.false) in
     record { tick = tick; deltas = ready_fits_back v.room r.deltas w ready; timely = subst (λ u. CanSetTick u r.tick_before) done can }

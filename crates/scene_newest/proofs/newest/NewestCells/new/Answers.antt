@@ -4,8 +4,8 @@ use Rattle.scene_newest.specs.Newest.{IsNameListed}
 use Rattle.scene_newest.proofs.Listed.{row_wider}
 use Rattle.scene_newest.proofs.newest.NewestCells.new.Goals as goal
 
-pub returns : goal.returns
-returns c =
+pub returns-clause-covers : goal.returns-clause-covers
+returns-clause-covers c =
     let n = c.add_rows.new.self in
     let m = c.add_resources.new.self in
     record {

@@ -18,8 +18,8 @@ loop-delta-preserved c =
       wider_wider c.args.self.now n m c.loop-delta.invariant.1 wide,
     )
 
-pub returns : goal.returns
-returns c =
+pub returns-clause-back : goal.returns-clause-back
+returns-clause-back c =
     let n = c.loop-delta.self in
     let ds = c.args.deltas.now in
     goes_back n c.args.self.now ds c.loop-delta.invariant.1 (all_up_to (ListsBack n) ds c.loop-delta.delta-index c.loop-delta-test.false c.loop-delta.invariant.0)
