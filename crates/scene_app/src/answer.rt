@@ -94,7 +94,7 @@ fn lone_queue(alloc: Global, command: Command) -> Result<Vec<Queue>, AllocError>
     if queue.push(command).is_err() {
         return Err(AllocError);
     }
-    let mut queues = Vec::new(alloc);
+    let mut queues = Vec::with_capacity(alloc, 1)?;
     queues.push(queue)?;
     Ok(queues)
 }

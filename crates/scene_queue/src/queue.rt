@@ -1,5 +1,5 @@
 //! Queues: lists of commands with a limit, and what applying them does.
-ghost use Rattle.std.specs.Prelude.{◌≡◌, ◌≢◌, ◌<◌, ◌≤◌, ◌^◌, length, IfErr, IfOk, OnOk, OnErr, MatchResult, Some, None, Ok, Err, if◌then◌else◌};
+ghost use Rattle.std.specs.Prelude.{◌≡◌, ◌≢◌, ◌<◌, ◌≤◌, ◌^◌, ◌++◌, length, IfErr, IfOk, OnOk, OnErr, MatchResult, Some, None, Ok, Err, if◌then◌else◌};
 ghost use Rattle.std.specs.Prelude.{vec_len, vec_capacity};
 ghost use Rattle.scene_kinds.specs.Answers.{Answers, refusal_of};
 ghost use Rattle.scene_kinds.specs.Fault.{refusal_text};
@@ -88,7 +88,8 @@ fn is_spawn(command: &Command) -> bool
     }
 }
 
-/// Makes room for one more command, where the limit allows one.
+/// Makes room for one more command, where the limit allows one. Most queues have one command, so the first takes the room of
+/// one.
 fn make_room(commands: &mut Vec<Command>, limit: u32) -> Result<(), Refusal>
     ensures items { commands.new.items ≡ commands.old.items }
     ensures room { OnOk result (vec_len commands.new < vec_capacity commands.new) }
@@ -98,7 +99,11 @@ fn make_room(commands: &mut Vec<Command>, limit: u32) -> Result<(), Refusal>
     if commands.len() >= limit as usize {
         return Err(Refusal::from(Fault::QueueFull));
     }
-    commands.reserve(1)?;
+    if commands.is_empty() {
+        commands.reserve_exact(1)?;
+    } else {
+        commands.reserve(1)?;
+    }
     Ok(())
 }
 
@@ -344,14 +349,31 @@ fn do_command<S: Stage>(
     }
 }
 
-/// Adds what a command spawned, if anything.
-fn note_spawned(spawned: &mut Vec<Entity>, made: Option<Entity>)
-    requires { vec_len spawned.old < vec_capacity spawned.old }
-    ensures { spawned.new.items ≡ and_spawned spawned.old.items made }
+/// Adds what a command spawned, if anything, or finds no memory. The first takes the room of one.
+fn note_spawned(spawned: &mut Vec<Entity>, made: Option<Entity>) -> Result<(), AllocError>
+    ensures { OnOk result (spawned.new.items ≡ and_spawned spawned.old.items made) }
 {
     if let Some(entity) = made {
-        spawned.push_reserved(entity);
+        if spawned.is_empty() {
+            spawned.reserve_exact(1)?;
+        }
+        spawned.push(entity)?;
     }
+    Ok(())
+}
+
+/// Entities and then others, or an error where no memory was found. Where there are none before, the others stay where
+/// they are.
+fn and_made(spawned: Vec<Entity>, made: Vec<Entity>) -> Result<Vec<Entity>, AllocError>
+    ensures { IfOk result (λ both. both.items ≡ spawned.items ++ made.items) }
+{
+    if spawned.is_empty() {
+        return Ok(made);
+    }
+    let mut both = spawned;
+    let mut made = made;
+    both.append(&mut made)?;
+    Ok(both)
 }
 
 /// A refusal with the place of its command in a queue of a frame. Want of memory has none.
@@ -390,11 +412,11 @@ fn apply_commands<S: Stage>(
     let mut spawned = Vec::new(alloc);
     let mut at: u32 = 0;
     for command in commands {
-        if spawned.reserve(1).is_err() {
-            return Err(Refusal::from(Fault::NoMemory));
-        }
         match do_command(command, spawned.as_slice(), stage) {
-            Ok(made) => note_spawned(&mut spawned, made),
+            Ok(made) => match note_spawned(&mut spawned, made) {
+                Ok(()) => {}
+                Err(AllocError) => return Err(Refusal::from(Fault::NoMemory)),
+            },
             Err(refusal) => return Err(placed(refusal, queue, at)),
         }
         at += 1;
@@ -470,11 +492,10 @@ pub fn apply_all<S: Stage>(
     let mut at: u32 = 0;
     for queue in queues {
         match queue.apply_at(at, stage) {
-            Ok(mut made) => {
-                if spawned.append(&mut made).is_err() {
-                    return Err(Refusal::from(Fault::NoMemory));
-                }
-            }
+            Ok(made) => match and_made(spawned, made) {
+                Ok(both) => spawned = both,
+                Err(AllocError) => return Err(Refusal::from(Fault::NoMemory)),
+            },
             Err(refusal) => return Err(refusal),
         }
         at += 1;

@@ -17,7 +17,7 @@ some_chosen true n at e = (refl, cc e)
 some_chosen false n at e = absurd (cc e)
 
 -- a test that gave no place failed
-none_chosen : (b : Bool) (n : ℕ) → cond b (Some n) None ≡ None → b ≡ false
+pub none_chosen : (b : Bool) (n : ℕ) → cond b (Some n) None ≡ None → b ≡ false
 none_chosen true n e = absurd (cc e)
 none_chosen false n e = refl
 

@@ -1,10 +1,18 @@
 -- Where a word is cut.
-use Rattle.std.proofs.Common.{◌≡◌, ◌≢◌, ℕ, suc, ◌<◌, Bool, true, false, cond, List, [], ◌∷◌, ◌++◌, length, get_or, refl, ap, sym, ◌∙◌, arith, Option, Some, None, MatchOption, option_map}
-use Rattle.std.specs.Prelude.{◌==◌}
-use denote.Ref.{Bor}
+use Rattle.std.proofs.Common.{◌≡◌, ◌≢◌, ℕ, suc, ◌<◌, Bool, true, false, cond, List, [], ◌∷◌, ◌++◌, length, get_or, refl, ap, sym, ◌∙◌, subst, arith, Option, Some, None, option_map}
+use Rattle.std.specs.Prelude.{◌==◌, ◌≤◌, position, filter, nat_lt, take, drop, ◌+◌, not}
+use Rattle.std.proofs.Math.Numerals.{add-one}
+use Rattle.std.specs.List.{slice_split, onto_first, position_or_len}
+use borrow.Author.Tests.{ltb-false}
 use Rattle.std.proofs.lemmas.Bool.Decides.{nat_tests}
-use Rattle.std.proofs.lemmas.Str.Pattern.{IsSplitOnceResult, split_parts}
-use Rattle.scene_script.specs.Words.{cut_at, without_spaces}
+use Rattle.std.proofs.Math.Seq.{split_at}
+use Rattle.std.proofs.lemmas.List.{get_or-take, length-take-le}
+use Rattle.std.proofs.lemmas.List.Quantifiers.{position-Some}
+use Rattle.std.proofs.lemmas.List.Sums.{fails_before_first, length-filter}
+use Rattle.std.proofs.lemmas.List.Splits.{length-slice_split, slice_split-cons_no, slice_split-cons_yes}
+use Rattle.std.proofs.lemmas.List.Filters.{length-filter_both}
+use Rattle.scene_script.specs.Words.{cut_at, without_spaces, words_of}
+use Rattle.scene_script.proofs.LineLaws.{none_chosen}
 
 -- another byte fails the test
 other : (b mark : ℕ) → b ≢ mark → (b == mark) ≡ false
@@ -53,17 +61,37 @@ pub cut_at-joins : (mark : ℕ) (bs xs ys : List ℕ) → cut_at mark bs ≡ Som
 cut_at-joins mark [] xs ys e = absurd (let k : None ≡ Some (xs, ys) = e in cc)
 cut_at-joins mark (b ∷ bs) xs ys e = joins_at (b == mark) mark b bs xs ys (λ t. grind (arith, nat_tests)) (cut_at-joins mark bs) e
 
--- what the split says is where the bytes are cut
-by_parts : (mark : ℕ) (bs : List ℕ) (r : Option (Bor (List ℕ) × Bor (List ℕ)))
-    → MatchOption r ((i : ℕ) → i < length bs → get_or bs i 0 ≢ mark) (λ x. (bs ≡ x.0.now ++ (mark ∷ x.1.now)) × ((i : ℕ) → i < length x.0.now → get_or x.0.now i 0 ≢ mark))
-    → option_map (λ p. (p.0.now, p.1.now)) r ≡ cut_at mark bs
-by_parts mark bs None h = sym (cut_at-none mark bs h)
-by_parts mark bs (Some x) h = sym (ap (cut_at mark) h.0 ∙ cut_at-parts mark x.0.now x.1.now h.1)
+-- where the first mark stands, the bytes are cut
+pub cut_at-place : (mark at : ℕ) (bs : List ℕ) → position (λ b. b == mark) bs ≡ Some at → cut_at mark bs ≡ Some (take at bs, drop (at + 1) bs)
+cut_at-place mark at bs e =
+    let t = position-Some (λ b. b == mark) bs at 0 e in
+    let k = t.1 in let here : get_or bs at 0 ≡ mark = grind (arith, nat_tests, k) in
+    let whole : bs ≡ take at bs ++ mark ∷ drop (suc at) bs = split_at bs at 0 t.0 ∙ ap (λ m. take at bs ++ m ∷ drop (suc at) bs) here in
+    let long = length-take-le at bs (omega (t.0, arith)) in
+    let before : (i : ℕ) → i < length (take at bs) → get_or (take at bs) i 0 ≢ mark = λ i small is.
+    let inside : i < at = omega (small, long, arith) in
+    let fails = t.2 i inside in
+    let same = get_or-take at bs i 0 inside in
+    let k : (mark == mark) ≡ false = ap (λ m. m == mark) (sym is ∙ same) ∙ fails in
+    grind (arith, nat_tests, k) in
+    ap (cut_at mark) whole ∙ cut_at-parts mark (take at bs) (drop (suc at) bs) before ∙ ap (λ n. Some (take at bs, drop n bs)) (sym (add-one at))
 
--- `split_once` at a mark gives the parts
-pub cut_by_split : (mark : ℕ) (bs : List ℕ) (r : Option (Bor (List ℕ) × Bor (List ℕ))) → IsSplitOnceResult mark bs r → mark < 128
-    → option_map (λ p. (p.0.now, p.1.now)) r ≡ cut_at mark bs
-cut_by_split mark bs r h small = by_parts mark bs r (split_parts mark bs r h small)
+-- the first mark stands in the bytes, and is one byte
+pub mark_there : (mark at : ℕ) (bs : List ℕ) → mark < 128 → position (λ b. b == mark) bs ≡ Some at → (at < length bs) × (get_or bs at 0 < 128)
+mark_there mark at bs small e =
+    let t = position-Some (λ b. b == mark) bs at 0 e in
+    let k = t.1 in
+    (t.0, let here : get_or bs at 0 ≡ mark = grind (arith, nat_tests, k) in subst (λ b. b < 128) (sym here) small)
+
+-- where no mark stands, they aren't
+pub cut_at-nowhere : (mark : ℕ) (bs : List ℕ) → position (λ b. b == mark) bs ≡ None → cut_at mark bs ≡ None
+cut_at-nowhere mark bs e =
+    let t = none_chosen (nat_lt (position_or_len (λ b. b == mark) bs) (length bs)) (position_or_len (λ b. b == mark) bs) e in
+    let far : length bs ≤ position_or_len (λ b. b == mark) bs = ltb-false _ _ t in
+    cut_at-none mark bs (λ i small is.
+    let fails = fails_before_first (λ b. b == mark) bs i 0 (omega (small, far, arith)) in
+    let k : (mark == mark) ≡ false = ap (λ m. m == mark) (sym is) ∙ fails in
+    grind (arith, nat_tests, k))
 
 -- a text that no space begins stands as it is
 stays_at : (t : Bool) (b : ℕ) (bs : List ℕ) → (b == 32) ≡ t → ((rest : List ℕ) → b ∷ bs ≢ 32 ∷ rest) → b ∷ bs ≡ without_spaces (b ∷ bs)
@@ -75,3 +103,88 @@ stays_at false b bs e h = rw e refl
 pub spaces_cut : (bs : List ℕ) → ((rest : List ℕ) → bs ≢ 32 ∷ rest) → bs ≡ without_spaces bs
 spaces_cut [] h = refl
 spaces_cut (b ∷ bs) h = stays_at (b == 32) b bs refl h
+
+-- a space
+abbrev is_space : ℕ → Bool
+is_space b = b == 32
+
+-- a part that is a word
+abbrev is_word : List ℕ → Bool
+is_word w = nat_lt 0 (length w)
+
+-- what the spaces part, by where the first one cuts
+abbrev pub parts_behind : List ℕ → Option (List ℕ × List ℕ) → List (List ℕ)
+parts_behind bs None = bs ∷ []
+parts_behind bs (Some p) = p.0 ∷ slice_split is_space p.1
+
+-- one byte more before the first part
+more_parts : (b : ℕ) (bs : List ℕ) (o : Option (List ℕ × List ℕ)) → onto_first b (parts_behind bs o) ≡ parts_behind (b ∷ bs) (option_map (onto b) o)
+more_parts b bs None = refl
+more_parts b bs (Some p) = refl
+
+-- one byte more, be it a space or not
+parts_at : (t : Bool) (b : ℕ) (bs : List ℕ) → is_space b ≡ t → slice_split is_space bs ≡ parts_behind bs (cut_at 32 bs)
+    → slice_split is_space (b ∷ bs) ≡ parts_behind (b ∷ bs) (cond t (Some (without bs)) (option_map (onto b) (cut_at 32 bs)))
+parts_at true b bs e later = slice_split-cons_yes is_space b bs e
+parts_at false b bs e later = slice_split-cons_no is_space b bs e ∙ ap (onto_first b) later ∙ more_parts b bs (cut_at 32 bs)
+
+-- the spaces part what the first one cuts
+pub parts_cut : (bs : List ℕ) → slice_split is_space bs ≡ parts_behind bs (cut_at 32 bs)
+parts_cut [] = refl
+parts_cut (b ∷ bs) = parts_at (is_space b) b bs refl (parts_cut bs) ∙ ap (parts_behind (b ∷ bs)) refl
+
+-- a part with a byte is a word
+begun : (b : ℕ) (bs : List ℕ) → is_word (b ∷ bs) ≡ true
+begun b bs = grind (arith, nat_tests)
+
+-- a word stays
+taken : (w : List ℕ) (ws : List (List ℕ)) → is_word w ≡ true → filter is_word (w ∷ ws) ≡ w ∷ filter is_word ws
+taken w ws e = ap (λ t. cond t (w ∷ filter is_word ws) (filter is_word ws)) e
+
+-- the words of bytes that no space begins, by where the first one cuts
+first_at : (b : ℕ) (bs : List ℕ) (o : Option (List ℕ × List ℕ)) (xs ys : List ℕ) → option_map (onto b) o ≡ Some (xs, ys)
+    → filter is_word (parts_behind (b ∷ bs) (option_map (onto b) o)) ≡ xs ∷ words_of ys
+first_at b bs None xs ys e = absurd (let k : None ≡ Some (xs, ys) = e in cc)
+first_at b bs (Some p) xs ys e =
+    let k : Some (onto b p) ≡ Some (xs, ys) = e in
+    let same : onto b p ≡ (xs, ys) = cc in
+    taken (b ∷ p.0) (slice_split is_space p.1) (begun b p.0) ∙ ap (λ q. q.0 ∷ words_of q.1) same
+
+-- a space before the words changes none
+words_space : (b : ℕ) (bs : List ℕ) → is_space b ≡ true → words_of (b ∷ bs) ≡ words_of bs
+words_space b bs e = ap (filter is_word) (slice_split-cons_yes is_space b bs e)
+
+-- the first word, and those behind it
+first_by : (t : Bool) (b : ℕ) (bs xs ys : List ℕ) → is_space b ≡ t → (cut_at 32 (without_spaces bs) ≡ Some (xs, ys) → words_of bs ≡ xs ∷ words_of ys)
+    → cut_at 32 (cond t (without_spaces bs) (b ∷ bs)) ≡ Some (xs, ys) → words_of (b ∷ bs) ≡ xs ∷ words_of ys
+first_by true b bs xs ys e later is = words_space b bs e ∙ later is
+first_by false b bs xs ys e later is =
+    let cut : cut_at 32 (b ∷ bs) ≡ option_map (onto b) (cut_at 32 bs) = ap (λ t. cond t (Some (without bs)) (option_map (onto b) (cut_at 32 bs))) e in
+    ap (filter is_word) (parts_cut (b ∷ bs) ∙ ap (parts_behind (b ∷ bs)) cut) ∙ first_at b bs (cut_at 32 bs) xs ys (sym cut ∙ is)
+
+pub first_word : (bs xs ys : List ℕ) → cut_at 32 (without_spaces bs) ≡ Some (xs, ys) → words_of bs ≡ xs ∷ words_of ys
+first_word [] xs ys e = absurd (let k : None ≡ Some (xs, ys) = e in cc)
+first_word (b ∷ bs) xs ys e = first_by (is_space b) b bs xs ys refl (first_word bs xs ys) e
+
+-- the last word, where there is one
+last_by : (t : Bool) (b : ℕ) (bs : List ℕ) → is_space b ≡ t → (cut_at 32 (without_spaces bs) ≡ None → words_of bs ≡ filter is_word (without_spaces bs ∷ []))
+    → cut_at 32 (cond t (without_spaces bs) (b ∷ bs)) ≡ None → words_of (b ∷ bs) ≡ filter is_word (cond t (without_spaces bs) (b ∷ bs) ∷ [])
+last_by true b bs e later is = words_space b bs e ∙ later is
+last_by false b bs e later is = ap (filter is_word) (parts_cut (b ∷ bs) ∙ ap (parts_behind (b ∷ bs)) is)
+
+pub last_word : (bs : List ℕ) → cut_at 32 (without_spaces bs) ≡ None → words_of bs ≡ filter is_word (without_spaces bs ∷ [])
+last_word [] e = refl
+last_word (b ∷ bs) e = last_by (is_space b) b bs refl (last_word bs) e
+
+-- a part that isn't empty is a word
+pub one_word : (w : List ℕ) → w ≢ [] → filter is_word (w ∷ []) ≡ w ∷ []
+one_word [] h = absurd (h refl)
+one_word (b ∷ bs) h = taken (b ∷ bs) [] (begun b bs)
+
+-- there are at most as many words as spaces and one
+pub few_words : (bs : List ℕ) (n : ℕ) → n ≡ length (filter is_space bs) → length (words_of bs) ≤ n + 1
+few_words bs n e =
+    let parts = length-slice_split is_space bs in
+    let spaces = length-filter is_space bs in
+    let both = length-filter_both is_word (λ w. not (is_word w)) (λ w. refl) (slice_split is_space bs) in
+    omega (e, parts, spaces, both, arith)

@@ -1,11 +1,12 @@
 //! Values, cells, kinds and shapes as words.
-ghost use Rattle.std.specs.Prelude.{◌≡◌, map};
+ghost use Rattle.std.specs.Prelude.{◌≡◌};
 ghost use Rattle.scene_script.specs.Cells.{vec3_said, value_said, is_text, kind_said, lone_name, cell_said, cell_name, next_cell, cells_said, shape_said, lone_shape, shaped_value_said};
 ghost use Rattle.scene_script.specs.Reading.{Reads};
 
 use crate::bad_line::{BadLine, LineError, text_of};
 use crate::number::{entity_word, number_word};
 use crate::word::cut;
+use crate::words::Words;
 use scene_commands::Components;
 use scene_kinds::{ParseShapeError, Schema, Shape, Value};
 use std::alloc::Global;
@@ -153,16 +154,18 @@ pub(crate) fn shaped_value_word(alloc: Global, word: &str) -> Result<Value, Line
 pub(crate) fn cell_words(
     alloc: Global,
     schema: &Schema,
-    words: &[&str],
+    words: Words,
 ) -> Result<Components, LineError>
-    ensures { Reads result (cells_said schema.now (map (λ w. w.now) words.now)) }
+    ensures { Reads result (cells_said schema.now words.entry) }
 {
-    let mut cells = Vec::new(alloc);
+    let mut cells = Vec::with_capacity(alloc, words.most())?;
     let mut behind_text = false;
-    for word in words {
+    let mut words = words;
+    'words: while let Some((word, rest)) = words.split_first() {
         let (kind, value) = next_cell_word(alloc, schema, behind_text, word)?;
         behind_text = is_text(&value);
         cells.push((kind, value))?;
+        words = rest;
     }
     Ok(Components::from(cells))
 }

@@ -20,6 +20,7 @@ mod session_number;
 mod system;
 mod target;
 mod word;
+mod words;
 
 pub use bad_line::{BadLine, LineError};
 pub use form::Form;
@@ -32,4 +33,4 @@ pub use print::{
 pub use script_line::{Line, read_line};
 pub use session_number::SessionNumber;
 pub use target::read_target;
-pub use word::{behind_first, cut, words};
+pub use word::{behind_first, cut};

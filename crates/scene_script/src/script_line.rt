@@ -1,5 +1,5 @@
 //! What a line of a script says, or why it is bad.
-ghost use Rattle.std.specs.Prelude.{◌≡◌, IfOk, map};
+ghost use Rattle.std.specs.Prelude.{◌≡◌};
 ghost use Rattle.scene_script.specs.Reading.{Reads, ended, ended_behind};
 ghost use Rattle.scene_script.specs.Script.{line_in, line_of_words, named_line, line_of_form, kind_line, limit_said, slots_line, load_line, calls_line, depth_line, spawn_line, insert_line, despawn_line, remove_line, parent_line, unparent_line, despawnall_line, despawnifalive_line, put_line, drop_line, get_line, system_line, session_said, as_line};
 
@@ -11,7 +11,8 @@ use crate::number::{bad_number, entity_word, read_count};
 use crate::session_number::SessionNumber;
 use crate::system::system_rule;
 use crate::target::target_word;
-use crate::word::{behind_first, words};
+use crate::word::behind_first;
+use crate::words::Words;
 use scene_commands::Command;
 use scene_kinds::{Entity, Schema, Shape, Text};
 use scene_rules::SystemRule;
@@ -66,12 +67,12 @@ pub enum Line {
 }
 
 /// A line that ends here says this.
-fn ended(alloc: Global, form: Form, words: &[&str], line: Line) -> Result<Line, LineError>
-    ensures { Reads result (ended form (map (λ w. w.now) words.now) line) }
+fn ended(alloc: Global, form: Form, words: Words, line: Line) -> Result<Line, LineError>
+    ensures { Reads result (ended form words.entry line) }
 {
-    match words {
-        [] => Ok(line),
-        [word, ..] => Err(LineError::Bad(BadLine::ExtraWord(text_of(alloc, word)?, form))),
+    match words.split_first() {
+        None => Ok(line),
+        Some((word, _)) => Err(LineError::Bad(BadLine::ExtraWord(text_of(alloc, word)?, form))),
     }
 }
 
@@ -80,13 +81,13 @@ fn ended_behind(
     alloc: Global,
     behind_text: bool,
     form: Form,
-    words: &[&str],
+    words: Words,
     line: Line,
 ) -> Result<Line, LineError>
-    ensures { Reads result (ended_behind behind_text form (map (λ w. w.now) words.now) line) }
+    ensures { Reads result (ended_behind behind_text form words.entry line) }
 {
-    match words {
-        [word, ..] if behind_text => {
+    match words.split_first() {
+        Some((word, _)) if behind_text => {
             Err(LineError::Bad(BadLine::BehindText(text_of(alloc, word)?)))
         }
         _ => ended(alloc, form, words, line),
@@ -94,13 +95,13 @@ fn ended_behind(
 }
 
 /// `kind NAME SHAPE`.
-fn kind_line(alloc: Global, words: &[&str]) -> Result<Line, LineError>
-    ensures { Reads result (kind_line (map (λ w. w.now) words.now)) }
+fn kind_line(alloc: Global, words: Words) -> Result<Line, LineError>
+    ensures { Reads result (kind_line words.entry) }
 {
-    let [name, rest @ ..] = words else {
+    let Some((name, rest)) = words.split_first() else {
         return Err(LineError::Bad(BadLine::MissingWord(Form::Kind)));
     };
-    let [shape, rest @ ..] = rest else {
+    let Some((shape, rest)) = rest.split_first() else {
         return Err(LineError::Bad(BadLine::MissingWord(Form::Kind)));
     };
     let shape = shape_word(alloc, shape)?;
@@ -119,10 +120,10 @@ fn limit_word(alloc: Global, word: &str) -> Result<Limit, LineError>
 }
 
 /// `slots N`.
-fn slots_line(alloc: Global, words: &[&str]) -> Result<Line, LineError>
-    ensures { Reads result (slots_line (map (λ w. w.now) words.now)) }
+fn slots_line(alloc: Global, words: Words) -> Result<Line, LineError>
+    ensures { Reads result (slots_line words.entry) }
 {
-    let [word, rest @ ..] = words else {
+    let Some((word, rest)) = words.split_first() else {
         return Err(LineError::Bad(BadLine::MissingWord(Form::Slots)));
     };
     let limit = limit_word(alloc, word)?;
@@ -137,10 +138,10 @@ fn load_line(alloc: Global, line: &str) -> Result<Line, LineError>
 }
 
 /// `calls N`.
-fn calls_line(alloc: Global, words: &[&str]) -> Result<Line, LineError>
-    ensures { Reads result (calls_line (map (λ w. w.now) words.now)) }
+fn calls_line(alloc: Global, words: Words) -> Result<Line, LineError>
+    ensures { Reads result (calls_line words.entry) }
 {
-    let [word, rest @ ..] = words else {
+    let Some((word, rest)) = words.split_first() else {
         return Err(LineError::Bad(BadLine::MissingWord(Form::Calls)));
     };
     let limit = limit_word(alloc, word)?;
@@ -148,10 +149,10 @@ fn calls_line(alloc: Global, words: &[&str]) -> Result<Line, LineError>
 }
 
 /// `depth N`.
-fn depth_line(alloc: Global, words: &[&str]) -> Result<Line, LineError>
-    ensures { Reads result (depth_line (map (λ w. w.now) words.now)) }
+fn depth_line(alloc: Global, words: Words) -> Result<Line, LineError>
+    ensures { Reads result (depth_line words.entry) }
 {
-    let [word, rest @ ..] = words else {
+    let Some((word, rest)) = words.split_first() else {
         return Err(LineError::Bad(BadLine::MissingWord(Form::Depth)));
     };
     let limit = limit_word(alloc, word)?;
@@ -159,22 +160,22 @@ fn depth_line(alloc: Global, words: &[&str]) -> Result<Line, LineError>
 }
 
 /// `spawn CELL..`.
-fn spawn_line(alloc: Global, schema: &Schema, words: &[&str]) -> Result<Line, LineError>
-    ensures { Reads result (spawn_line schema.now (map (λ w. w.now) words.now)) }
+fn spawn_line(alloc: Global, schema: &Schema, words: Words) -> Result<Line, LineError>
+    ensures { Reads result (spawn_line schema.now words.entry) }
 {
     let cells = cell_words(alloc, schema, words)?;
     Ok(Line::Do(Command::Spawn(cells)))
 }
 
 /// `insert T CELL`.
-fn insert_line(alloc: Global, schema: &Schema, words: &[&str]) -> Result<Line, LineError>
-    ensures { Reads result (insert_line schema.now (map (λ w. w.now) words.now)) }
+fn insert_line(alloc: Global, schema: &Schema, words: Words) -> Result<Line, LineError>
+    ensures { Reads result (insert_line schema.now words.entry) }
 {
-    let [target, rest @ ..] = words else {
+    let Some((target, rest)) = words.split_first() else {
         return Err(LineError::Bad(BadLine::MissingWord(Form::Insert)));
     };
     let target = target_word(alloc, target)?;
-    let [cell, rest @ ..] = rest else {
+    let Some((cell, rest)) = rest.split_first() else {
         return Err(LineError::Bad(BadLine::MissingWord(Form::Insert)));
     };
     let (kind, value) = cell_word(alloc, schema, cell)?;
@@ -189,10 +190,10 @@ fn insert_line(alloc: Global, schema: &Schema, words: &[&str]) -> Result<Line, L
 }
 
 /// `despawn T`.
-fn despawn_line(alloc: Global, words: &[&str]) -> Result<Line, LineError>
-    ensures { Reads result (despawn_line (map (λ w. w.now) words.now)) }
+fn despawn_line(alloc: Global, words: Words) -> Result<Line, LineError>
+    ensures { Reads result (despawn_line words.entry) }
 {
-    let [target, rest @ ..] = words else {
+    let Some((target, rest)) = words.split_first() else {
         return Err(LineError::Bad(BadLine::MissingWord(Form::Despawn)));
     };
     let target = target_word(alloc, target)?;
@@ -205,14 +206,14 @@ fn despawn_line(alloc: Global, words: &[&str]) -> Result<Line, LineError>
 }
 
 /// `remove T NAME`.
-fn remove_line(alloc: Global, schema: &Schema, words: &[&str]) -> Result<Line, LineError>
-    ensures { Reads result (remove_line schema.now (map (λ w. w.now) words.now)) }
+fn remove_line(alloc: Global, schema: &Schema, words: Words) -> Result<Line, LineError>
+    ensures { Reads result (remove_line schema.now words.entry) }
 {
-    let [target, rest @ ..] = words else {
+    let Some((target, rest)) = words.split_first() else {
         return Err(LineError::Bad(BadLine::MissingWord(Form::Remove)));
     };
     let target = target_word(alloc, target)?;
-    let [name, rest @ ..] = rest else {
+    let Some((name, rest)) = rest.split_first() else {
         return Err(LineError::Bad(BadLine::MissingWord(Form::Remove)));
     };
     let kind = kind_word(alloc, schema, name)?;
@@ -225,14 +226,14 @@ fn remove_line(alloc: Global, schema: &Schema, words: &[&str]) -> Result<Line, L
 }
 
 /// `parent T T`, the child and then its parent.
-fn parent_line(alloc: Global, words: &[&str]) -> Result<Line, LineError>
-    ensures { Reads result (parent_line (map (λ w. w.now) words.now)) }
+fn parent_line(alloc: Global, words: Words) -> Result<Line, LineError>
+    ensures { Reads result (parent_line words.entry) }
 {
-    let [child, rest @ ..] = words else {
+    let Some((child, rest)) = words.split_first() else {
         return Err(LineError::Bad(BadLine::MissingWord(Form::Parent)));
     };
     let child = target_word(alloc, child)?;
-    let [parent, rest @ ..] = rest else {
+    let Some((parent, rest)) = rest.split_first() else {
         return Err(LineError::Bad(BadLine::MissingWord(Form::Parent)));
     };
     let parent = target_word(alloc, parent)?;
@@ -245,10 +246,10 @@ fn parent_line(alloc: Global, words: &[&str]) -> Result<Line, LineError>
 }
 
 /// `unparent T`.
-fn unparent_line(alloc: Global, words: &[&str]) -> Result<Line, LineError>
-    ensures { Reads result (unparent_line (map (λ w. w.now) words.now)) }
+fn unparent_line(alloc: Global, words: Words) -> Result<Line, LineError>
+    ensures { Reads result (unparent_line words.entry) }
 {
-    let [child, rest @ ..] = words else {
+    let Some((child, rest)) = words.split_first() else {
         return Err(LineError::Bad(BadLine::MissingWord(Form::Unparent)));
     };
     let child = target_word(alloc, child)?;
@@ -261,10 +262,10 @@ fn unparent_line(alloc: Global, words: &[&str]) -> Result<Line, LineError>
 }
 
 /// `despawnall T`.
-fn despawnall_line(alloc: Global, words: &[&str]) -> Result<Line, LineError>
-    ensures { Reads result (despawnall_line (map (λ w. w.now) words.now)) }
+fn despawnall_line(alloc: Global, words: Words) -> Result<Line, LineError>
+    ensures { Reads result (despawnall_line words.entry) }
 {
-    let [target, rest @ ..] = words else {
+    let Some((target, rest)) = words.split_first() else {
         return Err(LineError::Bad(BadLine::MissingWord(Form::DespawnAll)));
     };
     let target = target_word(alloc, target)?;
@@ -277,10 +278,10 @@ fn despawnall_line(alloc: Global, words: &[&str]) -> Result<Line, LineError>
 }
 
 /// `despawnifalive T`.
-fn despawnifalive_line(alloc: Global, words: &[&str]) -> Result<Line, LineError>
-    ensures { Reads result (despawnifalive_line (map (λ w. w.now) words.now)) }
+fn despawnifalive_line(alloc: Global, words: Words) -> Result<Line, LineError>
+    ensures { Reads result (despawnifalive_line words.entry) }
 {
-    let [target, rest @ ..] = words else {
+    let Some((target, rest)) = words.split_first() else {
         return Err(LineError::Bad(BadLine::MissingWord(Form::DespawnIfAlive)));
     };
     let target = target_word(alloc, target)?;
@@ -293,13 +294,13 @@ fn despawnifalive_line(alloc: Global, words: &[&str]) -> Result<Line, LineError>
 }
 
 /// `put NAME SHAPE` for a tag, else `put NAME SHAPE=VALUE`.
-fn put_line(alloc: Global, words: &[&str]) -> Result<Line, LineError>
-    ensures { Reads result (put_line (map (λ w. w.now) words.now)) }
+fn put_line(alloc: Global, words: Words) -> Result<Line, LineError>
+    ensures { Reads result (put_line words.entry) }
 {
-    let [name, rest @ ..] = words else {
+    let Some((name, rest)) = words.split_first() else {
         return Err(LineError::Bad(BadLine::MissingWord(Form::Put)));
     };
-    let [value, rest @ ..] = rest else {
+    let Some((value, rest)) = rest.split_first() else {
         return Err(LineError::Bad(BadLine::MissingWord(Form::Put)));
     };
     let value = shaped_value_word(alloc, value)?;
@@ -315,10 +316,10 @@ fn put_line(alloc: Global, words: &[&str]) -> Result<Line, LineError>
 }
 
 /// `drop NAME`.
-fn drop_line(alloc: Global, words: &[&str]) -> Result<Line, LineError>
-    ensures { Reads result (drop_line (map (λ w. w.now) words.now)) }
+fn drop_line(alloc: Global, words: Words) -> Result<Line, LineError>
+    ensures { Reads result (drop_line words.entry) }
 {
-    let [name, rest @ ..] = words else {
+    let Some((name, rest)) = words.split_first() else {
         return Err(LineError::Bad(BadLine::MissingWord(Form::Drop)));
     };
     let name = text_of(alloc, name)?;
@@ -331,10 +332,10 @@ fn drop_line(alloc: Global, words: &[&str]) -> Result<Line, LineError>
 }
 
 /// `get T`.
-fn get_line(alloc: Global, words: &[&str]) -> Result<Line, LineError>
-    ensures { Reads result (get_line (map (λ w. w.now) words.now)) }
+fn get_line(alloc: Global, words: Words) -> Result<Line, LineError>
+    ensures { Reads result (get_line words.entry) }
 {
-    let [word, rest @ ..] = words else {
+    let Some((word, rest)) = words.split_first() else {
         return Err(LineError::Bad(BadLine::MissingWord(Form::Get)));
     };
     let entity = entity_word(alloc, word)?;
@@ -342,10 +343,10 @@ fn get_line(alloc: Global, words: &[&str]) -> Result<Line, LineError>
 }
 
 /// `system NAME [need=N,N] [without=N,N] STEP..`.
-fn system_line(alloc: Global, schema: &Schema, words: &[&str]) -> Result<Line, LineError>
-    ensures { Reads result (system_line schema.now (map (λ w. w.now) words.now)) }
+fn system_line(alloc: Global, schema: &Schema, words: Words) -> Result<Line, LineError>
+    ensures { Reads result (system_line schema.now words.entry) }
 {
-    let [name, rest @ ..] = words else {
+    let Some((name, rest)) = words.split_first() else {
         return Err(LineError::Bad(BadLine::MissingWord(Form::System)));
     };
     Ok(Line::System(system_rule(alloc, schema, name, rest)?))
@@ -362,10 +363,10 @@ fn session_word(alloc: Global, word: &str) -> Result<SessionNumber, LineError>
 }
 
 /// `as N`.
-fn as_line(alloc: Global, words: &[&str]) -> Result<Line, LineError>
-    ensures { Reads result (as_line (map (λ w. w.now) words.now)) }
+fn as_line(alloc: Global, words: Words) -> Result<Line, LineError>
+    ensures { Reads result (as_line words.entry) }
 {
-    let [word, rest @ ..] = words else {
+    let Some((word, rest)) = words.split_first() else {
         return Err(LineError::Bad(BadLine::MissingWord(Form::As)));
     };
     let session = session_word(alloc, word)?;
@@ -378,9 +379,9 @@ fn line_of_form(
     schema: &Schema,
     form: Form,
     line: &str,
-    words: &[&str],
+    words: Words,
 ) -> Result<Line, LineError>
-    ensures { Reads result (line_of_form schema.now form line.now (map (λ w. w.now) words.now)) }
+    ensures { Reads result (line_of_form schema.now form line.now words.entry) }
 {
     match form {
         Form::Kind => kind_line(alloc, words),
@@ -425,9 +426,9 @@ fn named_line(
     schema: &Schema,
     line: &str,
     first: &str,
-    rest: &[&str],
+    rest: Words,
 ) -> Result<Line, LineError>
-    ensures { Reads result (named_line schema.now line.now first.now (map (λ w. w.now) rest.now)) }
+    ensures { Reads result (named_line schema.now line.now first.now rest.entry) }
 {
     match Form::named(first) {
         Some(form) => line_of_form(alloc, schema, form, line, rest),
@@ -440,11 +441,11 @@ fn line_of_words(
     alloc: Global,
     schema: &Schema,
     line: &str,
-    words: &[&str],
+    words: Words,
 ) -> Result<Line, LineError>
-    ensures { Reads result (line_of_words schema.now line.now (map (λ w. w.now) words.now)) }
+    ensures { Reads result (line_of_words schema.now line.now words.entry) }
 {
-    let [first, rest @ ..] = words else {
+    let Some((first, rest)) = words.split_first() else {
         return Ok(Line::Empty);
     };
     if first.starts_with('#') {
@@ -462,9 +463,6 @@ pub fn read_line(alloc: Global, schema: &Schema, bytes: &[u8]) -> Result<Line, L
 {
     match str::from_utf8(bytes) {
         Err(_) => Err(LineError::Bad(BadLine::NotUtf8)),
-        Ok(text) => {
-            let words = words(alloc, text)?;
-            line_of_words(alloc, schema, text, words.as_slice())
-        }
+        Ok(text) => line_of_words(alloc, schema, text, Words::of(text)),
     }
 }

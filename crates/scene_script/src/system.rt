@@ -7,6 +7,7 @@ use crate::bad_line::{BadLine, LineError, text_of};
 use crate::cell::{cell_word, kind_word};
 use crate::number::number_word;
 use crate::word::{cut, parts};
+use crate::words::Words;
 use scene_commands::Components;
 use scene_kinds::{KindSet, Schema, Value, set_with};
 use scene_rules::{Filter, RowStep, Step, Steps, SystemRule};
@@ -197,13 +198,15 @@ fn step_word(alloc: Global, schema: &Schema, word: &str) -> Result<Step, LineErr
 }
 
 /// The steps that words are.
-fn step_words(alloc: Global, schema: &Schema, words: &[&str]) -> Result<Steps, LineError>
-    ensures { Reads result (steps_said schema.now (map (λ w. w.now) words.now)) }
+fn step_words(alloc: Global, schema: &Schema, words: Words) -> Result<Steps, LineError>
+    ensures { Reads result (steps_said schema.now words.entry) }
 {
-    let mut steps = Vec::new(alloc);
-    for word in words {
+    let mut steps = Vec::with_capacity(alloc, words.most())?;
+    let mut words = words;
+    'words: while let Some((word, rest)) = words.split_first() {
         let step = step_word(alloc, schema, word)?;
         steps.push(step)?;
+        words = rest;
     }
     Ok(Steps::from(steps))
 }
@@ -214,9 +217,9 @@ fn system_with(
     schema: &Schema,
     name: &str,
     filter: Filter,
-    words: &[&str],
+    words: Words,
 ) -> Result<SystemRule, LineError>
-    ensures { Reads result (system_with schema.now name.now filter (map (λ w. w.now) words.now)) }
+    ensures { Reads result (system_with schema.now name.now filter words.entry) }
 {
     let steps = step_words(alloc, schema, words)?;
     let name = text_of(alloc, name)?;
@@ -233,12 +236,12 @@ fn system_needing(
     schema: &Schema,
     name: &str,
     need: KindSet,
-    words: &[&str],
+    words: Words,
 ) -> Result<SystemRule, LineError>
-    ensures { Reads result (system_needing schema.now name.now need (map (λ w. w.now) words.now)) }
+    ensures { Reads result (system_needing schema.now name.now need words.entry) }
 {
-    match words {
-        [word, rest @ ..] if is_part("without", word) => {
+    match words.split_first() {
+        Some((word, rest)) if is_part("without", word) => {
             let without = part_word(alloc, schema, word)?;
             system_with(alloc, schema, name, Filter { need, without }, rest)
         }
@@ -252,12 +255,12 @@ pub(crate) fn system_rule(
     alloc: Global,
     schema: &Schema,
     name: &str,
-    words: &[&str],
+    words: Words,
 ) -> Result<SystemRule, LineError>
-    ensures { Reads result (system_said schema.now name.now (map (λ w. w.now) words.now)) }
+    ensures { Reads result (system_said schema.now name.now words.entry) }
 {
-    match words {
-        [word, rest @ ..] if is_part("need", word) => {
+    match words.split_first() {
+        Some((word, rest)) if is_part("need", word) => {
             let need = part_word(alloc, schema, word)?;
             system_needing(alloc, schema, name, need, rest)
         }

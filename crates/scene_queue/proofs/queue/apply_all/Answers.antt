@@ -1,4 +1,4 @@
-use Rattle.std.proofs.Common.{◌+◌, ◌++◌, ap, sym, cond, ◌∙◌, Ok}
+use Rattle.std.proofs.Common.{◌+◌, ap, sym, ◌∙◌, Ok}
 use Rattle.std.proofs.lemmas.List.{take_all}
 use Rattle.scene_machine.specs.Frame.{queues_from}
 use Rattle.scene_world.specs.Stage.{act}
@@ -33,8 +33,8 @@ returns-clause-world g c =
     sym (queues_world g.S.Stage.note 0 (frame_of queues) start)
     ∙ ap on_world (ap (λ qs. queues_from (act g.S.Stage.note) 0 (frame_of qs) start) (sym (take_all c.loop-queue.queue-index queues c.loop-queue-test.false)) ∙ c.loop-queue.invariant.1.0)
 
-pub returns-then-is_err-clause-passed : goal.returns-then-is_err-clause-passed
-returns-then-is_err-clause-passed g c =
+pub returns-in-Err-and_made-clause-passed : goal.returns-in-Err-and_made-clause-passed
+returns-in-Err-and_made-clause-passed g c =
     passed_whole (act g.S.Stage.note) (λ (q : QueueState). requests q.commands) c.args.queues.now (c.loop-queue.queue-index + 1) _ _ _
     (whole_one (act g.S.Stage.note) (λ (q : QueueState). requests q.commands) c.args.queues.now c.loop-queue.queue-index c.queue-item.result _ _ _ _ _
     c.loop-queue-test.true c.queue-item.is c.loop-queue.invariant.1.0 c.in-Ok.ensures.whole)
@@ -45,7 +45,7 @@ loop-queue-preserved g c = (
   (
     whole_one (act g.S.Stage.note) (λ (q : QueueState). requests q.commands) c.args.queues.now c.loop-queue.queue-index c.queue-item.result _ _ _ _ _
         c.loop-queue-test.true c.queue-item.is c.loop-queue.invariant.1.0 c.in-Ok.ensures.whole
-        ∙ ap (λ es. Ok (es, g.S.Stage.seen c.apply_at.new.stage)) (sym (c.append.ensures.items ∙ ap (λ b. cond b (c.loop-queue.spawned.items ++ c.in-Ok.made.items) c.loop-queue.spawned.items) c.if-is_err.ensures.negation)),
+        ∙ ap (λ es. Ok (es, g.S.Stage.seen c.apply_at.new.stage)) (sym c.in-Ok-and_made.ensures),
     (
       c.apply_at.ensures.opening ∙ c.loop-queue.invariant.1.1.0,
       wider_wider (g.S.Stage.room c.args.stage.now) (g.S.Stage.room c.loop-queue.stage) (g.S.Stage.room c.apply_at.new.stage) c.loop-queue.invariant.1.1.1 c.apply_at.ensures.wide,
@@ -56,3 +56,7 @@ loop-queue-preserved g c = (
 pub returns-in-Err-clause-wide : goal.returns-in-Err-clause-wide
 returns-in-Err-clause-wide g c =
     wider_wider (g.S.Stage.room c.args.stage.now) (g.S.Stage.room c.loop-queue.stage) (g.S.Stage.room c.apply_at.new.stage) c.loop-queue.invariant.1.1.1 c.in-Err.ensures.wide
+
+pub returns-in-Err-and_made-clause-wide : goal.returns-in-Err-and_made-clause-wide
+returns-in-Err-and_made-clause-wide g c =
+    wider_wider (g.S.Stage.room c.args.stage.now) (g.S.Stage.room c.loop-queue.stage) (g.S.Stage.room c.apply_at.new.stage) c.loop-queue.invariant.1.1.1 c.apply_at.ensures.wide

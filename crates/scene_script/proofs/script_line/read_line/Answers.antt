@@ -10,7 +10,7 @@ returns-in-Err c =
     let bad = false_from_ne_true (is_utf8 bytes) (λ q. c.in-Err.ensures.cases.0 (IsUtf8-from_is_utf8 bytes q)) in
     search (rules, bad)
 
-pub returns-in_ok-words-in-Ok : goal.returns-in_ok-words-in-Ok
-returns-in_ok-words-in-Ok c =
+pub returns-in-Ok : goal.returns-in-Ok
+returns-in-Ok c =
     let good = is_utf8-from_IsUtf8 c.args.bytes.now c.in-Ok.ensures.cases.1 in
     search (rules, good)

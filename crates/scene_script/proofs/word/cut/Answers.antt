@@ -1,5 +1,27 @@
-use Rattle.scene_script.proofs.WordLaws.{cut_by_split}
+use Rattle.std.proofs.Common.{◌≡◌, rules, sym, Some, None}
+use Rattle.std.specs.Prelude.{◌==◌, position}
+use Rattle.std.proofs.lemmas.Str.{IsCharBoundary-before_ascii, IsCharBoundary-after_ascii}
+use Rattle.scene_script.proofs.WordLaws.{cut_at-place, cut_at-nowhere, mark_there}
 use Rattle.scene_script.proofs.word.cut.Goals as goal
 
-pub returns : goal.returns
-returns c = cut_by_split c.args.mark c.args.word.now c.split_once.result c.split_once.ensures.cases c.requires
+pub range-requires-clause-end_boundary : goal.range-requires-clause-end_boundary
+range-requires-clause-end_boundary c =
+    let e : position (λ b. b == c.args.mark) c.args.word.now ≡ Some c.in-Some.at = search rules in
+    let t = mark_there c.args.mark c.in-Some.at c.args.word.now c.requires e in
+    IsCharBoundary-before_ascii c.args.word.now c.in-Some.at t.0 t.1
+
+pub range_from-requires : goal.range_from-requires
+range_from-requires c = λ _.
+    let e : position (λ b. b == c.args.mark) c.args.word.now ≡ Some c.in-Some.at = search rules in
+    let t = mark_there c.args.mark c.in-Some.at c.args.word.now c.requires e in
+    IsCharBoundary-after_ascii c.args.word.now c.in-Some.at (search rules) t.0 t.1
+
+pub returns-in-Some : goal.returns-in-Some
+returns-in-Some c =
+    let e : position (λ b. b == c.args.mark) c.args.word.now ≡ Some c.in-Some.at = search rules in
+    search (rules, cut_at-place c.args.mark c.in-Some.at c.args.word.now e)
+
+pub returns-in-None : goal.returns-in-None
+returns-in-None c =
+    let e : position (λ b. b == c.args.mark) c.args.word.now ≡ None = search rules in
+    sym (cut_at-nowhere c.args.mark c.args.word.now e)
