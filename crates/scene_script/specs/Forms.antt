@@ -7,16 +7,13 @@ use Rattle.scene_script.specs.declared.form.Form.TheVariants as form
 -- the form that a first word names
 abbrev pub form_named : List ℕ → Option Form
 form_named word =
-    if bytes_eq word (codes "kind") then Some form.Kind
-    else if bytes_eq word (codes "slots") then Some form.Slots
-    else if bytes_eq word (codes "load") then Some form.Load
-    else if bytes_eq word (codes "calls") then Some form.Calls
-    else if bytes_eq word (codes "depth") then Some form.Depth
-    else if bytes_eq word (codes "spawn") then Some form.Spawn
+    if bytes_eq word (codes "spawn") then Some form.Spawn
     else if bytes_eq word (codes "insert") then Some form.Insert
     else if bytes_eq word (codes "despawn") then Some form.Despawn
-    else if bytes_eq word (codes "remove") then Some form.Remove
+    else if bytes_eq word (codes "undo") then Some form.Undo
+    else if bytes_eq word (codes "redo") then Some form.Redo
     else if bytes_eq word (codes "parent") then Some form.Parent
+    else if bytes_eq word (codes "remove") then Some form.Remove
     else if bytes_eq word (codes "unparent") then Some form.Unparent
     else if bytes_eq word (codes "despawnall") then Some form.DespawnAll
     else if bytes_eq word (codes "despawnifalive") then Some form.DespawnIfAlive
@@ -25,19 +22,22 @@ form_named word =
     else if bytes_eq word (codes "begin") then Some form.Begin
     else if bytes_eq word (codes "queue") then Some form.Queue
     else if bytes_eq word (codes "commit") then Some form.Commit
-    else if bytes_eq word (codes "undo") then Some form.Undo
-    else if bytes_eq word (codes "redo") then Some form.Redo
-    else if bytes_eq word (codes "show") then Some form.Show
     else if bytes_eq word (codes "get") then Some form.Get
     else if bytes_eq word (codes "mark") then Some form.Mark
     else if bytes_eq word (codes "changed") then Some form.Changed
     else if bytes_eq word (codes "added") then Some form.Added
+    else if bytes_eq word (codes "show") then Some form.Show
+    else if bytes_eq word (codes "advance") then Some form.Advance
+    else if bytes_eq word (codes "as") then Some form.As
+    else if bytes_eq word (codes "history") then Some form.History
+    else if bytes_eq word (codes "load") then Some form.Load
+    else if bytes_eq word (codes "dump") then Some form.Dump
+    else if bytes_eq word (codes "dumpall") then Some form.DumpAll
     else if bytes_eq word (codes "phase") then Some form.Phase
     else if bytes_eq word (codes "system") then Some form.System
     else if bytes_eq word (codes "clear") then Some form.Clear
-    else if bytes_eq word (codes "advance") then Some form.Advance
-    else if bytes_eq word (codes "dump") then Some form.Dump
-    else if bytes_eq word (codes "dumpall") then Some form.DumpAll
-    else if bytes_eq word (codes "as") then Some form.As
-    else if bytes_eq word (codes "history") then Some form.History
+    else if bytes_eq word (codes "kind") then Some form.Kind
+    else if bytes_eq word (codes "slots") then Some form.Slots
+    else if bytes_eq word (codes "calls") then Some form.Calls
+    else if bytes_eq word (codes "depth") then Some form.Depth
     else None

@@ -43,21 +43,18 @@ pub enum Form {
 }
 
 impl Form {
-    /// The form that a first word names, or `None` only where it names none.
+    /// The form that a first word names, or `None` only where it names none. It tries those first that long scripts have most.
     pub fn named(word: &str) -> Option<Form>
         ensures { result ≡ form_named word.now }
     {
         match word {
-            "kind" => Some(Form::Kind),
-            "slots" => Some(Form::Slots),
-            "load" => Some(Form::Load),
-            "calls" => Some(Form::Calls),
-            "depth" => Some(Form::Depth),
             "spawn" => Some(Form::Spawn),
             "insert" => Some(Form::Insert),
             "despawn" => Some(Form::Despawn),
-            "remove" => Some(Form::Remove),
+            "undo" => Some(Form::Undo),
+            "redo" => Some(Form::Redo),
             "parent" => Some(Form::Parent),
+            "remove" => Some(Form::Remove),
             "unparent" => Some(Form::Unparent),
             "despawnall" => Some(Form::DespawnAll),
             "despawnifalive" => Some(Form::DespawnIfAlive),
@@ -66,21 +63,24 @@ impl Form {
             "begin" => Some(Form::Begin),
             "queue" => Some(Form::Queue),
             "commit" => Some(Form::Commit),
-            "undo" => Some(Form::Undo),
-            "redo" => Some(Form::Redo),
-            "show" => Some(Form::Show),
             "get" => Some(Form::Get),
             "mark" => Some(Form::Mark),
             "changed" => Some(Form::Changed),
             "added" => Some(Form::Added),
+            "show" => Some(Form::Show),
+            "advance" => Some(Form::Advance),
+            "as" => Some(Form::As),
+            "history" => Some(Form::History),
+            "load" => Some(Form::Load),
+            "dump" => Some(Form::Dump),
+            "dumpall" => Some(Form::DumpAll),
             "phase" => Some(Form::Phase),
             "system" => Some(Form::System),
             "clear" => Some(Form::Clear),
-            "advance" => Some(Form::Advance),
-            "dump" => Some(Form::Dump),
-            "dumpall" => Some(Form::DumpAll),
-            "as" => Some(Form::As),
-            "history" => Some(Form::History),
+            "kind" => Some(Form::Kind),
+            "slots" => Some(Form::Slots),
+            "calls" => Some(Form::Calls),
+            "depth" => Some(Form::Depth),
             _ => None,
         }
     }
