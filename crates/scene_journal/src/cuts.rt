@@ -5,7 +5,7 @@ ghost use Rattle.scene_deltas.specs.Ready.{AreReady};
 ghost use Rattle.scene_deltas.specs.Deltas.{back_all};
 ghost use Rattle.scene_deltas.specs.Notes.{CanCutEach, cut_each, deltas_of, despawned_each, listed_delta};
 
-use crate::notes::{despawned, keep};
+use crate::notes::{despawned, keep, room_for_one};
 use scene_deltas::{Delta, is_sound, take_all_back};
 use scene_kinds::Entity;
 use scene_world::{RawChanges, World};
@@ -54,6 +54,6 @@ fn room_and_delta(
     ensures items { deltas.new.items ≡ deltas.old.items }
     ensures room { OnOk result (vec_len deltas.new < vec_capacity deltas.new) }
 {
-    deltas.reserve(1)?;
+    room_for_one(deltas)?;
     despawned(alloc, world, entity)
 }

@@ -5,7 +5,8 @@
 //! that does, and `laws` that each takes the other direction back exactly.
 //!
 //! A `Recorder` makes the record of a frame while the frame is made: it takes commands as a world does, notes their
-//! deltas, and can always go back without memory.
+//! deltas, and can always go back without memory. One recorder serves many frames, one after another, and its world stays
+//! where it is.
 #![tactic(auto)]
 
 mod cuts;
@@ -17,6 +18,7 @@ mod laws;
 mod notes;
 mod record;
 mod recorder;
+mod reserved;
 mod spawned;
 
 pub use examples::worked_records_hold;

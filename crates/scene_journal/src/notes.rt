@@ -1,5 +1,5 @@
 //! The delta of a command, as the world before it tells.
-ghost use Rattle.std.specs.Prelude.{◌≡◌, ◌<◌, ◌++◌, ◌∷◌, [], IfOk, length, slice_get, vec_len, vec_capacity};
+ghost use Rattle.std.specs.Prelude.{◌≡◌, ◌<◌, ◌++◌, ◌∷◌, [], IfOk, OnOk, length, slice_get, vec_len, vec_capacity};
 ghost use Rattle.std.specs.Option.{option_map};
 ghost use Rattle.scene_kinds.specs.declared.cells.Row.{Row};
 ghost use Rattle.scene_kinds.specs.Cells.{put_over, shown};
@@ -202,6 +202,18 @@ pub(crate) fn taken(alloc: Global, world: &World, name: &str) -> Result<Delta, A
         before: ResourceCell::new(alloc, copy_of(resource(world, name))?)?,
         after: ResourceCell::new(alloc, None)?,
     })
+}
+
+/// Makes a place for one more delta. The first one gets a list of one: most frames make no other.
+pub(crate) fn room_for_one(deltas: &mut Vec<Delta>) -> Result<(), AllocError>
+    ensures items { deltas.new.items ≡ deltas.old.items }
+    ensures room { OnOk result (vec_len deltas.new < vec_capacity deltas.new) }
+{
+    if deltas.is_empty() {
+        deltas.reserve_exact(1)
+    } else {
+        deltas.reserve(1)
+    }
 }
 
 /// Notes a delta, where there is one.

@@ -1,17 +1,23 @@
 //! A world that keeps a record of what is done to it, and can always go back.
-ghost use Rattle.std.specs.Prelude.{◌≡◌, Some};
+ghost use Rattle.std.specs.Prelude.{◌≡◌, [], Some, OnOk, OnErr};
+ghost use Rattle.scene_kinds.specs.Answers.{Gives};
+ghost use Rattle.scene_model.specs.Can.{CanSetTick};
+ghost use Rattle.scene_model.specs.Commands.{raise_tick};
+ghost use Rattle.scene_model.specs.Valid.{IsValid};
+ghost use Rattle.scene_world.specs.Room.{Holds, IsWider};
 ghost use Rattle.scene_deltas.specs.Notes.{deltas_of};
-ghost use Rattle.scene_deltas.specs.Ready.{AreReady};
+ghost use Rattle.scene_deltas.specs.Ready.{AreReady, AreReadyOn};
+ghost use Rattle.scene_journal.specs.Records.{raised, record_of, redone, undone, RecordFitsBack, RecordFitsOn};
 ghost use Rattle.scene_journal.specs.Recorder.{began, opening_of, recording, staged_of};
 
 use crate::cuts::cut_each;
 use crate::inserted::insert;
-use crate::notes::{self, keep, last_link, link_of};
+use crate::notes::{self, keep, last_link, link_of, room_for_one};
 use crate::record::FrameRecord;
 use crate::spawned::spawn;
 use scene_deltas::{Delta, is_sound, take_all_back};
 use scene_kinds::{Entity, Fault, Refusal, Value};
-use scene_world::{Stage, World};
+use scene_world::{RawChanges, Stage, World};
 use std::alloc::{AllocError, Global};
 use std::marker::Model;
 
@@ -81,6 +87,99 @@ impl Recorder {
         take_all_back(&mut before, deltas);
         before
     }
+
+    /// A recorder between two frames: this world, with a record that has no deltas. It takes no memory.
+    pub fn idle(alloc: Global, world: World) -> Recorder
+        ensures { result ≡ recording world (record_of world.world.tick []) }
+    {
+        let tick_before = world.tick();
+        Recorder {
+            alloc,
+            world,
+            tick_before,
+            deltas: Vec::new(alloc),
+        }
+    }
+
+    /// A law of every recorder: its world is valid, and has room for itself. It does nothing.
+    pub fn world_is_sound(&self)
+        ensures valid { IsValid self.now.world }
+        ensures held { Holds self.now.room self.now.world }
+    {
+        is_sound(&self.world);
+    }
+
+    /// Begins the record of a further frame, where the record has no deltas: the world's tick is raised by one, and the record
+    /// is of the tick before. It takes no memory.
+    ///
+    /// Refused: `TickFull` where the tick is the greatest of 64 bits; then world and record are as they were.
+    pub fn begin(&mut self) -> Result<(), Refusal>
+        requires { self.old.frame.deltas ≡ [] }
+        ensures answer { Gives result self.old.world self.new.world (raise_tick self.old.world) }
+        ensures frame { OnOk result (self.new.frame ≡ record_of self.old.world.tick []) }
+        ensures same { OnErr result (self.new.frame ≡ self.old.frame) }
+        ensures wide { IsWider self.old.room self.new.room }
+    {
+        let tick = self.world.tick();
+        self.world.raise_tick()?;
+        self.tick_before = tick;
+        Ok(())
+    }
+
+    /// The record of the frame that is done, with no more memory than its deltas need. They can be taken back in the world as
+    /// it is now, which the recorder keeps, with a record that has no deltas. It takes no memory.
+    pub fn finish(&mut self) -> FrameRecord
+        ensures record { result ≡ self.old.frame }
+        ensures ready { AreReady self.new.room result.deltas self.new.world }
+        ensures world { self.new.world ≡ self.old.world }
+        ensures room { self.new.room ≡ self.old.room }
+        ensures empty { self.new.frame.deltas ≡ [] }
+    {
+        let mut deltas = std::mem::replace(&mut self.deltas, Vec::new(self.alloc));
+        deltas.shrink_to_fit();
+        FrameRecord::new(self.tick_before, deltas)
+    }
+
+    /// Takes the frame back: its deltas, the last first, and then the tick is the one from before. The record has no deltas
+    /// then. It takes no memory, and costs what the deltas changed.
+    pub fn cancel(&mut self)
+        requires { CanSetTick (opening_of self.old) self.old.frame.tick_before }
+        ensures world { self.new.world ≡ undone self.old.frame self.old.world }
+        ensures room { self.new.room ≡ self.old.room }
+        ensures empty { self.new.frame.deltas ≡ [] }
+    {
+        let deltas = std::mem::replace(&mut self.deltas, Vec::new(self.alloc));
+        take_all_back(&mut self.world, deltas);
+        self.world.set_tick(self.tick_before);
+    }
+
+    /// Undoes a record between two frames, in a world that has room for that. It copies the deltas first, and takes no memory
+    /// besides; where none is found for the copy, the world stays as it was.
+    pub fn undo_record(&mut self, record: &FrameRecord) -> Result<(), AllocError>
+        requires empty { self.old.frame.deltas ≡ [] }
+        requires fits { RecordFitsBack record.now self.old.world }
+        requires ready { AreReady self.old.room record.now.deltas self.old.world }
+        ensures done { OnOk result (self.new.world ≡ undone record.now self.old.world) }
+        ensures full { OnErr result (self.new.world ≡ self.old.world) }
+        ensures room { self.new.room ≡ self.old.room }
+        ensures empty { self.new.frame.deltas ≡ [] }
+    {
+        record.undo_reserved(&mut self.world)
+    }
+
+    /// Redoes a record between two frames, in a world that has room for that. It copies the deltas first, and takes no memory
+    /// besides; where none is found for the copy, the world stays as it was.
+    pub fn redo_record(&mut self, record: &FrameRecord) -> Result<(), AllocError>
+        requires empty { self.old.frame.deltas ≡ [] }
+        requires fits { RecordFitsOn record.now self.old.world }
+        requires ready { AreReadyOn self.old.room record.now.deltas (raised self.old.world) }
+        ensures done { OnOk result (self.new.world ≡ redone record.now self.old.world) }
+        ensures full { OnErr result (self.new.world ≡ self.old.world) }
+        ensures room { self.new.room ≡ self.old.room }
+        ensures empty { self.new.frame.deltas ≡ [] }
+    {
+        record.redo_reserved(&mut self.world)
+    }
 }
 
 /// A recorder notes the deltas of each command that is accepted.
@@ -101,7 +200,7 @@ impl Stage for Recorder {
 
     fn despawn(&mut self, entity: Entity) -> Result<(), Refusal> {
         is_sound(&self.world);
-        self.deltas.reserve(1)?;
+        room_for_one(&mut self.deltas)?;
         let delta = notes::despawned(self.alloc, &self.world, entity)?;
         self.world.despawn(entity)?;
         keep(&mut self.deltas, delta);
@@ -110,7 +209,7 @@ impl Stage for Recorder {
 
     fn insert(&mut self, entity: Entity, kind: u8, value: Value) -> Result<(), Refusal> {
         is_sound(&self.world);
-        self.deltas.reserve(1)?;
+        room_for_one(&mut self.deltas)?;
         let delta = insert(&mut self.world, entity, kind, value)?;
         keep(&mut self.deltas, delta);
         Ok(())
@@ -118,7 +217,7 @@ impl Stage for Recorder {
 
     fn remove(&mut self, entity: Entity, kind: u8) -> Result<(), Refusal> {
         is_sound(&self.world);
-        self.deltas.reserve(1)?;
+        room_for_one(&mut self.deltas)?;
         let delta = notes::removed(&self.world, entity, kind)?;
         self.world.remove(entity, kind)?;
         keep(&mut self.deltas, delta);
@@ -129,7 +228,7 @@ impl Stage for Recorder {
         is_sound(&self.world);
         let before = link_of(&self.world, child);
         let after = last_link(&self.world, child, parent);
-        self.deltas.reserve(1)?;
+        room_for_one(&mut self.deltas)?;
         self.world.set_parent(child, parent)?;
         self.deltas.push_reserved(Delta::Linked {
             entity: child,
@@ -142,7 +241,7 @@ impl Stage for Recorder {
     fn remove_parent(&mut self, child: Entity) -> Result<(), Refusal> {
         is_sound(&self.world);
         let lost = link_of(&self.world, child);
-        self.deltas.reserve(1)?;
+        room_for_one(&mut self.deltas)?;
         self.world.remove_parent(child)?;
         self.deltas.push_reserved(Delta::Linked {
             entity: child,
@@ -156,7 +255,7 @@ impl Stage for Recorder {
         is_sound(&self.world);
         // This tells the prover that the value is in the range of its type.
         let _shape = value.shape();
-        self.deltas.reserve(1)?;
+        room_for_one(&mut self.deltas)?;
         let delta = notes::put(self.alloc, &self.world, name, &value)?;
         self.world.put_resource(name, value)?;
         self.deltas.push_reserved(delta);
@@ -165,7 +264,7 @@ impl Stage for Recorder {
 
     fn remove_resource(&mut self, name: &str) -> Result<(), Refusal> {
         is_sound(&self.world);
-        self.deltas.reserve(1)?;
+        room_for_one(&mut self.deltas)?;
         let delta = notes::taken(self.alloc, &self.world, name)?;
         self.world.remove_resource(name)?;
         self.deltas.push_reserved(delta);
@@ -174,7 +273,7 @@ impl Stage for Recorder {
 
     fn spawn(&mut self, cells: Vec<(u8, Value)>) -> Result<Entity, Refusal> {
         is_sound(&self.world);
-        self.deltas.reserve(1)?;
+        room_for_one(&mut self.deltas)?;
         let (entity, delta) = spawn(self.alloc, &mut self.world, cells)?;
         self.deltas.push_reserved(delta);
         Ok(entity)
