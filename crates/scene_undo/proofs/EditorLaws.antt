@@ -1,8 +1,9 @@
 -- What an editor keeps from one call to the next.
-use Rattle.std.proofs.Common.{◌≡◌, ℕ, zero, suc, List, [], ◌∷◌, take, sym, subst}
+use Rattle.std.proofs.Common.{◌≡◌, ℕ, zero, suc, List, [], ◌∷◌, take, refl, sym, subst}
 use Rattle.scene_model.specs.World.{World}
 use Rattle.scene_world.specs.Room.{Room}
-use Rattle.scene_journal.specs.Records.{Record, raised, redone, undone}
+use Rattle.scene_journal.specs.Recorder.{Recording, recording}
+use Rattle.scene_journal.specs.Records.{Record, raised, record_of, redone, undone}
 use Rattle.scene_deltas.proofs.Truncated.{each_ready, each_ready_on}
 use Rattle.scene_journal.proofs.FoundRecords.{fits_back_from, fits_on_from}
 use Rattle.scene_undo.specs.Kept.{CanUndoAll, CanRedoAll}
@@ -29,6 +30,14 @@ pub found : (room : Room) (past future : List Record) (w : World) → ∥ CanUnd
 found room past future w known =
     let all : Type 0 = CanUndoAll room past w × CanRedoAll room future w in
     (each_undo all known room past w (λ p. p.0), each_redo all known room future w (λ p. p.1))
+
+-- a recorder of the world in which records can be undone and redone, between two frames
+pub at_rest : (r : Recording) (w : World) (room : Room) (past future : List Record) → r ≡ recording (record { world = w; room = room }) (record_of w.tick [])
+    → CanUndoAll room past w → CanRedoAll room future w
+    → (r.frame.deltas ≡ []) × ∥ CanUndoAll r.room past r.world × CanRedoAll r.room future r.world ∥₁
+at_rest r w room past future is undoes redoes =
+    subst (λ (x : Recording). (x.frame.deltas ≡ []) × ∥ CanUndoAll x.room past x.world × CanRedoAll x.room future x.world ∥₁) (sym is)
+    (refl, ∣ (undoes, redoes) ∣₁)
 
 -- the newest records of a past can be undone where all can
 pub newest : (room : Room) (depth : ℕ) (rs : List Record) (w : World) → CanUndoAll room rs w → CanUndoAll room (take depth rs) w

@@ -7,7 +7,7 @@ use Rattle.scene_kinds.specs.Answers.{Outcome}
 use Rattle.scene_model.specs.World.{World}
 use Rattle.scene_model.specs.Can.{CanSetTick}
 use Rattle.scene_model.specs.Commands.{and_then, raise_tick}
-use Rattle.scene_machine.specs.Frame.{all_or_refused, queues_from}
+use Rattle.scene_machine.specs.Frame.{all_or_refused, framed, queues_from}
 use Rattle.scene_machine.specs.Queue.{Request, play}
 use Rattle.scene_model.specs.Raw.{set_tick}
 use Rattle.scene_model.specs.Valid.{IsValid}
@@ -15,12 +15,13 @@ use Rattle.scene_model.proofs.Outcomes.{not_ok, same_world}
 use Rattle.scene_model.proofs.PartCommands.{raise_sets_tick}
 use Rattle.scene_model.proofs.ResourceBack.{ticks_come_back}
 use Rattle.scene_world.specs.Room.{Room}
-use Rattle.scene_world.specs.Stage.{Staged, Note, act}
+use Rattle.scene_world.specs.Stage.{Opening, Staged, Note, act}
 use Rattle.scene_deltas.specs.declared.delta.Delta.{Delta}
 use Rattle.scene_journal.specs.Frames.{after_queues, frame_record}
 use Rattle.scene_deltas.specs.Notes.{deltas_of}
 use Rattle.scene_deltas.specs.Ready.{AreReady}
 use Rattle.scene_journal.specs.Records.{Record, record_of, raised, undone}
+use Rattle.scene_journal.specs.Recorder.{Recording, began, opening_of, staged_of}
 use Rattle.scene_deltas.specs.Deltas.{back_all}
 use Rattle.scene_deltas.proofs.Deltas.{back_all_keeps_tick}
 use Rattle.scene_deltas.proofs.Turns.{ready_fits_back}
@@ -85,8 +86,50 @@ module _ (w u : World) (valid : IsValid w) (raises : raise_tick w ≡ Ok (tt, u)
       ready = ready;
     }
 
-    pub record_undoes : undone (record_of w.tick ds) v ≡ w
-    record_undoes = ap (λ x. set_tick x w.tick) back ∙ lowered
+-- ---- a frame that a recorder recorded, from where it began
+
+module _ (w : World) (u v : Recording) (valid : IsValid w) (raises : raise_tick w ≡ Ok (tt, u.world)) (fresh : u.frame ≡ record_of w.tick []) (way : began v ≡ began u) where
+  starts : opening_of v ≡ u.world
+  starts = ap (λ (o : Opening). o.world) way ∙ ap (λ (r : Record). back_all r.deltas u.world) fresh
+
+  ticks : v.frame.tick_before ≡ w.tick
+  ticks = ap (λ (o : Opening). o.tick) way ∙ ap (λ (r : Record). r.tick_before) fresh
+
+  whole : v.frame ≡ record_of w.tick v.frame.deltas
+  whole = λ i. record_of (ticks i) v.frame.deltas
+
+  -- it can be taken back, which gives the world from before
+  pub cancels : CanSetTick (opening_of v) v.frame.tick_before
+  cancels = subst (CanSetTick (opening_of v)) (sym ticks) (subst (λ x. CanSetTick x w.tick) (sym starts) (lowers w u.world valid raises))
+
+  cancelled : undone v.frame v.world ≡ w
+  cancelled = ap (λ x. set_tick x v.frame.tick_before) starts ∙ ap (set_tick u.world) ticks ∙ lowered w u.world valid raises
+
+  -- what was noted on the way is what its record tells, and it can be undone, which gives the world from before
+  module _ (kept : Record) (x : World) (is : kept ≡ v.frame) (same : x ≡ v.world) where
+    pub kept_is : (plays : Staged Delta → Outcome (List Entity) (Staged Delta)) (es : List Entity)
+        → plays (staged_of u) ≡ Ok (es, staged_of v) → IsRecordOf plays w x es kept
+    kept_is plays es played = record {
+      tick = ap (λ (r : Record). r.tick_before) is ∙ ticks;
+      noted =
+          ap (λ y. plays (record { world = y; notes = [] })) (sym (is_raised w u.world valid raises))
+          ∙ ap (λ (r : Record). plays (record { world = u.world; notes = r.deltas })) (sym fresh)
+          ∙ played
+          ∙ (λ i. Ok (es, record { world = sym same i; notes = (sym is i).deltas }));
+    }
+
+    pub kept_can : (room : Room) → AreReady room kept.deltas x → CanUndo room kept x
+    kept_can room ready = subst (λ r. CanUndo room r x) (sym (is ∙ whole))
+        (record_can w u.world valid raises room x v.frame.deltas (subst (λ (r : Record). AreReady room r.deltas x) is ready)
+        (ap (back_all v.frame.deltas) same ∙ starts))
+
+    pub kept_undoes : undone kept x ≡ w
+    kept_undoes = ap (λ r. undone r x) is ∙ ap (undone v.frame) same ∙ cancelled
+
+-- what the frame of a world comes to where its tick was raised
+module _ (does : World → Outcome (List Entity) World) (w u : World) (raises : raise_tick w ≡ Ok (tt, u)) where
+  pub done_with : (es : List Entity) (v x : World) → x ≡ v → does u ≡ Ok (es, v) → framed does w ≡ Ok (es, x)
+  done_with es v x same done = ap (λ o. and_then o (λ _ y. does y)) raises ∙ done ∙ (λ i. Ok (es, sym same i))
 
 -- ---- the record of a frame of queues
 

@@ -6,7 +6,6 @@ ghost use Rattle.scene_world.specs.Room.{IsWider};
 ghost use Rattle.scene_undo.specs.declared.direction.Direction.TheVariants.{Undo};
 ghost use Rattle.scene_undo.specs.Direction.{Can, IsFault, opposite, step};
 
-use crate::records::{redo_record, undo_record};
 use scene_journal::FrameRecord;
 use scene_kinds::Refusal;
 use scene_newest::NewestCells;
@@ -60,8 +59,8 @@ impl Direction {
         ensures room { world.new.room ≡ world.old.room }
     {
         match self {
-            Direction::Undo => undo_record(world, frame),
-            Direction::Redo => redo_record(world, frame),
+            Direction::Undo => frame.undo_reserved(world),
+            Direction::Redo => frame.redo_reserved(world),
         }
     }
 }

@@ -8,10 +8,8 @@ ghost use Rattle.scene_world.specs.Room.{IsWider};
 ghost use Rattle.scene_queue.specs.Frames.{frame_of};
 ghost use Rattle.scene_journal.specs.Frames.{frame_record};
 ghost use Rattle.scene_deltas.specs.Notes.{deltas_of};
-ghost use Rattle.scene_deltas.specs.Ready.{AreReady};
 ghost use Rattle.scene_journal.specs.Records.{Record, undone};
-ghost use Rattle.scene_deltas.specs.Deltas.{back_all};
-ghost use Rattle.scene_journal.specs.Recorder.{opening_of, staged_of};
+ghost use Rattle.scene_journal.specs.Recorder.{began, staged_of};
 ghost use Rattle.scene_undo.specs.declared.direction.Direction.TheVariants.{Undo, Redo};
 ghost use Rattle.scene_undo.specs.Cursor.{cursor_of, since};
 ghost use Rattle.scene_undo.specs.Direction.{AllFit};
@@ -25,13 +23,11 @@ use crate::cursor::Cursor;
 use crate::direction::Direction;
 use crate::made::Made;
 use crate::parts::{after_frames, try_records};
-use crate::records::{redo_record, undo_record};
 use crate::stacks::Stacks;
-use scene_deltas::Delta;
 use scene_journal::{FrameRecord, Recorder};
-use scene_kinds::{Fault, Refusal, Schema};
+use scene_kinds::{Fault, Refusal};
 use scene_queue::{Queue, Queues};
-use scene_world::{Frame, RawChanges, World};
+use scene_world::{Frame, Stage, World};
 use std::alloc::Global;
 use std::marker::Model;
 
@@ -44,21 +40,23 @@ use std::marker::Model;
 #[derive(Drop, Debug)]
 pub struct Editor {
     pub(crate) alloc: Global,
-    world: World,
+    recorder: Recorder,
     stacks: Stacks,
     rewinds: u64,
 }
 
 impl Model for Editor {
+    ghost use Rattle.std.specs.Prelude.{◌≡◌, []};
     ghost use Rattle.scene_undo.specs.Editor.{EditorState};
     ghost use Rattle.scene_undo.specs.Kept.{CanRedoAll, CanUndoAll};
 
     ghost Value = { EditorState };
 
-    ghost view = { λ e. record { world = e.world.world; past = e.stacks.past; future = e.stacks.future; rewinds = e.rewinds; depth = e.stacks.depth } };
+    ghost view = { λ e. record { world = e.recorder.world; past = e.stacks.past; future = e.stacks.future; rewinds = e.rewinds; depth = e.stacks.depth } };
 
-    // Each record can be undone, or redone, at its turn, with the memory that the world has.
-    ghost invariant = { λ e. ∥ CanUndoAll e.world.room e.stacks.past e.world.world × CanRedoAll e.world.room e.stacks.future e.world.world ∥₁ };
+    // No frame is being recorded. Each record can be undone, or redone, at its turn, with the memory that the world has.
+    ghost invariant = { λ e. (e.recorder.frame.deltas ≡ [])
+        × ∥ CanUndoAll e.recorder.room e.stacks.past e.recorder.world × CanRedoAll e.recorder.room e.stacks.future e.recorder.world ∥₁ };
 }
 
 /// The greatest depth that the lines of a script may set, and that of an editor where none was set.
@@ -79,7 +77,7 @@ fn apply<F: Frame>(alloc: Global, asked: &F, recorder: &mut Recorder) -> Result<
     ensures world { IfOk result (λ m. F.does asked.now recorder.old.world ≡ Ok (m.entities.items, recorder.new.world)) }
     ensures copy { IfOk result (λ m. m.copy.items ≡ m.entities.items) }
     ensures refused { IfErr result (λ r. r ≢ refusal_of NoMemory → F.does asked.now recorder.old.world ≡ Err r) }
-    ensures opening { opening_of recorder.new ≡ opening_of recorder.old }
+    ensures opening { began recorder.new ≡ began recorder.old }
     ensures wide { IsWider recorder.old.room recorder.new.room }
 {
     let entities = asked.run(alloc, recorder)?;
@@ -87,67 +85,33 @@ fn apply<F: Frame>(alloc: Global, asked: &F, recorder: &mut Recorder) -> Result<
     Ok(Made { entities, copy })
 }
 
-/// Runs a frame on a world, and gives what it made and the deltas. The world comes back, as the frame leaves it or, after
-/// a refusal, as it was.
-fn recorded<F: Frame>(
-    alloc: Global,
-    world: World,
-    asked: &F,
-) -> (World, Result<(Made, Vec<Delta>), Refusal>)
-    requires { F.can asked.now }
-    ensures noted { IfOk result.1 (λ p. F.plays deltas_of asked.now (record { world = world.world; notes = [] })
-        ≡ Ok (p.0.entities.items, record { world = result.0.world; notes = p.1.items })) }
-    ensures done { IfOk result.1 (λ p. F.does asked.now world.world ≡ Ok (p.0.entities.items, result.0.world)) }
-    ensures copy { IfOk result.1 (λ p. p.0.copy.items ≡ p.0.entities.items) }
-    ensures ready { IfOk result.1 (λ p. AreReady result.0.room p.1.items result.0.world) }
-    ensures back { IfOk result.1 (λ p. back_all p.1.items result.0.world ≡ world.world) }
-    ensures refused { IfErr result.1 (λ r. r ≢ refusal_of NoMemory → F.does asked.now world.world ≡ Err r) }
-    ensures same { OnErr result.1 (result.0.world ≡ world.world) }
-    ensures wide { IsWider world.room result.0.room }
+/// Does a frame in a recorder between two frames, all or nothing: it raises the tick and runs the frame. After a refusal the
+/// world is as it was.
+fn frame<F: Frame>(alloc: Global, recorder: &mut Recorder, asked: &F) -> Result<Framed, Refusal>
+    requires can { F.can asked.now }
+    requires empty { recorder.old.frame.deltas ≡ [] }
+    ensures done { IfOk result (λ f. framed (F.does asked.now) recorder.old.world ≡ Ok (f.made.entities.items, recorder.new.world)) }
+    ensures copy { IfOk result (λ f. f.made.copy.items ≡ f.made.entities.items) }
+    ensures noted { IfOk result (λ f. IsRecordOf (F.plays deltas_of asked.now) recorder.old.world recorder.new.world f.made.entities.items f.kept) }
+    ensures can { IfOk result (λ f. CanUndo recorder.new.room f.kept recorder.new.world) }
+    ensures back { IfOk result (λ f. undone f.kept recorder.new.world ≡ recorder.old.world) }
+    ensures refused { IfErr result (λ r. r ≢ refusal_of NoMemory → framed (F.does asked.now) recorder.old.world ≡ Err r) }
+    ensures same { OnErr result (recorder.new.world ≡ recorder.old.world) }
+    ensures empty { recorder.new.frame.deltas ≡ [] }
+    ensures wide { IsWider recorder.old.room recorder.new.room }
 {
-    let nothing = FrameRecord::new(0, Vec::new(alloc));
-    let mut recorder = Recorder::new(alloc, world, nothing);
-    match apply(alloc, asked, &mut recorder) {
+    recorder.world_is_sound();
+    if let Err(refusal) = recorder.begin() {
+        return Err(refusal);
+    }
+    match apply(alloc, asked, recorder) {
         Ok(made) => {
-            let (after, noted) = recorder.into_parts();
-            let (_, mut deltas) = noted.into_parts();
-            // The record is kept: most have one delta, and lists grow to four at once.
-            deltas.shrink_to_fit();
-            (after, Ok((made, deltas)))
-        }
-        Err(refusal) => (recorder.revert(), Err(refusal)),
-    }
-}
-
-/// Does a frame on a world, all or nothing: it raises the tick and runs the frame. The world comes back, as the frame
-/// leaves it or, after a refusal, as it was.
-fn frame<F: Frame>(alloc: Global, world: World, asked: &F) -> (World, Result<Framed, Refusal>)
-    requires { F.can asked.now }
-    ensures done { IfOk result.1 (λ f. framed (F.does asked.now) world.world ≡ Ok (f.made.entities.items, result.0.world)) }
-    ensures copy { IfOk result.1 (λ f. f.made.copy.items ≡ f.made.entities.items) }
-    ensures noted { IfOk result.1 (λ f. IsRecordOf (F.plays deltas_of asked.now) world.world result.0.world f.made.entities.items f.kept) }
-    ensures can { IfOk result.1 (λ f. CanUndo result.0.room f.kept result.0.world) }
-    ensures back { IfOk result.1 (λ f. undone f.kept result.0.world ≡ world.world) }
-    ensures refused { IfErr result.1 (λ r. r ≢ refusal_of NoMemory → framed (F.does asked.now) world.world ≡ Err r) }
-    ensures same { OnErr result.1 (result.0.world ≡ world.world) }
-    ensures wide { IsWider world.room result.0.room }
-{
-    let tick = world.tick();
-    let mut raised = world;
-    if let Err(refusal) = raised.raise_tick() {
-        return (raised, Err(refusal));
-    }
-    let (after, outcome) = recorded(alloc, raised, asked);
-    match outcome {
-        Ok(done) => {
-            let (made, deltas) = done;
-            let kept = FrameRecord::new(tick, deltas);
-            (after, Ok(Framed { made, kept }))
+            let kept = recorder.finish();
+            Ok(Framed { made, kept })
         }
         Err(refusal) => {
-            let mut same = after;
-            same.set_tick(tick);
-            (same, Err(refusal))
+            recorder.cancel();
+            Err(refusal)
         }
     }
 }
@@ -171,7 +135,7 @@ impl Editor {
     {
         Editor {
             alloc,
-            world,
+            recorder: Recorder::idle(alloc, world),
             stacks: Stacks::new(alloc, depth),
             rewinds: 0,
         }
@@ -209,11 +173,12 @@ impl Editor {
         if let Err(refusal) = try_records(alloc, Direction::Redo, &mut tried, future.as_slice()) {
             return Err(after_frames(refusal, past.len()));
         }
-        let (world, rewinds) = (tried, 0);
         let stacks = Stacks::from_parts(alloc, past, future, depth)?;
+        let recorder = Recorder::idle(alloc, tried);
+        let rewinds = 0;
         Ok(Editor {
             alloc,
-            world,
+            recorder,
             stacks,
             rewinds,
         })
@@ -250,7 +215,7 @@ impl Editor {
     pub fn world(&self) -> &World
         ensures { result.now.world ≡ self.now.world }
     {
-        &self.world
+        self.recorder.world()
     }
 
     /// How many frames can be undone, one after another.
@@ -280,7 +245,7 @@ impl Editor {
     {
         Cursor {
             rewinds: self.rewinds,
-            tick: self.world.tick(),
+            tick: self.recorder.world().tick(),
         }
     }
 
@@ -332,11 +297,7 @@ impl Editor {
         ensures same { OnErr result (self.new ≡ self.old) }
     {
         self.stacks.make_room()?;
-        let nothing = World::new(self.alloc, Schema::new(self.alloc), 1);
-        let world = std::mem::replace(&mut self.world, nothing);
-        let (world, framed) = frame(self.alloc, world, asked);
-        self.world = world;
-        match framed {
+        match frame(self.alloc, &mut self.recorder, asked) {
             Ok(done) => {
                 let Framed { made, kept } = done;
                 self.stacks.keep(kept);
@@ -356,15 +317,14 @@ impl Editor {
         ensures records { OnOk result (IsUndone self.old.past self.old.future self.new.past self.new.future) }
         ensures same { OnErr result (self.new ≡ self.old) }
     {
-        self.world.room_holds();
-        let _tick = self.world.tick();
+        self.recorder.world_is_sound();
         let Some(record) = self.stacks.newest() else {
             return Err(Refusal::from(Fault::NothingToUndo));
         };
         if self.rewinds == u64::MAX {
             return Err(Refusal::from(Fault::TickFull));
         }
-        undo_record(&mut self.world, record)?;
+        self.recorder.undo_record(record)?;
         self.stacks.undo();
         self.rewinds += 1;
         Ok(())
@@ -378,12 +338,11 @@ impl Editor {
         ensures records { OnOk result (IsRedone self.old.depth self.old.past self.old.future self.new.past self.new.future) }
         ensures same { OnErr result (self.new ≡ self.old) }
     {
-        self.world.room_holds();
-        let _tick = self.world.tick();
+        self.recorder.world_is_sound();
         let Some(record) = self.stacks.next() else {
             return Err(Refusal::from(Fault::NothingToRedo));
         };
-        redo_record(&mut self.world, record)?;
+        self.recorder.redo_record(record)?;
         self.stacks.redo();
         Ok(())
     }

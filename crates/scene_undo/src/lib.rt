@@ -12,7 +12,6 @@ mod direction;
 mod editor;
 mod made;
 mod parts;
-mod records;
 mod stacks;
 
 pub use cursor::Cursor;

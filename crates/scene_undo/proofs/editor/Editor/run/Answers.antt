@@ -1,11 +1,8 @@
 use Rattle.std.proofs.Common.{◌≡◌, [], ◌∷◌, take, ap, subst, sym, ◌∙◌, Ok}
-use Rattle.std.specs.Prelude.{IfOk, OnErr}
 use Rattle.scene_machine.specs.Machine.{submitted}
-use Rattle.scene_world.specs.Room.{Housed, IsWider}
 use Rattle.scene_machine.specs.Frame.{framed}
-use Rattle.scene_journal.specs.Records.{undone}
 use Rattle.scene_undo.specs.Editor.{EditorState, machine_of}
-use Rattle.scene_undo.specs.Kept.{CanUndo, CanUndoAll, CanRedoAll}
+use Rattle.scene_undo.specs.Kept.{CanUndoAll, CanRedoAll}
 use Rattle.scene_undo.proofs.EditorLaws.{found, newest, of_equal}
 use Rattle.scene_undo.proofs.Kept.{undo_wider, redo_wider}
 use Rattle.scene_undo.proofs.Machines.{machine_framed}
@@ -13,53 +10,46 @@ use Rattle.scene_undo.proofs.editor.Editor.run.Goals as goal
 
 pub invariant_of-self : goal.invariant_of-self
 invariant_of-self g c =
-    let w = c.self.inside.world in
+    let w = c.self.inside.recorder in
     let s = c.self.inside.stacks in
     let t = c.make_room.new.self in
     let at = of_equal w.room w.world s.past t.past s.future t.future c.make_room.ensures.same.past c.make_room.ensures.same.future
-    (found w.room s.past s.future w.world c.self.invariant) in
-    ∣ (at.0, at.1) ∣₁
+    (found w.room s.past s.future w.world c.self.invariant.1) in
+    (c.self.invariant.0, ∣ (at.0, at.1) ∣₁)
 
 pub invariant_of-self-in-Ok : goal.invariant_of-self-in-Ok
 invariant_of-self-in-Ok g c =
-    let w = c.self.inside.world in
-    let v = c.frame-world.result.0 in
+    let w = c.self.inside.recorder in
+    let v = c.frame.new.recorder in
     let s = c.self.inside.stacks in
     let t = c.keep.new.self in
     let room = c.make_room.ensures.same in
     let kept = c.in-Ok.done.kept in
-    let both = found w.room s.past s.future w.world c.self.invariant in
-    let wide = subst (λ (h : Housed). IsWider h.room v.room) c.replace-world.ensures.value c.frame-world.ensures.wide in
-    let can = subst (λ r. IfOk r (λ f. CanUndo v.room f.kept v.world)) c.in-Ok.is c.frame-world.ensures.can in
-    let back : undone kept v.world ≡ w.world =
-    subst (λ r. IfOk r (λ f. undone f.kept v.world ≡ c.replace-world.result.world)) c.in-Ok.is c.frame-world.ensures.back
-    ∙ ap (λ (h : Housed). h.world) c.replace-world.ensures.value in
+    let both = found w.room s.past s.future w.world c.self.invariant.1 in
     let onto : t.past ≡ take s.depth (kept ∷ s.past) = c.keep.ensures.past ∙ (λ i. take (room.depth i) (kept ∷ room.past i)) in
     let past : CanUndoAll v.room (kept ∷ s.past) v.world =
-    (can, subst (CanUndoAll v.room s.past) (sym back) (undo_wider w.room v.room s.past w.world wide both.0)) in
+    (c.in-Ok.ensures.can, subst (CanUndoAll v.room s.past) (sym c.in-Ok.ensures.back) (undo_wider w.room v.room s.past w.world c.frame.ensures.wide both.0)) in
     let at = of_equal v.room v.world (take s.depth (kept ∷ s.past)) t.past [] t.future onto c.keep.ensures.future
     (newest v.room s.depth (kept ∷ s.past) v.world past, tt) in
-    ∣ (at.0, at.1) ∣₁
+    (c.frame.ensures.empty, ∣ (at.0, at.1) ∣₁)
 
 pub invariant_of-self-in-Err : goal.invariant_of-self-in-Err
 invariant_of-self-in-Err g c =
-    let w = c.self.inside.world in
-    let v = c.frame-world.result.0 in
+    let w = c.self.inside.recorder in
+    let v = c.frame.new.recorder in
     let s = c.self.inside.stacks in
     let t = c.make_room.new.self in
-    let both = found w.room s.past s.future w.world c.self.invariant in
-    let same : v.world ≡ w.world = subst (λ r. OnErr r (v.world ≡ c.replace-world.result.world)) c.in-Err.is c.frame-world.ensures.same
-    ∙ ap (λ (h : Housed). h.world) c.replace-world.ensures.value in
-    let wide = subst (λ (h : Housed). IsWider h.room v.room) c.replace-world.ensures.value c.frame-world.ensures.wide in
+    let wide = c.frame.ensures.wide in
+    let both = found w.room s.past s.future w.world c.self.invariant.1 in
     let at = of_equal v.room v.world s.past t.past s.future t.future c.make_room.ensures.same.past c.make_room.ensures.same.future
-    (subst (λ u. CanUndoAll v.room s.past u × CanRedoAll v.room s.future u) (sym same)
+    (subst (λ u. CanUndoAll v.room s.past u × CanRedoAll v.room s.future u) (sym c.in-Err.ensures.same)
     (undo_wider w.room v.room s.past w.world wide both.0, redo_wider w.room v.room s.future w.world wide both.1)) in
-    ∣ (at.0, at.1) ∣₁
+    (c.frame.ensures.empty, ∣ (at.0, at.1) ∣₁)
 
 pub returns-in-Ok-clause-machine : goal.returns-in-Ok-clause-machine
 returns-in-Ok-clause-machine g c =
-    let w = c.self.inside.world in
-    let v = c.frame-world.result.0 in
+    let w = c.self.inside.recorder in
+    let v = c.frame.new.recorder in
     let s = c.self.inside.stacks in
     let t = c.keep.new.self in
     let room = c.make_room.ensures.same in
@@ -68,17 +58,11 @@ returns-in-Ok-clause-machine g c =
     let n = c.self.inside.rewinds in
     let does = framed (g.F.Frame.does c.args.asked.now) in
     let start : EditorState = record { world = w.world; past = s.past; future = s.future; rewinds = n; depth = s.depth } in
-    let done : does w.world ≡ Ok (es, v.world) =
-    ap (λ (h : Housed). does h.world) (sym c.replace-world.ensures.value)
-    ∙ subst (λ r. IfOk r (λ f. does c.replace-world.result.world ≡ Ok (f.made.entities.items, v.world))) c.in-Ok.is c.frame-world.ensures.done in
-    let back : undone kept v.world ≡ w.world =
-    subst (λ r. IfOk r (λ f. undone f.kept v.world ≡ c.replace-world.result.world)) c.in-Ok.is c.frame-world.ensures.back
-    ∙ ap (λ (h : Housed). h.world) c.replace-world.ensures.value in
     let onto : t.past ≡ take s.depth (kept ∷ s.past) = c.keep.ensures.past ∙ (λ i. take (room.depth i) (kept ∷ room.past i)) in
     let deep : t.depth ≡ s.depth = c.keep.ensures.depth ∙ room.depth in
     ap (λ (e : EditorState). submitted (machine_of e) (does e.world)) (sym c.self.view_is)
-    ∙ ap (submitted (machine_of start)) done
-    ∙ ap (λ m. Ok (es, m)) (machine_framed w.world v.world s.past s.future n s.depth kept back)
+    ∙ ap (submitted (machine_of start)) c.in-Ok.ensures.done
+    ∙ ap (λ m. Ok (es, m)) (machine_framed w.world v.world s.past s.future n s.depth kept c.in-Ok.ensures.back)
     ∙ (λ i. Ok (
       es,
       machine_of (record { world = v.world; past = sym onto i; future = sym c.keep.ensures.future i; rewinds = n; depth = sym deep i }),
