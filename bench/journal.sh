@@ -10,14 +10,18 @@
 # end. Then it prints the memory of each.
 #
 # Of 1,000, 2,000 and 4,000 records on a world of 20,000 entities it prints milliseconds in which they are tried, all together by an
-# editor that is made of them, and each apart, which looks at the whole world for each. Each is the least of the runs. It needs rt and
-# python3.
+# editor that is made of them, and each apart, which looks at the whole world for each. Each is the least of the runs. It needs
+# python3, and rt or the program that SCENE_BENCH names.
 set -euo pipefail
 cd "$(dirname "$0")/.."
 place=$(mktemp -d)
 trap 'rm -rf "$place"' EXIT
-(cd crates/scene_bench && rt run > "$place/rt.log" 2>&1) || { cat "$place/rt.log" >&2; exit 1; }
-python3 - "$(pwd)/crates/scene_bench/out/scene_bench" "${1:-1000000}" "${2:-5}" <<'P'
+program=${SCENE_BENCH:-}
+if [ -z "$program" ]; then
+    (cd crates/scene_bench && rt run > "$place/rt.log" 2>&1) || { cat "$place/rt.log" >&2; exit 1; }
+    program="$(pwd)/crates/scene_bench/out/scene_bench"
+fi
+python3 - "$program" "${1:-1000000}" "${2:-5}" <<'P'
 import os, subprocess, sys
 
 program, size, runs = sys.argv[1], int(sys.argv[2]), int(sys.argv[3])

@@ -15,12 +15,16 @@
 # - what a million cursors take that are asked for without waiting: memory beyond that of one, and how many more times memory is asked
 #   for, both of which are to be 0.
 #
-# It needs rt, python3 and a C compiler.
+# It needs python3, a C compiler, and rt or the program that SCENE_SESSION_BENCH names.
 set -euo pipefail
 cd "$(dirname "$0")/.."
 place=$(mktemp -d)
 trap 'rm -rf "$place"' EXIT
-(cd crates/scene_session_bench && rt run > "$place/rt.log" 2>&1) || { cat "$place/rt.log" >&2; exit 1; }
+program=${SCENE_SESSION_BENCH:-}
+if [ -z "$program" ]; then
+    (cd crates/scene_session_bench && rt run > "$place/rt.log" 2>&1) || { cat "$place/rt.log" >&2; exit 1; }
+    program="$(pwd)/crates/scene_session_bench/out/scene_session_bench"
+fi
 # counts how often memory is asked for
 cat > "$place/count.c" <<'C'
 #define _GNU_SOURCE
@@ -44,7 +48,7 @@ void *aligned_alloc(size_t a, size_t n) { count(); return __libc_memalign(a, n);
 int posix_memalign(void **p, size_t a, size_t n) { count(); *p = __libc_memalign(a, n); return *p ? 0 : 12; }
 C
 cc -O2 -shared -fPIC -o "$place/count.so" "$place/count.c"
-python3 - "$(pwd)/crates/scene_session_bench/out/scene_session_bench" "$place" "${1:-200000}" "${2:-7}" <<'P'
+python3 - "$program" "$place" "${1:-200000}" "${2:-7}" <<'P'
 import os, pathlib, statistics, subprocess, sys
 
 program, place, count, runs = sys.argv[1], pathlib.Path(sys.argv[2]), int(sys.argv[3]), int(sys.argv[4])
