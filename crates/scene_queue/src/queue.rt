@@ -1,5 +1,5 @@
 //! Queues: lists of commands with a limit, and what applying them does.
-ghost use Rattle.std.specs.Prelude.{◌≡◌, ◌≢◌, ◌<◌, ◌≤◌, ◌^◌, ◌++◌, length, IfErr, IfOk, OnOk, OnErr, MatchResult, Some, None, Ok, Err, if◌then◌else◌};
+ghost use Rattle.std.specs.Prelude.{◌≡◌, ◌≢◌, ◌<◌, ◌≤◌, ◌^◌, ◌+◌, ◌++◌, length, IfErr, IfOk, OnOk, OnErr, MatchResult, Some, None, Ok, Err, if◌then◌else◌};
 ghost use Rattle.std.specs.Prelude.{vec_len, vec_capacity};
 ghost use Rattle.scene_kinds.specs.Answers.{Answers, refusal_of};
 ghost use Rattle.scene_kinds.specs.Fault.{refusal_text};
@@ -349,14 +349,27 @@ fn do_command<S: Stage>(
     }
 }
 
-/// Adds what a command spawned, if anything, or finds no memory. The first takes the room of one.
+/// Makes room for what a command will spawn, if anything, or finds no memory: before it is done, so that nothing is done that
+/// can't be noted. The first takes the room of one.
+fn make_room_for(command: &Command, spawned: &mut Vec<Entity>) -> Result<(), AllocError>
+    ensures items { spawned.new.items ≡ spawned.old.items }
+    ensures room { OnOk result (vec_len spawned.new + spawned_by command.now ≤ vec_capacity spawned.new) }
+{
+    if !is_spawn(command) {
+        return Ok(());
+    }
+    if spawned.is_empty() {
+        spawned.reserve_exact(1)
+    } else {
+        spawned.reserve(1)
+    }
+}
+
+/// Adds what a command spawned, if anything, or finds no memory, which it needs only where no room was made.
 fn note_spawned(spawned: &mut Vec<Entity>, made: Option<Entity>) -> Result<(), AllocError>
     ensures { OnOk result (spawned.new.items ≡ and_spawned spawned.old.items made) }
 {
     if let Some(entity) = made {
-        if spawned.is_empty() {
-            spawned.reserve_exact(1)?;
-        }
         spawned.push(entity)?;
     }
     Ok(())
@@ -412,6 +425,9 @@ fn apply_commands<S: Stage>(
     let mut spawned = Vec::new(alloc);
     let mut at: u32 = 0;
     for command in commands {
+        if make_room_for(command, &mut spawned).is_err() {
+            return Err(Refusal::from(Fault::NoMemory));
+        }
         match do_command(command, spawned.as_slice(), stage) {
             Ok(made) => match note_spawned(&mut spawned, made) {
                 Ok(()) => {}
