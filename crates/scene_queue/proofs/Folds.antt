@@ -50,9 +50,11 @@ module _ {S : Type 0} (act : Act S) where
       ∙ ap (λ k. stopped q k r) (let n : length (map f (take i xs)) ≡ i = length-map (take i xs) f ∙ length-take-le i xs (omega (arith, lt)) in let e : 0 + length (map f (take i xs)) ≡ i = omega (arith, n) in e)
 
   -- the first commands of a list, done
-  pub passed_over : {X : Type 0} (f : X → Request) (xs : List X) (i : ℕ) (s t u : S) (es : List Entity) → u ≡ t
+  pub passed_over : {X : Type 0} (f : X → Request) (xs : List X) (i : ℕ) (s t u : S) (es : List Entity) → i < length xs → u ≡ t
       → play act (map f (take i xs)) s ≡ whole (reached t es) → IsPassed act (map f xs) s u
-  passed_over f xs i s t u es kept so = (i, (es, ap (λ rs. play act rs s) (take-map f i xs) ∙ so ∙ ap (λ v. whole (reached v es)) (sym kept)))
+  passed_over f xs i s t u es lt kept so =
+      let within : i < length (map f xs) = omega (arith, lt, length-map xs f) in
+      (i, (within, (es, ap (λ rs. play act rs s) (take-map f i xs) ∙ so ∙ ap (λ v. whole (reached v es)) (sym kept))))
 
   -- one more command, accepted; it was given the entities spawned so far
   pub goes_on : {X : Type 0} (f : X → Request) (xs : List X) (i : ℕ) (x : X) (s t u : S) (es given after : List Entity) (a : Option Entity) → i < length xs

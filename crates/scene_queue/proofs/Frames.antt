@@ -10,7 +10,7 @@ use Rattle.scene_model.specs.Perform.{Act}
 use Rattle.scene_machine.specs.Queue.{Request, reached, whole, play}
 use Rattle.scene_machine.specs.Frame.{whole_or_refused, queue, queues_from}
 use Rattle.scene_model.proofs.Outcomes.{same_world}
-use Rattle.scene_queue.specs.Queue.{IsPassed, Stops}
+use Rattle.scene_queue.specs.Queue.{IsLeft, IsPassed, Stops}
 use Rattle.scene_queue.specs.Frames.{ArePassed}
 
 -- an outcome with more entities before its own
@@ -89,7 +89,7 @@ module _ {S : Type 0} (act : Act S) where
       → queues_from act 0 (map f (take i xs)) s ≡ Ok (es, t) → IsPassed act (f x) t u → ArePassed act (map f xs) s u
   passed_some f xs i x s t u es lt here so is =
       let next : f x ≡ get_or (map f xs) i [] = ap f here ∙ sym (get_or-map f xs i x [] lt) in
-      (i, (t, (es, (ap (λ rss. queues_from act 0 rss s) (take-map f i xs) ∙ so, subst (λ rs. IsPassed act rs t u) next is))))
+      (i, (t, (es, (ap (λ rss. queues_from act 0 rss s) (take-map f i xs) ∙ so, (is.0, subst (λ rs. IsLeft act rs is.0 t u) next is.1.1)))))
 
   -- and none of the next
   pub passed_whole : {X : Type 0} (f : X → List Request) (xs : List X) (i : ℕ) (s t : S) (es : List Entity) → queues_from act 0 (map f (take i xs)) s ≡ Ok (es, t)

@@ -8,7 +8,7 @@ use Rattle.scene_machine.specs.Queue.{Request}
 use Rattle.scene_machine.specs.Frame.{queues_from}
 use Rattle.scene_world.specs.Stage.{Staged}
 use Rattle.scene_queue.specs.Requests.{requests}
-use Rattle.scene_queue.specs.Queue.{QueueState, IsPassed}
+use Rattle.scene_queue.specs.Queue.{QueueState, IsLeft}
 
 -- what the queues of a frame ask of a world
 abbrev pub frame_of : List QueueState → List (List Request)
@@ -18,7 +18,7 @@ frame_of queues = map (λ q. requests q.commands) queues
 abbrev pub ArePassed : {S : Type 0} → Act S → List (List Request) → (old new : S) → Type 0
 ArePassed {S} act rss old new =
     (count : ℕ) × ((mid : S) × ((es : List Entity) × ((queues_from act 0 (take count rss) old ≡ Ok (es, mid))
-    × IsPassed act (get_or rss count []) mid new)))
+    × ((next : ℕ) × IsLeft act (get_or rss count []) next mid new))))
 
 -- what a stage came to, as what its world came to
 abbrev pub on_world : {A N : Type 0} → Outcome A (Staged N) → Outcome A World

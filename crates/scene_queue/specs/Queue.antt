@@ -1,5 +1,5 @@
 -- A queue as a list of commands with a limit, and what applying it did.
-use Rattle.std.specs.Prelude.{◌≡◌, ℕ, List, [], ◌∷◌, ◌++◌, length, nat_lt, take, sum_by, Result, Ok, Err, if◌then◌else◌}
+use Rattle.std.specs.Prelude.{◌≡◌, ◌<◌, ℕ, List, [], ◌∷◌, ◌++◌, length, nat_lt, take, sum_by, Result, Ok, Err, if◌then◌else◌}
 use Rattle.scene_kinds.specs.declared.entity.Entity.{Entity}
 use Rattle.scene_kinds.specs.declared.fault.Fault.TheVariants.{QueueFull}
 use Rattle.scene_kinds.specs.declared.refusal.Refusal.{Refusal}
@@ -41,9 +41,13 @@ abbrev pub refusal_in : {A T : Type 0} → Result A (Returned T) → Result A Re
 refusal_in (Ok a) = Ok a
 refusal_in (Err r) = Err r.refusal
 
--- the state that the first commands of a queue leave
+-- the state that so many commands of a queue leave, the first ones
+abbrev pub IsLeft : {S : Type 0} → Act S → List Request → ℕ → (old new : S) → Type 0
+IsLeft act rs count old new = (es : List Entity) × (play act (take count rs) old ≡ whole (reached new es))
+
+-- the state that some commands of a queue leave, the first ones, and not all
 abbrev pub IsPassed : {S : Type 0} → Act S → List Request → (old new : S) → Type 0
-IsPassed act rs old new = (count : ℕ) × ((es : List Entity) × (play act (take count rs) old ≡ whole (reached new es)))
+IsPassed act rs old new = (count : ℕ) × ((count < length rs) × IsLeft act rs count old new)
 
 -- the fold stopped in this state, at a command whose refusal this is with its place, the queue being the q-th of its frame
 abbrev pub Stops : {S : Type 0} → Act S → ℕ → List Request → (old new : S) → Refusal → Type 0

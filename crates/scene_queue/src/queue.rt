@@ -1,5 +1,5 @@
 //! Queues: lists of commands with a limit, and what applying them does.
-ghost use Rattle.std.specs.Prelude.{◌≡◌, ◌≢◌, ◌<◌, ◌≤◌, ◌^◌, ◌+◌, ◌++◌, length, IfErr, IfOk, OnOk, OnErr, MatchResult, Some, None, Ok, Err, if◌then◌else◌};
+ghost use Rattle.std.specs.Prelude.{◌≡◌, ◌≢◌, ◌<◌, ◌≤◌, ◌^◌, ◌+◌, ◌++◌, length, IfErr, IfOk, IfSome, OnOk, OnErr, MatchResult, Some, None, Ok, Err, if◌then◌else◌};
 ghost use Rattle.std.specs.Prelude.{vec_len, vec_capacity};
 ghost use Rattle.scene_kinds.specs.Answers.{Answers, refusal_of};
 ghost use Rattle.scene_kinds.specs.Fault.{refusal_text};
@@ -234,7 +234,8 @@ impl Queue {
 
 /// The answer of a command that spawns nothing.
 fn no_entity(done: Result<(), Refusal>) -> Result<Option<Entity>, Refusal>
-    ensures { MatchResult done (λ _. result ≡ Ok None) (λ r. result ≡ Err r) }
+    ensures answer { MatchResult done (λ _. result ≡ Ok None) (λ r. result ≡ Err r) }
+    ensures none { IfOk result (λ made. made ≡ None) }
 {
     match done {
         Ok(()) => Ok(None),
@@ -260,6 +261,7 @@ fn spawn<S: Stage>(components: &Components, stage: &mut S) -> Result<Option<Enti
 fn despawn_if_alive<S: Stage>(entity: Entity, stage: &mut S) -> Result<Option<Entity>, Refusal>
     ensures answer { Answers result (S.seen stage.old) (S.seen stage.new)
         (act S.note (S.seen stage.old) (DespawnRecursiveIfAlive entity)) }
+    ensures none { IfOk result (λ made. made ≡ None) }
     ensures opening { S.opening stage.new ≡ S.opening stage.old }
     ensures wide { IsWider (S.room stage.old) (S.room stage.new) }
 {
@@ -279,6 +281,7 @@ fn insert<S: Stage>(
 ) -> Result<Option<Entity>, Refusal>
     ensures answer { Answers result (S.seen stage.old) (S.seen stage.new)
         (act S.note (S.seen stage.old) (Insert entity kind value.now)) }
+    ensures none { IfOk result (λ made. made ≡ None) }
     ensures opening { S.opening stage.new ≡ S.opening stage.old }
     ensures wide { IsWider (S.room stage.old) (S.room stage.new) }
 {
@@ -294,6 +297,7 @@ fn put_resource<S: Stage>(
 ) -> Result<Option<Entity>, Refusal>
     ensures answer { Answers result (S.seen stage.old) (S.seen stage.new)
         (act S.note (S.seen stage.old) (PutResource name.now value.now)) }
+    ensures none { IfOk result (λ made. made ≡ None) }
     ensures opening { S.opening stage.new ≡ S.opening stage.old }
     ensures wide { IsWider (S.room stage.old) (S.room stage.new) }
 {
@@ -310,6 +314,7 @@ fn link<S: Stage>(
 ) -> Result<Option<Entity>, Refusal>
     ensures answer { Answers result (S.seen stage.old) (S.seen stage.new)
         (request (act S.note) (on_both child parent SetParent) (reached (S.seen stage.old) spawned.now)) }
+    ensures none { IfOk result (λ made. made ≡ None) }
     ensures opening { S.opening stage.new ≡ S.opening stage.old }
     ensures wide { IsWider (S.room stage.old) (S.room stage.new) }
 {
@@ -328,6 +333,7 @@ fn do_command<S: Stage>(
 ) -> Result<Option<Entity>, Refusal>
     ensures answer { Answers result (S.seen stage.old) (S.seen stage.new)
         (request (act S.note) (request_of command.now) (reached (S.seen stage.old) spawned.now)) }
+    ensures made { IfOk result (λ made. IfSome made (λ _. spawned_by command.now ≡ 1)) }
     ensures opening { S.opening stage.new ≡ S.opening stage.old }
     ensures wide { IsWider (S.room stage.old) (S.room stage.new) }
 {
@@ -365,14 +371,14 @@ fn make_room_for(command: &Command, spawned: &mut Vec<Entity>) -> Result<(), All
     }
 }
 
-/// Adds what a command spawned, if anything, or finds no memory, which it needs only where no room was made.
-fn note_spawned(spawned: &mut Vec<Entity>, made: Option<Entity>) -> Result<(), AllocError>
-    ensures { OnOk result (spawned.new.items ≡ and_spawned spawned.old.items made) }
+/// Adds what a command spawned, if anything, where room was made for it.
+fn note_spawned(spawned: &mut Vec<Entity>, made: Option<Entity>)
+    requires { IfSome made (λ _. vec_len spawned.old < vec_capacity spawned.old) }
+    ensures { spawned.new.items ≡ and_spawned spawned.old.items made }
 {
     if let Some(entity) = made {
-        spawned.push(entity)?;
+        spawned.push_reserved(entity);
     }
-    Ok(())
 }
 
 /// Entities and then others, or an error where no memory was found. Where there are none before, the others stay where
@@ -429,10 +435,7 @@ fn apply_commands<S: Stage>(
             return Err(Refusal::from(Fault::NoMemory));
         }
         match do_command(command, spawned.as_slice(), stage) {
-            Ok(made) => match note_spawned(&mut spawned, made) {
-                Ok(()) => {}
-                Err(AllocError) => return Err(Refusal::from(Fault::NoMemory)),
-            },
+            Ok(made) => note_spawned(&mut spawned, made),
             Err(refusal) => return Err(placed(refusal, queue, at)),
         }
         at += 1;

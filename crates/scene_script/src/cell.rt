@@ -11,6 +11,9 @@ use scene_commands::Components;
 use scene_kinds::{ParseShapeError, Schema, Shape, Value};
 use std::alloc::Global;
 
+/// For how many cells at most a list has room at once. A line of many spaces has fewer words than it seems.
+const CELLS_AT_ONCE: usize = 8;
+
 /// Three whole numbers with commas between them.
 fn vec3(alloc: Global, text: &str) -> Result<[i64; 3], LineError>
     ensures { Reads result (vec3_said text.now) }
@@ -158,7 +161,7 @@ pub(crate) fn cell_words(
 ) -> Result<Components, LineError>
     ensures { Reads result (cells_said schema.now words.entry) }
 {
-    let mut cells = Vec::with_capacity(alloc, words.most())?;
+    let mut cells = Vec::with_capacity(alloc, words.most().min(CELLS_AT_ONCE))?;
     let mut behind_text = false;
     let mut words = words;
     'words: while let Some((word, rest)) = words.split_first() {

@@ -1,13 +1,8 @@
 //! The lines of a script.
-ghost use Rattle.std.specs.Prelude.{◌≡◌, ◌∷◌, ◌<◌, ◌==◌, length, position};
+ghost use Rattle.std.specs.Prelude.{◌≡◌, ◌∷◌, ◌<◌, length};
 ghost use Rattle.std.specs.Str.Lines.{lines, strip_carriage_return};
 
-/// Where the first line ends, if a line feed ends it.
-fn line_end(bytes: &[u8]) -> Option<usize>
-    ensures { result ≡ position (λ b. b == 10) bytes.now }
-{
-    bytes.iter().position(|byte| *byte == b'\n')
-}
+use crate::word::place_of;
 
 /// A line without the carriage return that stands before its line feed.
 fn without_return(line: &[u8]) -> &[u8]
@@ -31,7 +26,7 @@ pub fn first_line(bytes: &[u8]) -> (&[u8], &[u8])
     ensures first { lines bytes.now ≡ result.0.now ∷ lines result.1.now }
     ensures shorter { length result.1.now < length bytes.now }
 {
-    match line_end(bytes) {
+    match place_of(bytes, b'\n') {
         None => (bytes, &[]),
         Some(at) => (without_return(&bytes[..at]), &bytes[at + 1..]),
     }

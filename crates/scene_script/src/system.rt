@@ -201,7 +201,7 @@ fn step_word(alloc: Global, schema: &Schema, word: &str) -> Result<Step, LineErr
 fn step_words(alloc: Global, schema: &Schema, words: Words) -> Result<Steps, LineError>
     ensures { Reads result (steps_said schema.now words.entry) }
 {
-    let mut steps = Vec::with_capacity(alloc, words.most())?;
+    let mut steps = Vec::new(alloc);
     let mut words = words;
     'words: while let Some((word, rest)) = words.split_first() {
         let step = step_word(alloc, schema, word)?;

@@ -15,7 +15,7 @@ pub(crate) fn parts(alloc: Global, word: &str, mark: char) -> Result<Vec<&str>, 
 }
 
 /// The place of the first such byte.
-fn place_of(bytes: &[u8], mark: u8) -> Option<usize>
+pub(crate) fn place_of(bytes: &[u8], mark: u8) -> Option<usize>
     ensures { result ≡ position (λ b. b == mark) bytes.now }
 {
     bytes.iter().position(|byte| *byte == mark)
