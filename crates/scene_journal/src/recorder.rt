@@ -155,30 +155,30 @@ impl Recorder {
 
     /// Undoes a record between two frames, in a world that has room for that. It copies the deltas first, and takes no memory
     /// besides; where none is found for the copy, the world stays as it was.
-    pub fn undo_record(&mut self, record: &FrameRecord) -> Result<(), AllocError>
+    pub fn undo_record(&mut self, frame: &FrameRecord) -> Result<(), AllocError>
         requires empty { self.old.frame.deltas ≡ [] }
-        requires fits { RecordFitsBack record.now self.old.world }
-        requires ready { AreReady self.old.room record.now.deltas self.old.world }
-        ensures done { OnOk result (self.new.world ≡ undone record.now self.old.world) }
+        requires fits { RecordFitsBack frame.now self.old.world }
+        requires ready { AreReady self.old.room frame.now.deltas self.old.world }
+        ensures done { OnOk result (self.new.world ≡ undone frame.now self.old.world) }
         ensures full { OnErr result (self.new.world ≡ self.old.world) }
         ensures room { self.new.room ≡ self.old.room }
         ensures empty { self.new.frame.deltas ≡ [] }
     {
-        record.undo_reserved(&mut self.world)
+        frame.undo_reserved(&mut self.world)
     }
 
     /// Redoes a record between two frames, in a world that has room for that. It copies the deltas first, and takes no memory
     /// besides; where none is found for the copy, the world stays as it was.
-    pub fn redo_record(&mut self, record: &FrameRecord) -> Result<(), AllocError>
+    pub fn redo_record(&mut self, frame: &FrameRecord) -> Result<(), AllocError>
         requires empty { self.old.frame.deltas ≡ [] }
-        requires fits { RecordFitsOn record.now self.old.world }
-        requires ready { AreReadyOn self.old.room record.now.deltas (raised self.old.world) }
-        ensures done { OnOk result (self.new.world ≡ redone record.now self.old.world) }
+        requires fits { RecordFitsOn frame.now self.old.world }
+        requires ready { AreReadyOn self.old.room frame.now.deltas (raised self.old.world) }
+        ensures done { OnOk result (self.new.world ≡ redone frame.now self.old.world) }
         ensures full { OnErr result (self.new.world ≡ self.old.world) }
         ensures room { self.new.room ≡ self.old.room }
         ensures empty { self.new.frame.deltas ≡ [] }
     {
-        record.redo_reserved(&mut self.world)
+        frame.redo_reserved(&mut self.world)
     }
 }
 
