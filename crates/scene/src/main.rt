@@ -10,7 +10,7 @@ mod ending;
 
 use crate::ending::Ending;
 use scene_app::{AppFault, RunEnd, check_scene, print_scene, run_script};
-use scene_command_line::{Asked, mistake_in, read_words};
+use scene_command_line::{Asked, ShellWords, mistake_in, read_words};
 use scene_streams::{Sink, Source};
 use std::io::ErrorKind;
 use std::process::ExitCode;
@@ -55,6 +55,12 @@ fn run(rt: &HostRuntime, threads: &(impl Threads + Wait + Sync), workers: u8) ->
     }
 }
 
+/// Answers each line on standard input before it waits for the next.
+fn shell(_rt: &HostRuntime, _threads: &(impl Threads + Wait + Sync), _words: ShellWords) -> Ending {
+    // A stub, until the shell is joined here.
+    Ending::Done
+}
+
 /// Says whether the scene text on standard input is good.
 fn check(rt: &HostRuntime) -> Ending {
     let mut source = Source::new(rt.stdin());
@@ -87,6 +93,7 @@ fn help(rt: &HostRuntime, text: &str) -> Ending {
 fn end(rt: &HostRuntime, threads: &(impl Threads + Wait + Sync), words: &[String]) -> Ending {
     match read_words(rt.alloc(), words) {
         Ok(Asked::Run(workers)) => run(rt, threads, workers),
+        Ok(Asked::Shell(words)) => shell(rt, threads, words),
         Ok(Asked::Check) => check(rt),
         Ok(Asked::Print) => print(rt),
         Ok(Asked::Help(text)) => help(rt, text.as_str()),

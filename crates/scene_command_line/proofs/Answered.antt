@@ -1,9 +1,9 @@
 -- What follows from an answer of `clap`.
 use Rattle.std.proofs.Common.{◌≡◌, ◌⊎◌, true, false, Result, Ok, Err, IfOk, IsErr, Option, Some, None, Box}
-use Rattle.std.proofs.Common.{List, [], ◌∷◌, inl, inr, option_map, refl, ap, ◌∙◌, subst, codes}
+use Rattle.std.proofs.Common.{List, [], ◌∷◌, inl, inr, option_map, refl, ap, ◌∙◌, subst}
 use Rattle.std.specs.Box.{box_value}
 use Rattle.std.specs.declared.alloc.AllocError.{AllocError}
-use Rattle.clap.specs.Words.{IsAmong, Kinds, Row, Text, first_of, subcommand_rows}
+use Rattle.clap.specs.Words.{IsAmong, Kinds, Row, Text, subcommand_rows}
 use Rattle.clap.specs.declared.error.kind.ErrorKind.{ErrorKind}
 use Rattle.clap.specs.declared.error.kind.ErrorKind.TheVariants.{OutOfMemory}
 use Rattle.clap.specs.declared.parser.matches.ArgMatches.TheViews.{out-SubCommand}
@@ -14,12 +14,12 @@ use Rattle.scene_command_line.specs.Words.{Answers, AnswersKind, AnswersOneOf, c
 
 -- the command that was met, by its name and its matches
 pub met_by_parts : (met : Option (Text × List Row)) (name : Text) (rows : List Row) → option_map (λ p. p.0) met ≡ Some name
-    → option_map (λ p. p.1) met ≡ Some rows → command_of met ≡ command_named name (first_of (codes "workers") rows)
+    → option_map (λ p. p.1) met ≡ Some rows → command_of met ≡ command_named name rows
 met_by_parts None name rows named matched = absurd (cc named)
 met_by_parts (Some p) name rows named matched =
     let same_name : p.0 ≡ name = cc named in
     let same_rows : p.1 ≡ rows = cc matched in
-    ap (λ n. command_named n (first_of (codes "workers") p.1)) same_name ∙ ap (λ rs. command_named name (first_of (codes "workers") rs)) same_rows
+    ap (λ n. command_named n p.1) same_name ∙ ap (λ rs. command_named name rs) same_rows
 
 -- where none was met, there is none
 pub met_none : (met : Option (Text × List Row)) → option_map (λ p. p.1) met ≡ None → command_of met ≡ Bad

@@ -26,6 +26,10 @@ module _ (name : Text) where
   unfolding clap_on_literals
   long_of_run = refl
 
+  long_of_shell : IsHelpLine (name ∷ codes "shell" ∷ codes "--help" ∷ [])
+  unfolding clap_on_literals
+  long_of_shell = refl
+
   long_of_check : IsHelpLine (name ∷ codes "check" ∷ codes "--help" ∷ [])
   unfolding clap_on_literals
   long_of_check = refl
@@ -37,6 +41,10 @@ module _ (name : Text) where
   short_of_run : IsHelpLine (name ∷ codes "run" ∷ codes "-h" ∷ [])
   unfolding clap_on_literals
   short_of_run = refl
+
+  short_of_shell : IsHelpLine (name ∷ codes "shell" ∷ codes "-h" ∷ [])
+  unfolding clap_on_literals
+  short_of_shell = refl
 
   short_of_check : IsHelpLine (name ∷ codes "check" ∷ codes "-h" ∷ [])
   unfolding clap_on_literals
@@ -53,13 +61,17 @@ by_option P word long short one = elim (or_cases (bytes_eq word (codes "--help")
   | inr same ↦ subst P (sym ((bytes_eq-Decides word _).0 same)) short
 ]
 
--- what holds of the three commands holds of each word that is one of them
-by_command : (P : Text → Type 0) (word : Text) → P (codes "run") → P (codes "check") → P (codes "print") → is_command word ≡ true → P word
-by_command P word run check print one = elim (or_cases (bytes_eq word (codes "run")) _ one) [
+-- what holds of the four commands holds of each word that is one of them
+by_command : (P : Text → Type 0) (word : Text) → P (codes "run") → P (codes "shell") → P (codes "check") → P (codes "print")
+    → is_command word ≡ true → P word
+by_command P word run shell check print one = elim (or_cases (bytes_eq word (codes "run")) _ one) [
   | inl same ↦ subst P (sym ((bytes_eq-Decides word _).0 same)) run
-  | inr other ↦ elim (or_cases (bytes_eq word (codes "check")) _ other) [
-    | inl same ↦ subst P (sym ((bytes_eq-Decides word _).0 same)) check
-    | inr same ↦ subst P (sym ((bytes_eq-Decides word _).0 same)) print
+  | inr other ↦ elim (or_cases (bytes_eq word (codes "shell")) _ other) [
+    | inl same ↦ subst P (sym ((bytes_eq-Decides word _).0 same)) shell
+    | inr other ↦ elim (or_cases (bytes_eq word (codes "check")) _ other) [
+      | inl same ↦ subst P (sym ((bytes_eq-Decides word _).0 same)) check
+      | inr same ↦ subst P (sym ((bytes_eq-Decides word _).0 same)) print
+    ]
   ]
 ]
 
@@ -71,6 +83,7 @@ help_line (name ∷ command ∷ word ∷ []) asks =
     let parts = and_parts (is_command command) (is_help_option word) asks in
     by_command (λ c. IsHelpLine (name ∷ c ∷ word ∷ [])) command
     (by_option (λ w. IsHelpLine (name ∷ codes "run" ∷ w ∷ [])) word (long_of_run name) (short_of_run name) parts.1)
+    (by_option (λ w. IsHelpLine (name ∷ codes "shell" ∷ w ∷ [])) word (long_of_shell name) (short_of_shell name) parts.1)
     (by_option (λ w. IsHelpLine (name ∷ codes "check" ∷ w ∷ [])) word (long_of_check name) (short_of_check name) parts.1)
     (by_option (λ w. IsHelpLine (name ∷ codes "print" ∷ w ∷ [])) word (long_of_print name) (short_of_print name) parts.1)
     parts.0

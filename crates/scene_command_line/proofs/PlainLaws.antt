@@ -16,8 +16,8 @@ use Rattle.clap.proofs.OnLiterals.{clap_on_literals}
 use Rattle.clap.proofs.FaultLemmas.{stopped_fault}
 use Rattle.clap.proofs.WalkLemmas.{walk_stopped}
 use Rattle.scene_command_line.specs.declared.asked.Asked.{Asked}
-use Rattle.scene_command_line.specs.declared.asked.Asked.TheVariants.{Run, Check, Print, Bad}
-use Rattle.scene_command_line.specs.Words.{Answers, AsksFor, command_in, run_shape, scene_line}
+use Rattle.scene_command_line.specs.declared.asked.Asked.TheVariants.{Run, Shell, Check, Print, Bad}
+use Rattle.scene_command_line.specs.Words.{Answers, AsksFor, command_in, run_shape, scene_line, shell_shape}
 use Rattle.scene_command_line.specs.Plain.{are_plain, is_option, is_plain, plainly_asked}
 
 -- ---- words that are no options
@@ -93,7 +93,7 @@ no_command name word rest plain none =
     level_first line.top (names_of line) word rest _ _ UnknownArgument (InvalidSubcommand ∷ [])
     (stray_turn line.top (names_of line) word plain none refl)
 
--- a word too many after each of the three commands; it is an unknown argument of that command
+-- a word too many after each of the four commands; it is an unknown argument of that command
 module _ (name word : Text) (rest : List Text) (plain : is_option word ≡ false) where
   leaf_refuses : (s : Shape) → turn_fault (built_leaf s) [] start word ≡ UnknownArgument ∷ []
       → level_fault (built_leaf s) [] nothing_held (word ∷ rest) false [] ≡ UnknownArgument ∷ []
@@ -103,6 +103,11 @@ module _ (name word : Text) (rest : List Text) (plain : is_option word ≡ false
   unfolding clap_on_literals
   of_run_more = too_many (codes "run") name word rest refl refl
       (leaf_refuses run_shape (stray_turn (built_leaf run_shape) [] word plain refl refl))
+
+  of_shell_more : fault_of scene_line (name ∷ codes "shell" ∷ word ∷ rest) ≡ UnknownArgument ∷ []
+  unfolding clap_on_literals
+  of_shell_more = too_many (codes "shell") name word rest refl refl
+      (leaf_refuses shell_shape (stray_turn (built_leaf shell_shape) [] word plain refl refl))
 
   of_check_more : fault_of scene_line (name ∷ codes "check" ∷ word ∷ rest) ≡ UnknownArgument ∷ []
   unfolding clap_on_literals
@@ -121,6 +126,17 @@ of_run name = refl
 run_in : (name : Text) → command_in (name ∷ codes "run" ∷ []) ≡ Run 1
 unfolding clap_on_literals
 run_in name = refl
+
+of_shell : (name : Text) → fault_of scene_line (name ∷ codes "shell" ∷ []) ≡ []
+unfolding clap_on_literals
+of_shell name = refl
+
+abbrev plain_shell : Asked
+plain_shell = Shell (record { workers = 1; depth = 1048576; is_framed = false })
+
+shell_in : (name : Text) → command_in (name ∷ codes "shell" ∷ []) ≡ plain_shell
+unfolding clap_on_literals
+shell_in name = refl
 
 of_check : (name : Text) → fault_of scene_line (name ∷ codes "check" ∷ []) ≡ []
 unfolding clap_on_literals
@@ -168,6 +184,12 @@ after_run name [] asked plain asks = taken _ _ (Run 1) asked (of_run name) (run_
 after_run name (word ∷ rest) asked plain asks =
     refused_once _ _ asked (inr (of_run_more name word rest (first_is_no_option word rest plain))) asks
 
+after_shell : (name : Text) (rest : List Text) (asked : Asked) → list_all is_plain rest ≡ true
+    → AsksFor asked (name ∷ codes "shell" ∷ rest) → asked ≡ plainly_asked (name ∷ codes "shell" ∷ rest)
+after_shell name [] asked plain asks = taken _ _ plain_shell asked (of_shell name) (shell_in name) asks
+after_shell name (word ∷ rest) asked plain asks =
+    refused_once _ _ asked (inr (of_shell_more name word rest (first_is_no_option word rest plain))) asks
+
 after_check : (name : Text) (rest : List Text) (asked : Asked) → list_all is_plain rest ≡ true
     → AsksFor asked (name ∷ codes "check" ∷ rest) → asked ≡ plainly_asked (name ∷ codes "check" ∷ rest)
 after_check name [] asked plain asks = taken _ _ Check asked (of_check name) (check_in name) asks
@@ -185,13 +207,13 @@ flipped xs ys differ = false_from_ne_true _
     (λ same. both_ways _ differ ((bytes_eq-Decides xs ys).1 (sym ((bytes_eq-Decides ys xs).0 same))))
 
 -- a first word that is no command
-module _ (name word : Text) (run : bytes_eq word (codes "run") ≡ false) (check : bytes_eq word (codes "check") ≡ false)
-    (print : bytes_eq word (codes "print") ≡ false) where
+module _ (name word : Text) (run : bytes_eq word (codes "run") ≡ false) (shell : bytes_eq word (codes "shell") ≡ false)
+    (check : bytes_eq word (codes "check") ≡ false) (print : bytes_eq word (codes "print") ≡ false) where
   named_none : (help : bytes_eq word (codes "help") ≡ false) → subcommand_met (names_of line) idle word ≡ None
-  named_none help = rw (flipped word _ run, flipped word _ check, flipped word _ print, flipped word _ help) refl
+  named_none help = rw (flipped word _ run, flipped word _ shell, flipped word _ check, flipped word _ print, flipped word _ help) refl
 
   bad_plainly : (rest : List Text) → plainly_asked (name ∷ word ∷ rest) ≡ Bad
-  bad_plainly [] = rw (run, check, print) refl
+  bad_plainly [] = rw (run, shell, check, print) refl
   bad_plainly (next ∷ rest) = refl
 
   after_none : (rest : List Text) (asked : Asked) → is_plain word ≡ true
@@ -210,11 +232,14 @@ plain_answer (name ∷ word ∷ rest) asked plain asks =
     let Fits : Text → Type 0 = λ w. AsksFor asked (name ∷ w ∷ rest) → asked ≡ plainly_asked (name ∷ w ∷ rest) in
     elim (cases_Bool (bytes_eq word (codes "run"))) [
       | inl run ↦ subst Fits (sym ((bytes_eq-Decides word _).0 run)) (after_run name rest asked parts.1) asks
-      | inr run ↦ elim (cases_Bool (bytes_eq word (codes "check"))) [
-        | inl check ↦ subst Fits (sym ((bytes_eq-Decides word _).0 check)) (after_check name rest asked parts.1) asks
-        | inr check ↦ elim (cases_Bool (bytes_eq word (codes "print"))) [
-          | inl print ↦ subst Fits (sym ((bytes_eq-Decides word _).0 print)) (after_print name rest asked parts.1) asks
-          | inr print ↦ after_none name word run check print rest asked parts.0 asks
+      | inr run ↦ elim (cases_Bool (bytes_eq word (codes "shell"))) [
+        | inl shell ↦ subst Fits (sym ((bytes_eq-Decides word _).0 shell)) (after_shell name rest asked parts.1) asks
+        | inr shell ↦ elim (cases_Bool (bytes_eq word (codes "check"))) [
+          | inl check ↦ subst Fits (sym ((bytes_eq-Decides word _).0 check)) (after_check name rest asked parts.1) asks
+          | inr check ↦ elim (cases_Bool (bytes_eq word (codes "print"))) [
+            | inl print ↦ subst Fits (sym ((bytes_eq-Decides word _).0 print)) (after_print name rest asked parts.1) asks
+            | inr print ↦ after_none name word run shell check print rest asked parts.0 asks
+          ]
         ]
       ]
     ]

@@ -1,12 +1,12 @@
 -- What `clap` makes of a command line with a number of workers.
-use Rattle.std.proofs.Common.{◌≡◌, true, false, List, refl, subst, codes, [], ◌∷◌}
+use Rattle.std.proofs.Common.{◌≡◌, true, false, Some, List, refl, subst, codes, [], ◌∷◌}
 use Rattle.std.specs.Str.{bytes_eq}
 use Rattle.std.proofs.lemmas.Bool.{and_parts, false≢true, not-true}
 use Rattle.std.proofs.lemmas.Slice.Eq.{bytes_eq-Decides}
 use Rattle.clap.specs.Words.{Text, fault_of}
 use Rattle.clap.proofs.OnLiterals.{clap_on_literals}
 use Rattle.scene_command_line.specs.declared.asked.Asked.{Asked}
-use Rattle.scene_command_line.specs.Words.{AsksFor, command_in, run_with, scene_line}
+use Rattle.scene_command_line.specs.Words.{AsksFor, command_in, run_asked, scene_line}
 use Rattle.scene_command_line.specs.Plain.{asks_for_workers, is_option, workers_asked}
 use Rattle.scene_command_line.proofs.PlainLaws.{no_dashes, no_long, no_short, taken}
 
@@ -15,7 +15,7 @@ module _ (name word : Text) (plain : is_option word ≡ false) where
   unfolding clap_on_literals
   of_workers = rw (no_dashes word plain, no_long word plain, no_short word plain) refl
 
-  workers_in : command_in (name ∷ codes "run" ∷ codes "--workers" ∷ word ∷ []) ≡ run_with word
+  workers_in : command_in (name ∷ codes "run" ∷ codes "--workers" ∷ word ∷ []) ≡ run_asked (Some word)
   unfolding clap_on_literals
   workers_in = rw (no_dashes word plain, no_long word plain, no_short word plain) refl
 
@@ -33,5 +33,5 @@ workers_answer (name ∷ command ∷ option ∷ word ∷ []) asked is asks =
     let plain : is_option word ≡ false = not-true _ more.1 in
     let by_run = subst (λ (c : Text). AsksFor asked (name ∷ c ∷ option ∷ word ∷ [])) run asks in
     let by_option = subst (λ (o : Text). AsksFor asked (name ∷ codes "run" ∷ o ∷ word ∷ [])) workers by_run in
-    taken _ _ (run_with word) asked (of_workers name word plain) (workers_in name word plain) by_option
+    taken _ _ (run_asked (Some word)) asked (of_workers name word plain) (workers_in name word plain) by_option
 workers_answer (name ∷ command ∷ option ∷ word ∷ next ∷ rest) asked is asks = absurd (false≢true is)

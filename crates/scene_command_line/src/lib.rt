@@ -10,6 +10,6 @@ mod mistake;
 mod reading;
 mod texts;
 
-pub use asked::Asked;
+pub use asked::{Asked, ShellWords};
 pub use mistake::{BadWords, Mistake, mistake_in};
 pub use reading::read_words;

@@ -13,6 +13,8 @@ pub enum Mistake {
     HelpOfNoCommand,
     /// The word is `run`, and what follows it is neither a good number of workers nor asks for help.
     TakesWorkers,
+    /// The word is `shell`, and what follows it is neither good options of it nor asks for help.
+    TakesShellOptions,
     /// The word is another command's name, and something follows it.
     TakesNoWord,
     /// The word begins with a hyphen.
@@ -35,6 +37,7 @@ fn mistake_of(word: &str) -> Mistake
 {
     match word {
         "run" => Mistake::TakesWorkers,
+        "shell" => Mistake::TakesShellOptions,
         "check" | "print" => Mistake::TakesNoWord,
         "help" => Mistake::HelpOfNoCommand,
         _ if word.starts_with('-') => Mistake::NoOption,
@@ -73,6 +76,13 @@ impl<'a> fmt::Display for BadWords<'a> {
                     "{word} takes no word but --workers N, where N is 1 to 16, and --help"
                 );
             }
+            Mistake::TakesShellOptions => {
+                return write!(
+                    f,
+                    "{word} takes no word but --workers N, where N is 1 to 16, --depth N, where N is 1 to 1,048,576, \
+                     --framed and --help"
+                );
+            }
             Mistake::TakesNoWord => return write!(f, "{word} takes no word but --help"),
             Mistake::HelpOfNoCommand => write!(f, "help takes the name of one command")?,
             Mistake::NoOption if is_shown => {
@@ -81,6 +91,6 @@ impl<'a> fmt::Display for BadWords<'a> {
             Mistake::NoSuchCommand if is_shown => write!(f, "no command is named {word}")?,
             _ => write!(f, "no command has this name")?,
         }
-        write!(f, "; there are run, check and print")
+        write!(f, "; there are run, shell, check and print")
     }
 }

@@ -6,7 +6,7 @@ pub(crate) const PROGRAM: &str =
 
 /// What all commands have in common.
 pub(crate) const PROGRAM_MORE: &str = "\
-Each command reads standard input to its end and prints on standard output.
+Each command prints on standard output. `shell` answers standard input line by line; the others read it to its end.
 
 Exit status:
   0  all went well
@@ -14,7 +14,7 @@ Exit status:
   2  the command line is bad
   3  a fault ended the program; standard error tells its number and name
 
-docs/SCRIPTS.md explains scripts, and docs/SCENE_FILES.md scene texts.";
+docs/SCRIPTS.md explains scripts, docs/SHELL.md the shell, and docs/SCENE_FILES.md scene texts.";
 
 pub(crate) const RUN: &str = "Plays the script on standard input and prints what its lines answer";
 
@@ -26,6 +26,19 @@ docs/SCRIPTS.md explains the lines.";
 
 pub(crate) const WORKERS: &str =
     "How many threads work on an advance, 1 to 16; what is printed doesn't depend on it [1]";
+
+pub(crate) const SHELL: &str =
+    "Plays the lines on standard input, and answers each before it waits for the next";
+
+pub(crate) const SHELL_MORE: &str = "\
+The lines are those of a script, and the end of the input ends the shell. A bad line prints `bad line` and changes
+nothing; standard error tells at once where it is and why, and the exit status is 1.
+
+docs/SHELL.md explains the shell, and docs/SCRIPTS.md the lines.";
+
+pub(crate) const DEPTH: &str = "Of how many frames a record is kept, 1 to 1,048,576 [1,048,576]";
+
+pub(crate) const FRAMED: &str = "Ends each answer with an empty line";
 
 pub(crate) const CHECK: &str = "Says whether the scene text on standard input is good";
 

@@ -16,7 +16,9 @@ returns c =
     (ap app_of_fields c.after_help.ensures ∙ (ap app_of_fields c.about.ensures ∙ c.new.ensures.app))) in
     let first = c.in_ok-subcommand.ensures.shape c.in_ok-run.ensures.local ∙ ap₂ with_subcommand top_is c.in_ok-run.ensures.shape in
     let second =
-    c.in_ok-subcommand-2.ensures.shape c.command.ensures.local ∙ ap₂ with_subcommand first c.command.ensures.shape in
-    IfOk-weaker c.subcommand-3.result _ _
-    (λ made adds. adds.shape c.command-2.ensures.local ∙ ap₂ with_subcommand second c.command-2.ensures.shape)
-    c.subcommand-3.ensures
+    c.in_ok-subcommand-2.ensures.shape c.in_ok-shell.ensures.local ∙ ap₂ with_subcommand first c.in_ok-shell.ensures.shape in
+    let third =
+    c.in_ok-subcommand-3.ensures.shape c.command.ensures.local ∙ ap₂ with_subcommand second c.command.ensures.shape in
+    IfOk-weaker c.subcommand-4.result _ _
+    (λ made adds. adds.shape c.command-2.ensures.local ∙ ap₂ with_subcommand third c.command-2.ensures.shape)
+    c.subcommand-4.ensures

@@ -6,6 +6,7 @@ use Rattle.scene_command_line.specs.Words.{Answers, AsksFor, command_in, command
 use Rattle.scene_command_line.proofs.Answered.{asked_by_kind}
 use Rattle.scene_command_line.proofs.HelpLaws.{help_answer}
 use Rattle.scene_command_line.proofs.PlainLaws.{plain_answer}
+use Rattle.scene_command_line.proofs.ShellLaws.{shell_answer}
 use Rattle.scene_command_line.proofs.WorkersLaws.{workers_answer}
 use Rattle.scene_command_line.proofs.reading.read_words.Goals as goal
 
@@ -33,6 +34,7 @@ returns-in-Ok c =
       asked = asks;
       plain = λ plain. plain_answer words c.command_met.result plain asks;
       workers = λ workers. workers_answer words c.command_met.result workers asks;
+      shell = λ shell. shell_answer words c.command_met.result shell asks;
       help = λ help. help_answer words c.command_met.result help asks;
     }
 
@@ -49,5 +51,6 @@ returns-in-Err c =
       asked = asks;
       plain = λ plain. IfOk-weaker c.without_command.result _ _ (λ asked. plain_answer words asked plain) asks;
       workers = λ workers. IfOk-weaker c.without_command.result _ _ (λ asked. workers_answer words asked workers) asks;
+      shell = λ shell. IfOk-weaker c.without_command.result _ _ (λ asked. shell_answer words asked shell) asks;
       help = λ help. IfOk-weaker c.without_command.result _ _ (λ asked. help_answer words asked help) asks;
     }
