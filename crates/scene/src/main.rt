@@ -11,8 +11,10 @@ mod ending;
 use crate::ending::Ending;
 use scene_app::{AppFault, RunEnd, check_scene, print_scene, run_script};
 use scene_command_line::{Asked, ShellWords, mistake_in, read_words};
+use scene_script::Limit;
+use scene_shell::{ShellSettings, run_shell};
 use scene_streams::{Sink, Source};
-use std::io::ErrorKind;
+use std::io::{BufReader, ErrorKind};
 use std::process::ExitCode;
 use std::sync::Wait;
 use std::thread::Threads;
@@ -55,10 +57,35 @@ fn run(rt: &HostRuntime, threads: &(impl Threads + Wait + Sync), workers: u8) ->
     }
 }
 
-/// Answers each line on standard input before it waits for the next.
-fn shell(_rt: &HostRuntime, _threads: &(impl Threads + Wait + Sync), _words: ShellWords) -> Ending {
-    // A stub, until the shell is joined here.
-    Ending::Done
+/// How a shell is to be, by the words that ask for it; nothing where its depth is out of range, which no words ask for.
+fn shell_settings(words: ShellWords) -> Option<ShellSettings> {
+    Some(ShellSettings {
+        workers: words.workers as usize,
+        depth: Limit::new(words.depth)?,
+        is_framed: words.is_framed,
+    })
+}
+
+/// Answers the lines on standard input one by one.
+fn shell(rt: &HostRuntime, threads: &(impl Threads + Wait + Sync), words: ShellWords) -> Ending {
+    let Some(settings) = shell_settings(words) else {
+        return Ending::BadCommandLine;
+    };
+    let Ok(mut reader) = BufReader::new(rt.alloc(), rt.stdin()) else {
+        return Ending::Fault(AppFault::NoMemory);
+    };
+    let (mut writer, mut errors) = (rt.stdout(), rt.stderr());
+    match run_shell(
+        threads,
+        rt.alloc(),
+        settings,
+        &mut reader,
+        &mut writer,
+        &mut errors,
+    ) {
+        Ok(bad_lines) => Ending::after_bad_lines(u32::from(bad_lines > 0)),
+        Err(fault) => Ending::Fault(fault),
+    }
 }
 
 /// Says whether the scene text on standard input is good.

@@ -1,6 +1,2 @@
-pub mod PhaseLaws
 pub mod PlayLaws
-pub mod QueryLaws
 pub mod ReportLaws
-pub mod SetupLaws
-pub mod FileFaultLaws

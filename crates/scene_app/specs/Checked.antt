@@ -7,8 +7,8 @@ use Rattle.scene_forms.specs.declared.fault.FileFault.{FileFault}
 use Rattle.scene_file.specs.EditorScene.{loaded_editor}
 use Rattle.scene_pass.specs.Pass.{matching}
 use Rattle.scene_show.specs.Shown.{show_text}
-use Rattle.scene_app.specs.FileFaultText.{file_fault_text}
-use Rattle.scene_app.specs.Play.{no_filter}
+use Rattle.scene_player.specs.FileFaultText.{file_fault_text}
+use Rattle.scene_player.specs.Play.{no_filter}
 
 -- how many entities are alive
 abbrev pub live_count : World → ℕ

@@ -1,10 +1,5 @@
 pub mod Checked
 pub mod Fault
-pub mod FileFaultText
-pub mod OpenFrame
-pub mod Phases
 pub mod Play
-pub mod Questions
 pub mod Reports
-pub mod SetupSteps
 pub mod Steps

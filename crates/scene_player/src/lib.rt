@@ -1,0 +1,26 @@
+//! The player of a script's lines, one at a time.
+//!
+//! A `Player` takes the bytes of a line and gives its `Answer`, which says itself as a script prints it; all else it keeps: the
+//! setup, the sessions of the state, the frame that is open, the systems and the cursor. What a line says is scene_script's; what
+//! it does and answers is here, exact against `player_reply` in `specs/Player.antt`, which speaks of the machine of saved worlds
+//! (docs/SCRIPTS.md explains the language).
+#![tactic(auto)]
+
+mod answer;
+mod file_fault_text;
+mod frame_line;
+mod halt;
+mod open_frame;
+mod phases;
+mod play_state;
+mod player;
+mod question;
+mod setup;
+mod setup_line;
+mod state_line;
+mod systems_line;
+
+pub use answer::Answer;
+pub use file_fault_text::answer_file_fault;
+pub use halt::Halt;
+pub use player::Player;

@@ -1,0 +1,209 @@
+//! The player: the lines of a script one at a time.
+ghost use Rattle.std.specs.Prelude.{◌≡◌, ◌≢◌, Ok, Err, IfOk, IfErr, MatchResult, OnErr, string_bytes};
+ghost use Rattle.scene_script.specs.Script.{line_in};
+ghost use Rattle.scene_player.specs.Answer.{Says};
+ghost use Rattle.scene_player.specs.Play.{first_state, said_reply};
+ghost use Rattle.scene_player.specs.Player.{HaltsSetup, IsAnswered, Tells, first_player, halted, hand_of, limited_player, player_kinds, player_of, player_reply};
+ghost use Rattle.scene_player.specs.Setup.{setup_of};
+ghost use Rattle.scene_player.specs.declared.halt.Halt.TheVariants.{After, Begun};
+
+use crate::answer::Answer;
+use crate::halt::Halt;
+use crate::play_state::PlayState;
+use crate::setup::Setup;
+use crate::setup_line::{SetupAnswer, answer_setup};
+use crate::state_line::answer;
+use scene_hand::Hand;
+use scene_kinds::Schema;
+use scene_script::{BadLine, Limit, Line, LineError, read_line};
+use std::alloc::{AllocError, Global};
+use std::sync::Wait;
+use std::thread::Threads;
+
+/// Where a player is.
+#[derive(Drop)]
+pub(crate) enum Stage {
+    /// In the setup.
+    Setting(Setup),
+    /// Behind the setup.
+    Playing(PlayState),
+}
+
+/// What the lines of a script so far have come to: the setup, or the sessions of the state, the frame that is open, the systems
+/// and the cursor (docs/SCRIPTS.md, "Lines"). It takes a line at a time, and keeps none of them.
+#[derive(Drop)]
+pub struct Player {
+    alloc: Global,
+    workers: usize,
+    stage: Stage,
+}
+
+/// What a line says, or why it is bad.
+fn said_in(
+    alloc: Global,
+    schema: &Schema,
+    bytes: &[u8],
+) -> Result<Result<Line, BadLine>, AllocError>
+    ensures { IfOk result (λ said. said ≡ line_in schema.now bytes.now) }
+{
+    match read_line(alloc, schema, bytes) {
+        Ok(line) => Ok(Ok(line)),
+        Err(LineError::Bad(reason)) => Ok(Err(reason)),
+        Err(LineError::NoMemory) => Err(AllocError),
+    }
+}
+
+/// Answers a line behind the setup.
+fn go_on<T: Threads + Wait + Sync>(
+    rt: &T,
+    alloc: Global,
+    workers: usize,
+    state: &mut PlayState,
+    bytes: &[u8],
+) -> Result<Answer, AllocError>
+    ensures answer { IfOk result (λ answer. Says answer state.new (said_reply state.old (line_in state.old.schema bytes.now))) }
+    ensures same { OnErr result (state.new ≡ state.old) }
+{
+    let said = said_in(alloc, &state.schema, bytes)?;
+    answer(rt, alloc, workers, state, said)
+}
+
+/// Ends the setup by a line, and answers it in the state that follows. The state is there also where no memory is found for the
+/// line itself.
+fn begin<T: Threads + Wait + Sync>(
+    rt: &T,
+    alloc: Global,
+    workers: usize,
+    setup: &mut Setup,
+    line: Line,
+) -> Result<(PlayState, Result<Answer, AllocError>), Halt>
+    ensures begun { IfOk result (λ p. MatchResult p.1 (λ answer. Says answer p.0 (said_reply (first_state (setup_of setup.old)) (Ok line)))
+        (λ _. p.0 ≡ first_state (setup_of setup.old))) }
+    ensures halted { IfErr result (λ h. HaltsSetup h (setup_of setup.old) (setup_of setup.new)) }
+{
+    let mut state = setup.begin(alloc)?;
+    let answered = answer(rt, alloc, workers, &mut state, Ok(line));
+    Ok((state, answered))
+}
+
+/// What a line that ended the setup came to.
+fn after_begin(answered: Result<Answer, AllocError>) -> Result<Answer, Halt>
+    ensures { MatchResult answered (λ answer. result ≡ Ok answer) (λ _. result ≡ Err Begun) }
+{
+    match answered {
+        Ok(answer) => Ok(answer),
+        Err(AllocError) => Err(Halt::Begun),
+    }
+}
+
+impl Player {
+    /// The player before its first line. An advance will have so many workers, 1 to 16, on which no answer depends; a number
+    /// below is taken as 1, and one above as 16. It takes no memory.
+    pub fn new(alloc: Global, workers: usize) -> Player
+        ensures { player_of result ≡ first_player }
+    {
+        Player::with_depth(alloc, workers, Limit::most())
+    }
+
+    /// The same of which so many frames can be undone, as if the line `depth` had said so. It takes no memory.
+    pub fn with_depth(alloc: Global, workers: usize, depth: Limit) -> Player
+        ensures { player_of result ≡ limited_player depth }
+    {
+        let mut setup = Setup::new(alloc);
+        setup.depth = depth;
+        Player {
+            alloc,
+            workers,
+            stage: Stage::Setting(setup),
+        }
+    }
+
+    /// The kinds so far.
+    pub fn schema(&self) -> &Schema
+        ensures { result.now ≡ player_kinds (player_of self.now) }
+    {
+        match &self.stage {
+            Stage::Setting(setup) => setup.schema(),
+            Stage::Playing(state) => &state.schema,
+        }
+    }
+
+    /// Plays a line, which is given without its line break (docs/SCRIPTS.md, "Lines"). A bad line, and one that is refused, is
+    /// answered, and changes nothing. It costs what the line asks for, some thirty loads of a word, and the memory of a call.
+    ///
+    /// Halted only for want of memory: `Before` and `Begun`, where the line isn't done; `Lost`, where it would have ended the setup,
+    /// whose kinds or scene are lost.
+    pub fn play<T: Threads + Wait + Sync>(&mut self, rt: &T, bytes: &[u8]) -> Result<Answer, Halt>
+        ensures answer { IfOk result (λ answer. Tells answer (player_of self.new) (player_reply (player_of self.old) bytes.now)) }
+        ensures halted { IfErr result (λ h. player_of self.new
+            ≡ halted h (player_of self.old) (player_reply (player_of self.old) bytes.now).player) }
+        ensures undone { IfErr result (λ h. h ≢ After) }
+    {
+        match &mut self.stage {
+            Stage::Playing(state) => {
+                match go_on(rt, self.alloc, self.workers, state, bytes) {
+                    Ok(answer) => Ok(answer),
+                    Err(AllocError) => Err(Halt::Before),
+                }
+            }
+            Stage::Setting(setup) => {
+                let Ok(said) = said_in(self.alloc, setup.schema(), bytes) else {
+                    return Err(Halt::Before);
+                };
+                match answer_setup(self.alloc, setup, said) {
+                    Err(AllocError) => Err(Halt::Before),
+                    Ok(SetupAnswer::Given(answer)) => Ok(answer),
+                    Ok(SetupAnswer::Ends(line)) => {
+                        match begin(rt, self.alloc, self.workers, setup, line) {
+                            Err(halt) => Err(halt),
+                            Ok((state, answered)) => {
+                                self.stage = Stage::Playing(state);
+                                after_begin(answered)
+                            }
+                        }
+                    }
+                }
+            }
+        }
+    }
+
+    /// Plays a line, and adds its answer as a script prints it. It gives why the line is bad, where it is.
+    ///
+    /// Halted only for want of memory, as `play` is, or `After`, where the line is done. A part of the answer may be added then.
+    pub fn line<T: Threads + Wait + Sync>(
+        &mut self,
+        rt: &T,
+        bytes: &[u8],
+        out: &mut String,
+    ) -> Result<Option<BadLine>, Halt>
+        ensures answer { IfOk result (λ bad. IsAnswered (string_bytes out.old) (string_bytes out.new) (player_of self.new) bad
+            (player_reply (player_of self.old) bytes.now)) }
+        ensures halted { IfErr result (λ h. player_of self.new
+            ≡ halted h (player_of self.old) (player_reply (player_of self.old) bytes.now).player) }
+    {
+        let answer = self.play(rt, bytes)?;
+        match answer.write_text(self.alloc, self.schema(), out) {
+            Ok(()) => Ok(answer.into_bad_line()),
+            Err(AllocError) => Err(Halt::After),
+        }
+    }
+
+    /// The sessions as the lines so far leave them. A frame that is still open is dropped.
+    ///
+    /// `AllocError` where no memory was found, which only a player in its setup needs.
+    pub fn into_hand(self) -> Result<Hand, AllocError>
+        ensures { IfOk result (λ hand. hand ≡ hand_of (player_of self)) }
+    {
+        let Player { alloc, stage, .. } = self;
+        match stage {
+            Stage::Playing(state) => {
+                let PlayState { hand, .. } = state;
+                Ok(hand)
+            }
+            Stage::Setting(setup) => {
+                let mut setup = setup;
+                setup.take_hand(alloc)
+            }
+        }
+    }
+}

@@ -1,0 +1,56 @@
+//! The answers to the lines of systems.
+ghost use Rattle.std.specs.Prelude.{◌≡◌, IfOk, OnErr};
+ghost use Rattle.scene_script.specs.declared.script_line.Line.TheVariants.{Phase, System, Clear};
+ghost use Rattle.scene_player.specs.Answer.{Says};
+ghost use Rattle.scene_player.specs.Play.{advance_reply, lone_reply};
+
+use crate::answer::{Answer, refused};
+use crate::play_state::PlayState;
+use crate::state_line::answer_call;
+use scene_rules::SystemRule;
+use scene_session::Call;
+use std::alloc::{AllocError, Global};
+use std::sync::Wait;
+use std::thread::Threads;
+
+/// `phase`.
+pub(crate) fn answer_phase(state: &mut PlayState) -> Result<Answer, AllocError>
+    ensures answer { IfOk result (λ answer. Says answer state.new (lone_reply state.old Phase)) }
+    ensures same { OnErr result (state.new ≡ state.old) }
+{
+    state.phases.add_phase()?;
+    Ok(Answer::Taken)
+}
+
+/// `system`.
+pub(crate) fn answer_system(state: &mut PlayState, rule: SystemRule) -> Result<Answer, AllocError>
+    ensures answer { IfOk result (λ answer. Says answer state.new (lone_reply state.old (System rule))) }
+    ensures same { OnErr result (state.new ≡ state.old) }
+{
+    state.phases.add_system(rule)?;
+    Ok(Answer::Taken)
+}
+
+/// `clear`.
+pub(crate) fn answer_clear(state: &mut PlayState) -> Answer
+    ensures { Says result state.new (lone_reply state.old Clear) }
+{
+    state.phases.clear();
+    Answer::Taken
+}
+
+/// `advance`.
+pub(crate) fn answer_advance<T: Threads + Wait + Sync>(
+    rt: &T,
+    alloc: Global,
+    workers: usize,
+    state: &mut PlayState,
+) -> Result<Answer, AllocError>
+    ensures answer { IfOk result (λ answer. Says answer state.new (advance_reply state.old)) }
+    ensures same { OnErr result (state.new ≡ state.old) }
+{
+    match state.phases.schedule(&state.schema) {
+        Ok(schedule) => answer_call(rt, alloc, workers, state, Call::Advance(schedule)),
+        Err(refusal) => refused(refusal),
+    }
+}
