@@ -2,6 +2,7 @@ pub mod ByKind
 pub mod ChangedRows
 pub mod KeptTables
 pub mod Listed
+pub mod LoneStep
 pub mod Members
 pub mod ReadRows
 pub mod RowSteps

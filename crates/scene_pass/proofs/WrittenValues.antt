@@ -26,7 +26,7 @@ below_values : (x : ℕ) (cells : List (ℕ × Cell)) → below_all nat_cmp x (m
 below_values x [] = refl
 below_values x (c ∷ cs) = ap (λ b. is_lt (nat_cmp x c.0) && b) (below_values x cs)
 
-same_order : (cells : List (ℕ × Cell)) → is_sorted nat_cmp (map (λ (c : ℕ × Cell). (c.0, c.1.value)) cells) ≡ is_sorted nat_cmp cells
+pub same_order : (cells : List (ℕ × Cell)) → is_sorted nat_cmp (map (λ (c : ℕ × Cell). (c.0, c.1.value)) cells) ≡ is_sorted nat_cmp cells
 same_order [] = refl
 same_order (c ∷ cs) = λ i. below_values c.0 cs i && same_order cs i
 

@@ -2,5 +2,6 @@ pub mod Changes
 pub mod Examples
 pub mod InPlace
 pub mod Listed
+pub mod Lone
 pub mod Pass
 pub mod Since

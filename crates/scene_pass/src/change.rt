@@ -1,8 +1,10 @@
 //! What steps make of a row.
 ghost use Rattle.std.specs.Prelude.{◌≡◌, ◌<◌, ◌^◌, IfOk, length};
-ghost use Rattle.scene_pass.specs.Changes.{values_of, change_of};
+ghost use Rattle.scene_kinds.specs.Cells.{IsAscending};
+ghost use Rattle.scene_pass.specs.Changes.{values_of, after_steps, outcome_of, change_of};
 ghost use Rattle.scene_pass.specs.InPlace.{written_of, outcome_in};
 
+use crate::lone::lone_of;
 use crate::row_change::{Outcome, RowChange};
 use crate::row_in_place::RowInPlace;
 use crate::written::{do_step, written_of};
@@ -27,6 +29,18 @@ fn outcome(alloc: Global, row: &RowInPlace<'_>, steps: &[RowStep]) -> Result<Out
     Ok(Outcome::Changed(Components::from(written)))
 }
 
+/// What the steps make of the values of a row. A step that is alone reads just the values that it names.
+fn outcome_of(alloc: Global, row: &RowInPlace<'_>, steps: &[RowStep]) -> Result<Outcome, AllocError>
+    requires ascending { IsAscending row.now.cells }
+    requires few { length steps.now < 2 ^ 32 }
+    ensures { IfOk result (λ outcome. outcome ≡ outcome_of steps.now (after_steps 0 steps.now (values_of row.now))) }
+{
+    match steps {
+        [step] => lone_of(alloc, row, *step),
+        _ => outcome(alloc, row, steps),
+    }
+}
+
 /// What the steps make of a row (docs/MODEL.md, "The rule of systems").
 ///
 /// An error only where no memory was found. It takes memory for the values that are written, and costs a walk over the
@@ -42,6 +56,6 @@ pub(crate) fn change(
     let entity = row.entity();
     Ok(RowChange {
         entity,
-        outcome: outcome(alloc, row, steps)?,
+        outcome: outcome_of(alloc, row, steps)?,
     })
 }

@@ -21,6 +21,7 @@ mod changed_rows;
 mod entities;
 mod fault;
 mod laws;
+mod lone;
 mod row_change;
 mod row_copies;
 mod row_in_place;

@@ -1,4 +1,4 @@
-use Rattle.std.proofs.Common.{◌≡◌, ap, sym, ◌∙◌, ◌++◌, ◌∷◌, [], length, arith, Some}
+use Rattle.std.proofs.Common.{ap, sym, ◌∙◌, ◌++◌, ◌∷◌, [], length, arith, Some}
 use Rattle.std.proofs.lemmas.List.{append-nil, at_drop_all}
 use Rattle.scene_kinds.specs.Cells.{shown}
 use Rattle.scene_pass.proofs.RowSteps.{read_of, row_at, taken_over}

@@ -1,4 +1,3 @@
-use Rattle.std.proofs.Common.{ap, sym, ◌∙◌, ◌++◌}
 use Rattle.scene_pass.proofs.RowSteps.{taken_over}
 use Rattle.scene_pass.proofs.row_copies.push_rows.Goals as goal
 
