@@ -16,7 +16,7 @@ use std::thread::Threads;
 /// From how many rows on `map_rows` parts a table among threads. A smaller table isn't worth the start of threads.
 pub const PARTED_ROWS: usize = 2048;
 
-/// Adds what the steps make of each row of a table, in order.
+/// Adds what the steps make of each row of a table, in order. The room for all of them is made first.
 fn push_changes(
     alloc: Global,
     made: &mut Vec<RowChange>,
@@ -26,6 +26,7 @@ fn push_changes(
     requires { length steps.now < 2 ^ 32 }
     ensures { OnOk result (made.new.items ≡ made.old.items ++ map (change_of steps.now) table.now.rows) }
 {
+    made.reserve(table.len())?;
     'rows: for at in 0..table.len() {
         let row = RowInPlace::new(table, at);
         made.push(change(alloc, &row, steps)?)?;
@@ -37,7 +38,8 @@ fn push_changes(
 /// The world stays as it is. There must be fewer than 2 ^ 32 steps.
 ///
 /// An error only where no memory was found. It costs the number of kind sets times its logarithm, and for each matching
-/// row a walk over its cells for each step. No row is copied: of a row only the values that are written are held.
+/// row a walk over its cells for each step. No row is copied: of a row only the values that are written are held. A step
+/// that is alone reads of a row just the values that it names.
 pub fn map_rows_alone(
     alloc: Global,
     world: &World,

@@ -38,7 +38,8 @@ fn push_written(
     Ok(())
 }
 
-/// The row's values of the kinds that are written, as they stand before the steps, ascending by kind.
+/// The row's values of the kinds that are written, as they stand before the steps, ascending by kind. The list has no room
+/// for more than there are steps, and for no more than the row has.
 pub(crate) fn written_of(
     alloc: Global,
     row: &RowInPlace<'_>,
@@ -46,7 +47,7 @@ pub(crate) fn written_of(
 ) -> Result<Vec<(u8, Value)>, AllocError>
     ensures { IfOk result (λ written. written.items ≡ written_of steps.now (values_of row.now)) }
 {
-    let mut written = Vec::new(alloc);
+    let mut written = Vec::with_capacity(alloc, row.len().min(steps.len()))?;
     'cells: for number in 0..row.len() {
         push_written(&mut written, row, number, steps)?;
     }
