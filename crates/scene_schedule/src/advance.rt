@@ -9,6 +9,7 @@ ghost use Rattle.scene_schedule.specs.Output.{IsOutputOf};
 ghost use Rattle.scene_schedule.specs.Sound.{IsSoundPhase};
 ghost use Rattle.scene_schedule.specs.Systems.{systems_from, phase, place_in, in_phase, phases_from, advance_of};
 
+use crate::count::count_commands;
 use crate::output::PhaseOutput;
 use crate::schedule::Schedule;
 use crate::write::write_all;
@@ -72,8 +73,9 @@ fn play_systems<S: Stage, P: PhaseRunner>(
     ensures wide { IsWider (S.room stage.old) (S.room stage.new) }
 {
     let output = runner.run_phase(alloc, stage.world(), rules)?;
-    write_all(output.rows.as_slice(), stage)?;
-    apply_all(alloc, output.queues.as_slice(), stage)
+    let queues = output.queues.as_slice();
+    write_all(output.rows.as_slice(), count_commands(queues), stage)?;
+    apply_all(alloc, queues, stage)
 }
 
 /// Runs a phase of this number on a stage.

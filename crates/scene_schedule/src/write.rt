@@ -103,15 +103,20 @@ fn write_systems<S: Stage>(rows: &[RowChanges], stage: &mut S) -> Result<(), Ref
 /// kind (docs/MODEL.md, "The rule of schedules"). It costs what the inserts cost, and a copy of each value.
 ///
 /// Refused: `NoMemory`, and then the cells before the refused one are written; the room for the notes of all cells is made
-/// before the first. No cell is refused for another reason where the rows were made of the stage's own world. The world to
-/// which the stage can be taken back, if it keeps a way back, stays, and no room is lost.
-pub(crate) fn write_all<S: Stage>(rows: &[RowChanges], stage: &mut S) -> Result<(), Refusal>
+/// before the first, and with it that for `more` notes, of the commands that follow, so that these move none. No cell is
+/// refused for another reason where the rows were made of the stage's own world. The world to which the stage can be taken
+/// back, if it keeps a way back, stays, and no room is lost.
+pub(crate) fn write_all<S: Stage>(
+    rows: &[RowChanges],
+    more: usize,
+    stage: &mut S,
+) -> Result<(), Refusal>
     ensures written { OnOk result (AreWritten S.note rows.now (S.seen stage.old) (S.seen stage.new)) }
     ensures refused { IfErr result (λ r. r ≡ refusal_of NoMemory) }
     ensures opening { S.opening stage.new ≡ S.opening stage.old }
     ensures wide { IsWider (S.room stage.old) (S.room stage.new) }
 {
-    match stage.make_room(count_cells(rows)) {
+    match stage.make_room(count_cells(rows).saturating_add(more)) {
         Ok(()) => write_systems(rows, stage),
         Err(error) => Err(Refusal::from(error)),
     }
