@@ -12,7 +12,7 @@ use crate::ending::Ending;
 use scene_app::{AppFault, RunEnd, check_scene, print_scene, run_script};
 use scene_command_line::{Asked, ShellWords, mistake_in, read_words};
 use scene_script::Limit;
-use scene_shell::{ShellSettings, run_shell};
+use scene_shell::{AnswerStyle, ShellSettings, run_shell};
 use scene_streams::{Sink, Source};
 use std::io::{BufReader, ErrorKind};
 use std::process::ExitCode;
@@ -62,7 +62,10 @@ fn shell_settings(words: ShellWords) -> Option<ShellSettings> {
     Some(ShellSettings {
         workers: words.workers as usize,
         depth: Limit::new(words.depth)?,
-        is_framed: words.is_framed,
+        style: AnswerStyle {
+            is_json: false,
+            is_framed: words.is_framed,
+        },
     })
 }
 

@@ -1,5 +1,5 @@
 -- What is asked of a state is answered of the hand that it is.
-use Rattle.std.proofs.Common.{◌≡◌, ◌≢◌, ℕ, List, length, Result, Ok, Err, IfOk, OnOk, sym, ap, subst, ◌∙◌}
+use Rattle.std.proofs.Common.{◌≡◌, ◌≢◌, ℕ, List, length, Result, Ok, Err, IfOk, OnOk, refl, sym, ap, subst, ◌∙◌}
 use Rattle.std.proofs.lemmas.List.{length-map}
 use Rattle.std.specs.Global.{Vec}
 use Rattle.scene_kinds.specs.Answers.{refusal_of}
@@ -13,13 +13,18 @@ use Rattle.scene_rules.specs.declared.filter.Filter.{Filter}
 use Rattle.scene_show.specs.Listed.{listed_text}
 use Rattle.scene_undo.specs.Cursor.{cursor_of, since}
 use Rattle.scene_undo.specs.declared.cursor.Cursor.{Cursor}
+use Rattle.scene_session.specs.declared.call.Reply.TheVariants.{Refused}
 use Rattle.scene_session.specs.Queries.{ListsAfter, ListsSince}
 use Rattle.scene_session.specs.Queries as state
 use Rattle.scene_session.specs.State.{StateView, replayed}
 use Rattle.scene_hand.specs.Hand.{HandState, Tells, machine_at, made, whole_at}
 use Rattle.scene_hand.proofs.Machines.{machine_told, whole_told}
 use Rattle.scene_player.specs.declared.question.WorldText.{WorldText}
-use Rattle.scene_player.specs.Play.{dumpall_text, refused_text, since_text}
+use Rattle.scene_player.specs.declared.answer.Answer.{Answer}
+use Rattle.scene_player.specs.declared.answer.Answer.TheVariants.{Replied}
+use Rattle.scene_player.specs.declared.play_state.PlayState.{PlayState}
+use Rattle.scene_player.specs.Answer.{Says}
+use Rattle.scene_player.specs.Play.{dumpall_text, no_filter, now, query_reply, refused_text, since_text, with_hand}
 use Rattle.scene_player.specs.Questions.{asked_text}
 
 -- a text of the world
@@ -61,3 +66,26 @@ listed_refusal word kinds list (Err q) r t other = ap refused_text (cc t)
 pub told_both : {A E P : Type 0} (r : Result A E) (x : A) (Q : A → Type 0) → (P → Q x) → IfOk r (λ a. a ≡ x) → OnOk r P → IfOk r Q
 told_both (Ok a) x Q f is p = subst Q (sym is) (f p)
 told_both (Err e) x Q f is p = tt
+
+-- a state whose hand is as it was is as it was
+pub hand_kept : (s : PlayState) (h : HandState) → h ≡ s.hand → with_hand s h ≡ s
+hand_kept s h same =
+    (λ i. record { hand = same i; schema = s.schema; cursor = s.cursor; frame = s.frame; phases = s.phases })
+
+-- cells since a cursor that were refused, with a filter that every kind set matches
+pub since_refused : {E : Type 0} (word : List ℕ) (list : World → Filter → ℕ → List CellName) (s : PlayState)
+    (f : Filter) (h : HandState) (r : Refusal) (result : Result Answer E) → f.need ≡ 0 → f.without ≡ 0
+    → (v : StateView) × Tells s.hand v × ListsSince list s.cursor f v (Err r) → h ≡ s.hand
+    → IfOk result (λ answer. answer ≡ Replied (Refused r)) → OnOk result (r ≢ refusal_of NoMemory)
+    → IfOk result (λ answer. Says answer (with_hand s h)
+    (query_reply s (since_text word s.schema (list (now s) no_filter) (since s.cursor (machine_at s.hand)))))
+since_refused word list s f h r result need without t same is memory =
+    let tick = since s.cursor (machine_at s.hand) in
+    let cells : Filter → ℕ → List CellName = list (now s) in
+    let every : f ≡ no_filter = (λ i. record { need = need i; without = without i }) in
+    let text : r ≢ refusal_of NoMemory → refused_text r ≡ since_text word s.schema (cells no_filter) tick = λ other.
+    listed_refusal word s.schema (cells f) tick r (listed_told s.hand list s.cursor f (Err r) t) other
+    ∙ ap (λ (g : Filter). since_text word s.schema (cells g) tick) every in
+    told_both result (Replied (Refused r))
+    (λ answer. Says answer (with_hand s h) (query_reply s (since_text word s.schema (cells no_filter) tick)))
+    (λ other. (text other, refl, hand_kept s h same)) is memory

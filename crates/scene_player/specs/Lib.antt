@@ -1,5 +1,9 @@
 pub mod Answer
+pub mod Changes
 pub mod FileFaultText
+pub mod JsonAnswer
+pub mod JsonLine
+pub mod JsonQuestion
 pub mod OpenFrame
 pub mod Phases
 pub mod Play

@@ -7,9 +7,14 @@
 #![tactic(auto)]
 
 mod answer;
+mod changes;
 mod file_fault_text;
 mod frame_line;
 mod halt;
+mod json_answer;
+mod json_line;
+mod json_question;
+mod laws;
 mod open_frame;
 mod phases;
 mod play_state;
@@ -23,4 +28,5 @@ mod systems_line;
 pub use answer::Answer;
 pub use file_fault_text::answer_file_fault;
 pub use halt::Halt;
+pub use laws::a_line_that_changes_nothing_leaves_the_player;
 pub use player::Player;

@@ -2,12 +2,14 @@
 ghost use Rattle.std.specs.Prelude.{◌≡◌, ◌≢◌, Ok, Err, IfOk, IfErr, MatchResult, OnErr, string_bytes};
 ghost use Rattle.scene_script.specs.Script.{line_in};
 ghost use Rattle.scene_player.specs.Answer.{Says};
+ghost use Rattle.scene_player.specs.Changes.{changes, frame_is_open};
 ghost use Rattle.scene_player.specs.Play.{first_state, said_reply};
 ghost use Rattle.scene_player.specs.Player.{HaltsSetup, IsAnswered, Tells, first_player, halted, hand_of, limited_player, player_kinds, player_of, player_reply};
 ghost use Rattle.scene_player.specs.Setup.{setup_of};
 ghost use Rattle.scene_player.specs.declared.halt.Halt.TheVariants.{After, Begun};
 
 use crate::answer::Answer;
+use crate::changes::{changes_setup, changes_state};
 use crate::halt::Halt;
 use crate::play_state::PlayState;
 use crate::setup::Setup;
@@ -33,13 +35,13 @@ pub(crate) enum Stage {
 /// and the cursor (docs/SCRIPTS.md, "Lines"). It takes a line at a time, and keeps none of them.
 #[derive(Drop)]
 pub struct Player {
-    alloc: Global,
+    pub(crate) alloc: Global,
     workers: usize,
-    stage: Stage,
+    pub(crate) stage: Stage,
 }
 
 /// What a line says, or why it is bad.
-fn said_in(
+pub(crate) fn said_in(
     alloc: Global,
     schema: &Schema,
     bytes: &[u8],
@@ -125,6 +127,31 @@ impl Player {
         match &self.stage {
             Stage::Setting(setup) => setup.schema(),
             Stage::Playing(state) => &state.schema,
+        }
+    }
+
+    /// Whether a frame is open: a line `begin` without its `commit`.
+    pub fn has_open_frame(&self) -> bool
+        ensures { result ≡ frame_is_open (player_of self.now) }
+    {
+        match &self.stage {
+            Stage::Setting(_) => false,
+            Stage::Playing(state) => state.frame.is_some(),
+        }
+    }
+
+    /// Whether a line, given without its line break, may change the player. One of which this is false only asks, is empty
+    /// or is bad: who keeps lines to play them again can leave it out (`a_line_that_changes_nothing_leaves_the_player`). It
+    /// is true of each line that ends the setup, and of one that is refused. The line isn't played; it costs a walk over it.
+    ///
+    /// `AllocError` where no memory was found for what it says.
+    pub fn changes(&self, bytes: &[u8]) -> Result<bool, AllocError>
+        ensures { IfOk result (λ b. b ≡ changes (player_of self.now) bytes.now) }
+    {
+        let said = said_in(self.alloc, self.schema(), bytes)?;
+        match &self.stage {
+            Stage::Setting(setup) => Ok(changes_setup(&setup.base, &said)),
+            Stage::Playing(state) => Ok(changes_state(&state.frame, &said)),
         }
     }
 

@@ -1,2 +1,4 @@
 pub mod Lines
 pub mod SaidLaws
+pub mod KeptLaws
+pub mod KeptLead

@@ -8,23 +8,23 @@ use Rattle.std.proofs.lemmas.List.Splits.{slice_split-cons_no, slice_split-cons_
 use Rattle.std.proofs.lemmas.Bool.Decides.{nat_tests}
 
 -- a line feed
-abbrev is_end : ℕ → Bool
+abbrev pub is_end : ℕ → Bool
 is_end b = b == 10
 
 -- a text has a part
-abbrev HasPart : List ℕ → Type 0
+abbrev pub HasPart : List ℕ → Type 0
 HasPart xs = (y : List ℕ) × (ys : List (List ℕ)) × (slice_split is_end xs ≡ y ∷ ys)
 
 part_at : (b : Bool) (x : ℕ) (xs : List ℕ) → is_end x ≡ b → HasPart xs → HasPart (x ∷ xs)
 part_at true x xs e later = ([], slice_split is_end xs, slice_split-cons_yes is_end x xs e)
 part_at false x xs e later = (x ∷ later.0, later.1, slice_split-cons_no is_end x xs e ∙ ap (onto_first x) later.2)
 
-has_part : (xs : List ℕ) → HasPart xs
+pub has_part : (xs : List ℕ) → HasPart xs
 has_part [] = ([], [], refl)
 has_part (x ∷ xs) = part_at (is_end x) x xs refl (has_part xs)
 
 -- a part that others follow is a line, without its carriage return
-line_before : (y : List ℕ) (xs : List ℕ) → HasPart xs → lines_of_parts (y ∷ slice_split is_end xs) ≡ strip_carriage_return y ∷ lines xs
+pub line_before : (y : List ℕ) (xs : List ℕ) → HasPart xs → lines_of_parts (y ∷ slice_split is_end xs) ≡ strip_carriage_return y ∷ lines xs
 line_before y xs h = rw h.2 refl
 
 -- what stands through the first line feed, and behind it: a part and an empty one, or, where there is none, all as one part

@@ -1,1 +1,2 @@
 pub mod Shell
+pub mod Kept

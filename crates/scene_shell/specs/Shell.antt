@@ -1,34 +1,60 @@
 -- What a shell says to the lines that it is given.
-use Rattle.std.specs.Prelude.{◌≡◌, ℕ, ◌+◌, List, [], ◌∷◌, ◌++◌, ⊤, Bool, Option, Some, None, is_some, if◌then◌else◌, codes}
+use Rattle.std.specs.Prelude.{◌≡◌, ℕ, ◌+◌, List, [], ◌∷◌, ◌++◌, Bool, true, false, Option, is_some, if◌then◌else◌, codes}
+use Rattle.std.specs.Io.KnownBytes.{Appends}
 use Rattle.std.specs.Str.Lines.{lines}
+use Rattle.scene_player.specs.JsonLine.{IsAnsweredAsJson}
 use Rattle.scene_player.specs.Player.{Player, player_reply}
+pub use Rattle.scene_shell.specs.declared.style.AnswerStyle.{AnswerStyle}
+
+-- ---- one line
+
+-- an answer to a line is what a script prints, or it is JSON
+abbrev pub IsAnswer : (is_json : Bool) → Player → List ℕ → List ℕ → Type 0
+IsAnswer false p l text = text ≡ (player_reply p l).text
+IsAnswer true p l text = IsAnsweredAsJson [] text p (player_reply p l).player l (player_reply p l).bad
 
 -- an answer as it is sent; a frame ends with an empty line
-abbrev pub sent : Bool → List ℕ → List ℕ
-sent framed text = text ++ (if framed then codes "\n" else [])
+abbrev pub IsSent : AnswerStyle → Player → List ℕ → List ℕ → Type 0
+IsSent style p l sent =
+    (text : List ℕ) × IsAnswer style.is_json p l text × (sent ≡ text ++ (if style.is_framed then codes "\n" else []))
 
--- the answers to lines, one after another
-abbrev pub said_of : Bool → Player → List (List ℕ) → List ℕ
-said_of framed p [] = []
-said_of framed p (l ∷ ls) = sent framed (player_reply p l).text ++ said_of framed (player_reply p l).player ls
+-- a line's answer goes behind others
+abbrev pub AddsAnswer : AnswerStyle → Player → List ℕ → List ℕ → List ℕ → Type 0
+AddsAnswer style p l old new = (sent : List ℕ) × IsSent style p l sent × (new ≡ old ++ sent)
+
+-- ---- lines
+
+-- the player after lines
+abbrev pub player_after : Player → List (List ℕ) → Player
+player_after p [] = p
+player_after p (l ∷ ls) = player_after (player_reply p l).player ls
 
 -- how many of the lines are bad
 abbrev pub bad_count : Player → List (List ℕ) → ℕ
 bad_count p [] = 0
 bad_count p (l ∷ ls) = (if is_some (player_reply p l).bad then 1 else 0) + bad_count (player_reply p l).player ls
 
--- What is written so far, and then what will be said of the lines that are left, are what is said of all. It is so where the
--- reader and the writer tell their bytes
-abbrev pub IsSaidSoFar : Bool → (script rest : Option (List ℕ)) → (old new : Option (List ℕ)) → (first now : Player) → Type 0
-IsSaidSoFar framed None rest old new first now = ⊤
-IsSaidSoFar framed (Some script) None old new first now = ⊥
-IsSaidSoFar framed (Some script) (Some rest) None new first now = ⊤
-IsSaidSoFar framed (Some script) (Some rest) (Some xs) None first now = ⊥
-IsSaidSoFar framed (Some script) (Some rest) (Some xs) (Some ys) first now =
-    ys ++ said_of framed now (lines rest) ≡ xs ++ said_of framed first (lines script)
+-- answers as a script has them
+abbrev pub plain_style : AnswerStyle
+plain_style = record { is_json = false; is_framed = false }
 
--- so many lines were bad so far, and with those that will be these are all. It is so where the reader tells its bytes
-abbrev pub IsCountedSoFar : (script rest : Option (List ℕ)) → ℕ → (first now : Player) → Type 0
-IsCountedSoFar None rest count first now = ⊤
-IsCountedSoFar (Some script) None count first now = ⊥
-IsCountedSoFar (Some script) (Some rest) count first now = count + bad_count now (lines rest) ≡ bad_count first (lines script)
+-- the answers to lines, one after another
+abbrev pub IsSaid : AnswerStyle → Player → List (List ℕ) → List ℕ → Type 0
+IsSaid style p [] text = text ≡ []
+IsSaid style p (l ∷ ls) text =
+    (first : List ℕ) × (others : List ℕ) × IsSent style p l first × IsSaid style (player_reply p l).player ls others
+    × (text ≡ first ++ others)
+
+-- the same in the plain style
+abbrev pub said_of : Player → List (List ℕ) → List ℕ
+said_of p [] = []
+said_of p (l ∷ ls) = (player_reply p l).text ++ said_of (player_reply p l).player ls
+
+-- just the answers to these lines are written
+abbrev pub HasSaid : AnswerStyle → Player → List (List ℕ) → (old new : Option (List ℕ)) → Type 0
+HasSaid style p ls old new = (text : List ℕ) × IsSaid style p ls text × Appends old new text
+
+-- just the answers to the first lines of a script are written, each whole
+abbrev pub HasAnswered : AnswerStyle → Player → List ℕ → (old new : Option (List ℕ)) → Type 0
+HasAnswered style p script old new =
+    (front : List (List ℕ)) × (back : List (List ℕ)) × (lines script ≡ front ++ back) × HasSaid style p front old new

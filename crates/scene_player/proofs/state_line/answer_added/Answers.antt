@@ -1,27 +1,10 @@
-use Rattle.std.proofs.Common.{◌≡◌, ◌≢◌, Err, refl, ap, ◌∙◌, codes}
-use Rattle.scene_kinds.specs.Answers.{refusal_of}
-use Rattle.scene_kinds.specs.declared.fault.Fault.TheVariants.{NoMemory}
+use Rattle.std.proofs.Common.{codes}
 use Rattle.scene_pass.specs.Pass.{added_since}
-use Rattle.scene_rules.specs.declared.filter.Filter.{Filter}
-use Rattle.scene_session.specs.declared.call.Reply.TheVariants.{Refused}
-use Rattle.scene_undo.specs.Cursor.{since}
-use Rattle.scene_hand.specs.Hand.{machine_at}
-use Rattle.scene_player.specs.declared.answer.Answer.TheVariants.{Replied}
-use Rattle.scene_player.specs.declared.play_state.PlayState.{PlayState}
-use Rattle.scene_player.specs.Answer.{Says}
-use Rattle.scene_player.specs.Play.{added_text, no_filter, now, query_reply, refused_text, since_text}
-use Rattle.scene_player.proofs.QueryLaws.{listed_refusal, listed_told, told_both}
+use Rattle.scene_player.proofs.QueryLaws.{since_refused}
 use Rattle.scene_player.proofs.state_line.answer_added.Goals as goal
 
 pub returns-in-Err-clause-answer : goal.returns-in-Err-clause-answer
 returns-in-Err-clause-answer g c =
-    let s = c.args.state.now in let word = codes "added" in let f = c.all.result in let since_then = since s.cursor (machine_at s.hand) in
-    let every : f ≡ no_filter = (λ i. record { need = c.all.ensures.need i; without = c.all.ensures.without i }) in
-    let listed = listed_told s.hand added_since s.cursor f (Err c.in-Err.refusal) c.in-Err.ensures.answer in
-    let text : c.in-Err.refusal ≢ refusal_of NoMemory → refused_text c.in-Err.refusal ≡ added_text s = λ other.
-    listed_refusal word s.schema (added_since (now s) f) since_then c.in-Err.refusal listed other
-    ∙ ap (λ (h : Filter). since_text word s.schema (added_since (now s) h) since_then) every in
-    let after : PlayState = record s { hand = c.ask.new.self } in
-    let kept : after ≡ s = (λ i. record { hand = c.in-Err.ensures.same i; schema = s.schema; cursor = s.cursor; frame = s.frame; phases = s.phases }) in
-    told_both c.refused.result (Replied (Refused c.in-Err.refusal)) (λ answer. Says answer after (query_reply s (added_text s)))
-    (λ other. (text other, refl, kept)) c.refused.ensures.answer c.refused.ensures.memory
+    since_refused (codes "added") added_since c.args.state.now c.all.result c.ask.new.self c.in-Err.refusal
+    c.refused.result c.all.ensures.need c.all.ensures.without c.in-Err.ensures.answer c.in-Err.ensures.same
+    c.refused.ensures.answer c.refused.ensures.memory

@@ -1,5 +1,5 @@
 use Rattle.std.proofs.Common.{refl, string_bytes}
-use Rattle.scene_player.proofs.QueryLaws.{text_told}
+use Rattle.scene_player.proofs.QueryLaws.{hand_kept, text_told}
 use Rattle.scene_player.proofs.state_line.answer_world.Goals as goal
 
 pub returns-clause-answer : goal.returns-clause-answer
@@ -7,5 +7,5 @@ returns-clause-answer g c =
     let s = c.args.state.now in (
       text_told s.hand c.args.asked (string_bytes c.in_ok-text.text) c.in_ok-text.ensures.answer,
       refl,
-      (λ i. record { hand = c.in_ok-text.ensures.same i; schema = s.schema; cursor = s.cursor; frame = s.frame; phases = s.phases }),
+      hand_kept s _ c.in_ok-text.ensures.same,
     )

@@ -1,0 +1,86 @@
+-- A line that asks the state for a text, as JSON.
+use Rattle.std.proofs.Common.{◌≡◌, ℕ, List, ◌++◌, Option, Some, None, Result, Ok, Err, IfOk, IfErr, OnOk, refl, sym, ap, ◌∙◌, subst}
+use Rattle.std.specs.Prelude.{is_some, if◌then◌else◌}
+use Rattle.scene_hand.specs.Hand.{HandState, Tells, whole_at}
+use Rattle.scene_hand.proofs.Machines.{whole_told}
+use Rattle.scene_script.specs.declared.bad_line.BadLine.{BadLine}
+use Rattle.scene_script.specs.declared.script_line.Line.{Line}
+use Rattle.scene_script.specs.declared.script_line.Line.TheVariants.{Show, Get, Dump, DumpAll}
+use Rattle.scene_script.specs.Script.{line_in}
+use Rattle.scene_session.specs.State.{StateView, replayed}
+use Rattle.scene_session.specs.Whole.{Whole}
+use Rattle.scene_player.specs.declared.halt.Halt.{Halt}
+use Rattle.scene_player.specs.declared.json_question.StateJson.{StateJson}
+use Rattle.scene_player.specs.declared.play_state.PlayState.{PlayState}
+use Rattle.scene_player.specs.JsonAnswer.{json_line}
+use Rattle.scene_player.specs.JsonLine.{AddsJson, IsAnsweredAsJson, asked_in, question_of}
+use Rattle.scene_player.specs.JsonQuestion.{asked_json}
+use Rattle.scene_player.specs.OpenFrame.{Opened}
+use Rattle.scene_player.specs.Play.{SetupState, first_state, reply_within, said_reply, setup_kinds, setup_said}
+use Rattle.scene_player.specs.Player.{Player, Setting, Playing, begun, halted, hand_of, player_reply, set_or_begun}
+
+-- what is asked of a state is told of the hand that it is
+asked_told : (h : HandState) (q : StateJson) (text : List ℕ)
+    → (s : StateView) × Tells h s × (text ≡ json_line (asked_json q (replayed s.opening s.history))) → text ≡ json_line (asked_json q (whole_at h))
+asked_told h q text t = t.2 ∙ ap (λ (w : Whole). json_line (asked_json q w)) (whole_told h t.0 t.1)
+
+pub asked_of : {A E : Type 0} (f : A → List ℕ) (h : HandState) (q : StateJson) (a : Result A E)
+    → (s : StateView) × Tells h s × IfOk a (λ x. f x ≡ json_line (asked_json q (replayed s.opening s.history)))
+    → IfOk a (λ x. f x ≡ json_line (asked_json q (whole_at h)))
+asked_of f h q (Ok x) t = asked_told h q (f x) t
+asked_of f h q (Err e) t = tt
+
+-- where no frame is open, a line that asks is no bad line, and leaves the state
+abbrev Leaves : PlayState → Result Line BadLine → Type 0
+Leaves s said = ((said_reply s said).bad ≡ None) × ((said_reply s said).state ≡ s)
+
+asking : (s : PlayState) (said : Result Line BadLine) (q : StateJson) → question_of said ≡ Some q → s.frame ≡ None → Leaves s said
+asking s (Ok Show) q is none = (ap (λ f. (reply_within s Show f).bad) none, ap (λ f. (reply_within s Show f).state) none)
+asking s (Ok (Get e)) q is none = (ap (λ f. (reply_within s (Get e) f).bad) none, ap (λ f. (reply_within s (Get e) f).state) none)
+asking s (Ok Dump) q is none = (ap (λ f. (reply_within s Dump f).bad) none, ap (λ f. (reply_within s Dump f).state) none)
+asking s (Ok DumpAll) q is none = (ap (λ f. (reply_within s DumpAll f).bad) none, ap (λ f. (reply_within s DumpAll f).state) none)
+asking s said q is none = absurd (cc is)
+
+-- it ends the setup
+ending : (s : SetupState) (said : Result Line BadLine) (q : StateJson) → question_of said ≡ Some q → setup_said s said ≡ None
+ending s (Ok Show) q is = refl
+ending s (Ok (Get e)) q is = refl
+ending s (Ok Dump) q is = refl
+ending s (Ok DumpAll) q is = refl
+ending s said q is = absurd (cc is)
+
+-- the reply to a line that asks: it isn't bad, and the player is behind its setup
+asked_reply : (z : Player) (bytes : List ℕ) (q : StateJson) → asked_in z bytes ≡ Some q
+    → ((player_reply z bytes).bad ≡ None) × ((player_reply z bytes).player ≡ begun z)
+asked_reply (Setting s) bytes q is =
+    let said = line_in (setup_kinds s) bytes in
+    let ends = ending s said q is in
+    let leaves = asking (first_state s) said q is refl in
+    (ap (λ o. (set_or_begun s said o).bad) ends ∙ leaves.0, ap (λ o. (set_or_begun s said o).player) ends ∙ ap Playing leaves.1)
+asked_reply (Playing s) bytes q is = by_frame s.frame refl is
+  where
+    by_frame : (f : Option Opened) → s.frame ≡ f → (if is_some f then None else question_of (line_in s.schema bytes)) ≡ Some q
+        → ((player_reply (Playing s) bytes).bad ≡ None) × ((player_reply (Playing s) bytes).player ≡ Playing s)
+    by_frame None none asks = let leaves = asking s (line_in s.schema bytes) q asks none in (leaves.0, ap Playing leaves.1)
+    by_frame (Some f) some asks = absurd (cc asks)
+
+-- what was asked is the answer to the line
+pub asked_answer : (z after : Player) (bytes old new : List ℕ) (q : StateJson) (r : Result (Option BadLine) Halt) → asked_in z bytes ≡ Some q
+    → IfOk r (λ bad. bad ≡ None) → IfOk r (λ _. after ≡ begun z) → OnOk r (new ≡ old ++ json_line (asked_json q (whole_at (hand_of z))))
+    → IfOk r (λ bad. IsAnsweredAsJson old new z after bytes bad)
+asked_answer z after bytes old new q (Ok bad) is none behind text =
+    let reply = asked_reply z bytes q is in
+    (none ∙ sym reply.0, behind ∙ sym reply.1, subst (AddsJson old new z after bytes) (sym is) text)
+asked_answer z after bytes old new q (Err h) is none behind text = tt
+
+pub asked_halted : (z after : Player) (bytes : List ℕ) (q : StateJson) (r : Result (Option BadLine) Halt) → asked_in z bytes ≡ Some q
+    → IfErr r (λ h. after ≡ halted h z (begun z)) → IfErr r (λ h. after ≡ halted h z (player_reply z bytes).player)
+asked_halted z after bytes q (Ok bad) is h = tt
+asked_halted z after bytes q (Err x) is h = h ∙ ap (halted x z) (sym (asked_reply z bytes q is).1)
+
+-- and so is the answer of any other line
+pub played_answer : (z after : Player) (bytes old new : List ℕ) (r : Result (Option BadLine) Halt) → asked_in z bytes ≡ None
+    → IfOk r (λ bad. bad ≡ (player_reply z bytes).bad) → OnOk r (after ≡ (player_reply z bytes).player) → OnOk r (AddsJson old new z after bytes None)
+    → IfOk r (λ bad. IsAnsweredAsJson old new z after bytes bad)
+played_answer z after bytes old new (Ok bad) is why next text = (why, next, subst (AddsJson old new z after bytes) (sym is) text)
+played_answer z after bytes old new (Err h) is why next text = tt

@@ -1,0 +1,43 @@
+-- A line that is answered as JSON (docs/SHELL.md, "JSON").
+use Rattle.std.specs.Prelude.{◌≡◌, ℕ, List, ◌++◌, Bool, false, Option, Some, None, Result, Ok, Err, is_some, if◌then◌else◌}
+use Rattle.scene_hand.specs.Hand.{whole_at}
+use Rattle.scene_script.specs.declared.bad_line.BadLine.{BadLine}
+use Rattle.scene_script.specs.declared.script_line.Line.{Line}
+use Rattle.scene_script.specs.declared.script_line.Line.TheVariants as line
+use Rattle.scene_script.specs.Script.{line_in}
+use Rattle.scene_player.specs.declared.answer.Answer.{Answer}
+use Rattle.scene_player.specs.declared.json_question.StateJson.{StateJson}
+use Rattle.scene_player.specs.declared.json_question.StateJson.TheVariants.{Show, Get, Dump, DumpAll}
+use Rattle.scene_player.specs.JsonAnswer.{json_line, json_text}
+use Rattle.scene_player.specs.JsonQuestion.{asked_json}
+use Rattle.scene_player.specs.Player.{Player, Setting, Playing, Tells, hand_of, player_kinds, player_reply}
+
+-- a line that asks for a text of the state
+abbrev pub question_of : Result Line BadLine → Option StateJson
+question_of (Ok line.Show) = Some Show
+question_of (Ok (line.Get e)) = Some (Get e)
+question_of (Ok line.Dump) = Some Dump
+question_of (Ok line.DumpAll) = Some DumpAll
+question_of said = None
+
+-- a frame is open
+abbrev pub has_frame : Player → Bool
+has_frame (Setting s) = false
+has_frame (Playing s) = is_some s.frame
+
+-- what a line asks of the state, where it does; in an open frame no line does
+abbrev pub asked_in : Player → List ℕ → Option StateJson
+asked_in z bytes = if has_frame z then None else question_of (line_in (player_kinds z) bytes)
+
+-- a line of JSON was added: what the state is asked for; or else that of an answer that says just what the reply to the line says
+abbrev pub AddsJson : (old new : List ℕ) → (before after : Player) → List ℕ → Option StateJson → Type 0
+AddsJson old new before after bytes (Some asked) = new ≡ old ++ json_line (asked_json asked (whole_at (hand_of before)))
+AddsJson old new before after bytes None =
+    (answer : Answer) × (words : List ℕ) × Tells answer after (player_reply before bytes)
+    × (new ≡ old ++ json_text (player_kinds after) words answer)
+
+-- a line of JSON was added, and the player and why the line is bad are those of the reply
+abbrev pub IsAnsweredAsJson : (old new : List ℕ) → (before after : Player) → List ℕ → Option BadLine → Type 0
+IsAnsweredAsJson old new before after bytes bad =
+    (bad ≡ (player_reply before bytes).bad) × (after ≡ (player_reply before bytes).player)
+    × AddsJson old new before after bytes (asked_in before bytes)

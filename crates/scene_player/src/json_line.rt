@@ -1,0 +1,175 @@
+//! The lines of a script one at a time, each answered by one line of JSON.
+ghost use Rattle.std.specs.Prelude.{◌≡◌, ◌++◌, IfErr, IfOk, None, OnOk, string_bytes};
+ghost use Rattle.scene_hand.specs.Hand.{whole_at};
+ghost use Rattle.scene_player.specs.JsonAnswer.{json_line};
+ghost use Rattle.scene_player.specs.JsonLine.{AddsJson, IsAnsweredAsJson, asked_in, has_frame, question_of};
+ghost use Rattle.scene_player.specs.JsonQuestion.{asked_json};
+ghost use Rattle.scene_player.specs.Play.{first_state};
+ghost use Rattle.scene_player.specs.Player.{HaltsSetup, Player as State, begun, halted, hand_of, player_of, player_reply};
+ghost use Rattle.scene_player.specs.Setup.{setup_of};
+
+use crate::halt::Halt;
+use crate::json_question::StateJson;
+use crate::play_state::PlayState;
+use crate::player::{Player, Stage, said_in};
+use crate::setup::Setup;
+use scene_script::{BadLine, Line};
+use std::alloc::{AllocError, Global};
+use std::sync::Wait;
+use std::thread::Threads;
+
+/// What a line asks of the state, where it asks for a text of it.
+fn question_of(said: &Result<Line, BadLine>) -> Option<StateJson>
+    ensures { result ≡ question_of said.now }
+{
+    match said {
+        Ok(Line::Show) => Some(StateJson::Show),
+        Ok(Line::Get(entity)) => Some(StateJson::Get(*entity)),
+        Ok(Line::Dump) => Some(StateJson::Dump),
+        Ok(Line::DumpAll) => Some(StateJson::DumpAll),
+        _ => None,
+    }
+}
+
+/// Asks the state behind the setup, which stays as it is.
+fn ask_state<T: Wait>(
+    rt: &T,
+    alloc: Global,
+    state: &mut PlayState,
+    asked: StateJson,
+) -> Result<String, AllocError>
+    ensures text { IfOk result (λ text. string_bytes text ≡ json_line (asked_json asked (whole_at state.old.hand))) }
+    ensures same { state.new ≡ state.old }
+{
+    state.hand.ask(rt, alloc, &asked)
+}
+
+/// Ends the setup by a line that asks the state that follows. The state is there also where no memory is found for
+/// the answer.
+fn begin_asked<T: Wait>(
+    rt: &T,
+    alloc: Global,
+    setup: &mut Setup,
+    asked: StateJson,
+) -> Result<(PlayState, Result<String, AllocError>), Halt>
+    ensures begun { IfOk result (λ p. p.0 ≡ first_state (setup_of setup.old)) }
+    ensures text { IfOk result (λ p. IfOk p.1 (λ text. string_bytes text
+        ≡ json_line (asked_json asked (whole_at (first_state (setup_of setup.old)).hand)))) }
+    ensures halted { IfErr result (λ h. HaltsSetup h (setup_of setup.old) (setup_of setup.new)) }
+{
+    let mut state = setup.begin(alloc)?;
+    let answered = ask_state(rt, alloc, &mut state, asked);
+    Ok((state, answered))
+}
+
+impl Player {
+    /// Whether a frame is open.
+    fn has_frame(&self) -> bool
+        ensures { result ≡ has_frame (player_of self.now) }
+    {
+        match &self.stage {
+            Stage::Setting(_) => false,
+            Stage::Playing(state) => state.frame.is_some(),
+        }
+    }
+
+    /// What a line asks of the state, where it does.
+    fn asked_in(&self, bytes: &[u8]) -> Result<Option<StateJson>, AllocError>
+        ensures { IfOk result (λ asked. asked ≡ asked_in (player_of self.now) bytes.now) }
+    {
+        if self.has_frame() {
+            return Ok(None);
+        }
+        let said = said_in(self.alloc, self.schema(), bytes)?;
+        Ok(question_of(&said))
+    }
+
+    /// Asks the state, and ends the setup where it hasn't ended.
+    fn ask<T: Wait>(&mut self, rt: &T, asked: StateJson) -> Result<String, Halt>
+        ensures text { IfOk result (λ text. string_bytes text ≡ json_line (asked_json asked (whole_at (hand_of (player_of self.old))))) }
+        ensures begun { IfOk result (λ _. player_of self.new ≡ begun (player_of self.old)) }
+        ensures halted { IfErr result (λ h. (next : State) → player_of self.new ≡ halted h (player_of self.old) next) }
+    {
+        match &mut self.stage {
+            Stage::Playing(state) => match ask_state(rt, self.alloc, state, asked) {
+                Ok(text) => Ok(text),
+                Err(AllocError) => Err(Halt::Before),
+            },
+            Stage::Setting(setup) => match begin_asked(rt, self.alloc, setup, asked) {
+                Err(halt) => Err(halt),
+                Ok((state, answered)) => {
+                    self.stage = Stage::Playing(state);
+                    match answered {
+                        Ok(text) => Ok(text),
+                        Err(AllocError) => Err(Halt::Begun),
+                    }
+                }
+            },
+        }
+    }
+
+    /// Adds what the state is asked for.
+    fn show_json<T: Wait>(
+        &mut self,
+        rt: &T,
+        asked: StateJson,
+        out: &mut String,
+    ) -> Result<Option<BadLine>, Halt>
+        ensures bad { IfOk result (λ bad. bad ≡ None) }
+        ensures begun { IfOk result (λ _. player_of self.new ≡ begun (player_of self.old)) }
+        ensures text { OnOk result (string_bytes out.new ≡ string_bytes out.old
+            ++ json_line (asked_json asked (whole_at (hand_of (player_of self.old))))) }
+        ensures halted { IfErr result (λ h. player_of self.new ≡ halted h (player_of self.old) (begun (player_of self.old))) }
+    {
+        let text = self.ask(rt, asked)?;
+        match out.push_str(text.as_str()) {
+            Ok(()) => Ok(None),
+            Err(AllocError) => Err(Halt::After),
+        }
+    }
+
+    /// Plays a line, and adds its answer.
+    fn play_json<T: Threads + Wait + Sync>(
+        &mut self,
+        rt: &T,
+        bytes: &[u8],
+        out: &mut String,
+    ) -> Result<Option<BadLine>, Halt>
+        ensures bad { IfOk result (λ bad. bad ≡ (player_reply (player_of self.old) bytes.now).bad) }
+        ensures player { OnOk result (player_of self.new ≡ (player_reply (player_of self.old) bytes.now).player) }
+        ensures text { OnOk result (AddsJson (string_bytes out.old) (string_bytes out.new) (player_of self.old) (player_of self.new) bytes.now None) }
+        ensures halted { IfErr result (λ h. player_of self.new
+            ≡ halted h (player_of self.old) (player_reply (player_of self.old) bytes.now).player) }
+    {
+        let answer = self.play(rt, bytes)?;
+        match answer.write_json(self.alloc, self.schema(), out) {
+            Ok(()) => Ok(answer.into_bad_line()),
+            Err(AllocError) => Err(Halt::After),
+        }
+    }
+
+    /// Plays a line, and adds its answer as one line of JSON (docs/SHELL.md, "JSON"). It gives why the line is bad,
+    /// where it is. `show`, `get`, `dump` and `dumpall` add what they ask for by its parts, and any other line its
+    /// `Answer`. It costs what `line` costs, and outside a frame one more reading of the line.
+    ///
+    /// Halted only for want of memory, as `line` is. A part of the answer may be added then.
+    pub fn line_json<T: Threads + Wait + Sync>(
+        &mut self,
+        rt: &T,
+        bytes: &[u8],
+        out: &mut String,
+    ) -> Result<Option<BadLine>, Halt>
+        ensures answer { IfOk result (λ bad. IsAnsweredAsJson (string_bytes out.old) (string_bytes out.new)
+            (player_of self.old) (player_of self.new) bytes.now bad) }
+        ensures halted { IfErr result (λ h. player_of self.new
+            ≡ halted h (player_of self.old) (player_reply (player_of self.old) bytes.now).player) }
+    {
+        let Ok(asked) = self.asked_in(bytes) else {
+            return Err(Halt::Before);
+        };
+        match asked {
+            Some(asked) => self.show_json(rt, asked, out),
+            None => self.play_json(rt, bytes, out),
+        }
+    }
+}

@@ -1,0 +1,307 @@
+//! Lines that were played, whose answers wait until they are kept.
+ghost use Rattle.std.specs.Prelude.{ℕ, List, Option, ◌≡◌, ◌++◌, ◌<◌, ◌≤◌, [], IfErr, IfOk, MatchResult, OnErr, OnOk, if◌then◌else◌, length, string_bytes};
+ghost use Rattle.std.specs.Io.KnownBytes.{Appends, Keeps};
+ghost use Rattle.scene_app.specs.declared.fault.AppFault.TheVariants.{NoMemory, WriteFault};
+ghost use Rattle.scene_player.specs.Player.{Player as State, player_of, player_reply};
+ghost use Rattle.scene_shell.specs.Kept.{Comes, FailsToSettle, Grows, IsBad, IsPlayed, break_of, ended, keeping_of, kept_line, waiting_of};
+ghost use Rattle.scene_shell.specs.Shell.{AddsAnswer, AnswerStyle as Style, IsAnswer, IsSent};
+
+use crate::keep::Keep;
+use crate::kept_fault::KeptFault;
+use crate::streams::{send, tell_bad, tell_halt};
+use crate::style::AnswerStyle;
+use scene_app::AppFault;
+use scene_player::{Halt, Player};
+use scene_script::{BadLine, first_line};
+use std::alloc::{AllocError, Global};
+use std::io::Write;
+use std::sync::Wait;
+use std::thread::Threads;
+
+/// How many bytes wait at most before they are kept and sent, but for those of one line.
+const MOST_WAITING: usize = 65_536;
+
+/// What waits: lines that are to be kept, and the answers that may be sent only then.
+#[derive(Drop)]
+pub(crate) struct Waiting {
+    /// The lines that are due, which no open frame holds back.
+    pub(crate) due: Vec<u8>,
+    /// The lines of the open frame.
+    pub(crate) held: Vec<u8>,
+    /// The answers.
+    pub(crate) answers: Vec<u8>,
+    /// The answer to the line that is played.
+    answer: String,
+}
+
+/// The line break that a line is kept with. A carriage return that is part of the line needs one more behind it, since
+/// the one before a line feed is dropped.
+fn break_of(line: &[u8]) -> &'static [u8]
+    ensures { result.now ≡ break_of line.now }
+{
+    let n = line.len();
+    if n > 0 && line[n - 1] == b'\r' {
+        b"\r\n"
+    } else {
+        b"\n"
+    }
+}
+
+/// Adds a line with its line break.
+fn push_ended(lines: &mut Vec<u8>, line: &[u8]) -> Result<(), AllocError>
+    ensures { OnOk result (lines.new.items ≡ lines.old.items ++ ended line.now) }
+{
+    lines.extend_from_slice(line)?;
+    lines.extend_from_slice(break_of(line))
+}
+
+/// Plays a line, and puts its answer in the place of the one before. It gives why the line is bad, where it is.
+#[tactic(auto, using(crate::proofs::SaidLaws::is_json_answer))]
+fn answer_alone<T: Threads + Wait + Sync>(
+    rt: &T,
+    player: &mut Player,
+    is_json: bool,
+    line: &[u8],
+    answer: &mut String,
+) -> Result<Option<BadLine>, Halt>
+    ensures answer { OnOk result (IsAnswer is_json (player_of player.old) line.now (string_bytes answer.new)) }
+    ensures player { OnOk result (player_of player.new ≡ (player_reply (player_of player.old) line.now).player) }
+    ensures bad { IfOk result (λ bad. bad ≡ (player_reply (player_of player.old) line.now).bad) }
+{
+    answer.clear();
+    if is_json {
+        player.line_json(rt, line, answer)
+    } else {
+        player.line(rt, line, answer)
+    }
+}
+
+/// The same, as the answer is sent.
+fn answer_line<T: Threads + Wait + Sync>(
+    rt: &T,
+    player: &mut Player,
+    style: AnswerStyle,
+    line: &[u8],
+    answer: &mut String,
+) -> Result<Option<BadLine>, Halt>
+    ensures answer { OnOk result (IsSent style (player_of player.old) line.now (string_bytes answer.new)) }
+    ensures player { OnOk result (player_of player.new ≡ (player_reply (player_of player.old) line.now).player) }
+    ensures bad { IfOk result (λ bad. bad ≡ (player_reply (player_of player.old) line.now).bad) }
+{
+    let bad = answer_alone(rt, player, style.is_json, line, answer)?;
+    if style.is_framed && answer.push('\n').is_err() {
+        return Err(Halt::After);
+    }
+    Ok(bad)
+}
+
+impl Waiting {
+    /// Nothing waits.
+    pub(crate) fn new(alloc: Global) -> Waiting
+        ensures due { result.due.items ≡ [] }
+        ensures held { result.held.items ≡ [] }
+        ensures answers { result.answers.items ≡ [] }
+    {
+        Waiting {
+            due: Vec::new(alloc),
+            held: Vec::new(alloc),
+            answers: Vec::new(alloc),
+            answer: String::new(alloc),
+        }
+    }
+
+    /// Whether so much waits that no line more should.
+    pub(crate) fn is_full(&self) -> bool {
+        self.answers.len() >= MOST_WAITING || self.due.len() >= MOST_WAITING
+    }
+
+    /// The lines of the frame are due.
+    fn release(&mut self) -> Result<(), AllocError>
+        ensures due { OnOk result (self.new.due.items ≡ self.old.due.items ++ self.old.held.items) }
+        ensures held { OnOk result (self.new.held.items ≡ []) }
+        ensures same { OnErr result (self.new.due.items ≡ self.old.due.items) }
+        ensures answers { self.new.answers ≡ self.old.answers }
+    {
+        self.due.extend_from_slice(self.held.as_slice())?;
+        self.held.clear();
+        Ok(())
+    }
+
+    /// Notes a line, where it may have changed the player; and then its frame is open or not.
+    fn note(&mut self, line: &[u8], is_changed: bool, is_frame_open: bool) -> Result<(), AllocError>
+        ensures due { OnOk result (self.new.due.items ≡ (if is_frame_open then self.old.due.items
+            else self.old.due.items ++ (self.old.held.items ++ (if is_changed then ended line.now else [])))) }
+        ensures held { OnOk result (self.new.held.items
+            ≡ (if is_frame_open then self.old.held.items ++ (if is_changed then ended line.now else []) else [])) }
+        ensures same { OnErr result (self.new.due.items ≡ self.old.due.items) }
+        ensures answers { self.new.answers ≡ self.old.answers }
+    {
+        if is_changed {
+            push_ended(&mut self.held, line)?;
+        }
+        if is_frame_open {
+            Ok(())
+        } else {
+            self.release()
+        }
+    }
+
+    /// Plays a line, which is given without its line break, and notes it and its answer.
+    #[tactic(auto, using(crate::proofs::KeptLaws::noted_line))]
+    fn play_line<T: Threads + Wait + Sync>(
+        &mut self,
+        rt: &T,
+        player: &mut Player,
+        style: AnswerStyle,
+        line: &[u8],
+    ) -> Result<Option<BadLine>, Halt>
+        ensures kept { OnOk result (keeping_of player.new self.new
+            ≡ kept_line (keeping_of player.old self.old) line.now) }
+        ensures answer { OnOk result (AddsAnswer style (player_of player.old) line.now
+            self.old.answers.items self.new.answers.items) }
+        ensures bad { IfOk result (λ bad. bad ≡ (player_reply (player_of player.old) line.now).bad) }
+        ensures due { OnErr result (self.new.due.items ≡ self.old.due.items) }
+        ensures unsaid { OnErr result (self.new.answers.items ≡ self.old.answers.items) }
+    {
+        let Ok(is_changed) = player.changes(line) else {
+            return Err(Halt::Before);
+        };
+        let bad = answer_line(rt, player, style, line, &mut self.answer)?;
+        let before = self.answers.len();
+        if self
+            .answers
+            .extend_from_slice(self.answer.as_bytes())
+            .is_err()
+        {
+            return Err(Halt::After);
+        }
+        match self.note(line, is_changed, player.has_open_frame()) {
+            Ok(()) => Ok(bad),
+            Err(AllocError) => {
+                self.answers.truncate(before);
+                Err(Halt::After)
+            }
+        }
+    }
+
+    /// Plays a line, and notes it and its answer. It tells why the line is bad, and gives 1 for a bad line, 0 for any
+    /// other.
+    pub(crate) fn play<T: Threads + Wait + Sync, E: Write>(
+        &mut self,
+        rt: &T,
+        player: &mut Player,
+        style: AnswerStyle,
+        number: u64,
+        line: &[u8],
+        errors: &mut E,
+    ) -> Result<u64, AppFault>
+        requires { 0 < length line.now }
+        ensures played { OnOk result (IsPlayed style line.now (keeping_of player.old self.old)
+            (keeping_of player.new self.new) self.old.answers.items self.new.answers.items) }
+        ensures bad { IfOk result (λ bad. IsBad line.now (player_of player.old) bad) }
+        ensures one { IfOk result (λ bad. bad ≤ 1) }
+        ensures fault { IfErr result (λ f. f ≡ NoMemory) }
+        ensures due { OnErr result (self.new.due.items ≡ self.old.due.items) }
+        ensures unsaid { OnErr result (self.new.answers.items ≡ self.old.answers.items) }
+    {
+        let (bytes, _) = first_line(line);
+        match self.play_line(rt, player, style, bytes) {
+            Ok(None) => Ok(0),
+            Ok(Some(reason)) => {
+                tell_bad(errors, number, &reason);
+                Ok(1)
+            }
+            Err(halt) => {
+                tell_halt(errors, number, halt);
+                Err(AppFault::NoMemory)
+            }
+        }
+    }
+
+    /// Keeps the lines that are due.
+    #[tactic(auto, using(crate::proofs::KeptLaws::grows_none))]
+    fn keep_due<K: Keep>(&mut self, keeper: &mut K) -> Result<(), K::Fault>
+        ensures kept { OnOk result (Grows K.keeps keeper.old keeper.new self.old.due.items) }
+        ensures due { OnOk result (self.new.due.items ≡ []) }
+        ensures held { self.new.held ≡ self.old.held }
+        ensures answers { self.new.answers ≡ self.old.answers }
+    {
+        if self.due.is_empty() {
+            return Ok(());
+        }
+        match keeper.keep(self.due.as_slice()) {
+            Ok(()) => {
+                self.due.clear();
+                Ok(())
+            }
+            Err(fault) => Err(fault),
+        }
+    }
+
+    /// Sends the answers.
+    fn send_answers<W: Write>(&mut self, writer: &mut W) -> Result<(), AppFault>
+        ensures sent { OnOk result (Appends (W.contents writer.old) (W.contents writer.new)
+            self.old.answers.items) }
+        ensures answers { OnOk result (self.new.answers.items ≡ []) }
+        ensures fault { IfErr result (λ f. f ≡ WriteFault) }
+        ensures due { self.new.due ≡ self.old.due }
+        ensures held { self.new.held ≡ self.old.held }
+    {
+        match send(writer, self.answers.as_slice()) {
+            Ok(()) => {
+                self.answers.clear();
+                Ok(())
+            }
+            Err(fault) => Err(fault),
+        }
+    }
+
+    /// Keeps the lines that are due, and then sends the answers.
+    pub(crate) fn settle<K: Keep, W: Write>(
+        &mut self,
+        keeper: &mut K,
+        writer: &mut W,
+    ) -> Result<(), KeptFault<K::Fault>>
+        ensures kept { OnOk result (Grows K.keeps keeper.old keeper.new self.old.due.items) }
+        ensures sent { OnOk result (Appends (W.contents writer.old) (W.contents writer.new)
+            self.old.answers.items) }
+        ensures due { OnOk result (self.new.due.items ≡ []) }
+        ensures held { OnOk result (self.new.held ≡ self.old.held) }
+        ensures answers { OnOk result (self.new.answers.items ≡ []) }
+        ensures fails { IfErr result (FailsToSettle K.keeps keeper.old keeper.new self.old.due.items
+            (W.contents writer.old) (W.contents writer.new)) }
+    {
+        match self.keep_due(keeper) {
+            Ok(()) => {}
+            Err(fault) => return Err(KeptFault::Keep(fault)),
+        }
+        match self.send_answers(writer) {
+            Ok(()) => Ok(()),
+            Err(fault) => Err(KeptFault::Ended(fault)),
+        }
+    }
+
+    /// Does so where it is due.
+    #[tactic(auto, using(crate::proofs::KeptLaws::comes_on))]
+    pub(crate) fn settle_where<K: Keep, W: Write>(
+        &mut self,
+        is_due: bool,
+        keeper: &mut K,
+        writer: &mut W,
+    ) -> Result<(), KeptFault<K::Fault>>
+        ensures come { OnOk result ((style : Style) → (script : Option (List ℕ)) → (rest : Option (List ℕ))
+            → (start : Option (List ℕ)) → (kept : K) → (first : State) → (player : State) → (count : ℕ)
+            → Comes K.keeps style script rest start (W.contents writer.old) kept keeper.old first
+            (waiting_of player self.old) self.old.answers.items count
+            → Comes K.keeps style script rest start (W.contents writer.new) kept keeper.new first
+            (waiting_of player self.new) self.new.answers.items count) }
+        ensures fails { IfErr result (FailsToSettle K.keeps keeper.old keeper.new self.old.due.items
+            (W.contents writer.old) (W.contents writer.new)) }
+    {
+        if is_due {
+            self.settle(keeper, writer)
+        } else {
+            Ok(())
+        }
+    }
+}

@@ -1,0 +1,4 @@
+pub mod Objects
+pub mod Shown
+pub mod Steps
+pub mod Told
