@@ -1,4 +1,4 @@
--- AnswerStyle far a shell that keeps its lines has come.
+-- How far a shell that keeps its lines has come.
 use Rattle.std.proofs.Common.{◌≡◌, ◌≢◌, ℕ, ◌+◌, ◌<◌, List, [], ◌∷◌, ◌++◌, Bool, true, false, cond, Option, Some, None, Result, Ok, Err, IfSome, is_some, if◌then◌else◌, length, arith, refl, sym, ap, subst, ◌∙◌, append_assoc, append-nil}
 use Rattle.std.specs.Io.BufRead.{DropsThrough, drop_through, take_through}
 use Rattle.std.specs.Io.KnownBytes.{Appends, Keeps}
@@ -121,7 +121,7 @@ module _ {K : Type 0} (keeps : K → List ℕ → Type 0) (style : AnswerStyle) 
         counted = so.counted ∙ ap (bad_count first) (sym none);
       }
 
--- ---- style it ends
+-- ---- how it ends
 
 module _ {K : Type 0} (keeps : K → List ℕ → Type 0) (style : AnswerStyle) (script : List ℕ) (old : Option (List ℕ)) (kept : K) (first : Player) where
   -- what waited is neither kept nor sent

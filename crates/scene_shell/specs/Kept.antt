@@ -66,7 +66,7 @@ behind t k = record k { due = t ++ k.due }
 abbrev pub Grows : {K : Type 0} → (K → List ℕ → Type 0) → K → K → List ℕ → Type 0
 Grows keeps old new more = (text : List ℕ) → keeps old text → keeps new (text ++ more)
 
--- AnswerStyle far a shell has come: the answers to the first lines are written and these lines kept, and of the next ones the answers wait.
+-- How far a shell has come: the answers to the first lines are written and these lines kept, and of the next ones the answers wait.
 pub record HasCome {K : Type 0} (keeps : K → List ℕ → Type 0) (style : AnswerStyle) (script rest : List ℕ) (old new : Option (List ℕ)) (kept keeper : K) (first : Player)
     (now : Keeping) (answers : List ℕ) (count : ℕ) : Type 0 where
   pub front : List (List ℕ)
@@ -111,7 +111,7 @@ abbrev pub HasKept : {K : Type 0} → (K → List ℕ → Type 0) → List ℕ �
 HasKept keeps script kept keeper first =
     (front : List (List ℕ)) × (back : List (List ℕ)) × (lines script ≡ front ++ back) × Grows keeps kept keeper (kept_of first front)
 
--- style far a shell has come, where so much is due and so much is to be said
+-- how far a shell has come, where so much is due and so much is to be said
 abbrev pub HasComeTo : {K : Type 0} → (K → List ℕ → Type 0) → AnswerStyle → (script rest : List ℕ) → (old new : Option (List ℕ)) → (kept keeper : K) → Player
     → (due answers : List ℕ) → ℕ → Type 0
 HasComeTo keeps style script rest old new kept keeper first due answers count =
@@ -143,7 +143,7 @@ LeadsTo keeps style script old new kept keeper first due answers (Ok count) = Ha
 LeadsTo keeps style script old new kept keeper first due answers (Err (Ended fault)) = StopsAt keeps style script old new kept keeper first due answers fault
 LeadsTo keeps style script old new kept keeper first due answers (Err (Keep fault)) = HasAnswered style first script old new
 
--- AnswerStyle a shell that keeps its lines ends: all lines are answered and kept; or the first ones, where a stream or the memory stops it.
+-- How a shell that keeps its lines ends: all lines are answered and kept; or the first ones, where a stream or the memory stops it.
 -- Where the writer fails, nothing is known of the answers, and where lines weren't kept, nothing of what is kept.
 abbrev pub EndsBy : {K : Type 0} → (K → List ℕ → Type 0) → AnswerStyle → List ℕ → (old new : Option (List ℕ)) → (kept keeper : K) → Player → AppFault → Type 0
 EndsBy keeps style script old new kept keeper first WriteFault = HasKept keeps script kept keeper first
