@@ -1,11 +1,12 @@
 """A scene from Python, by the program's shell: each call is a line, and waits for its answer (docs/SHELL.md).
 
-    with Scene(kinds={"Name": "Text", "Health": "Int"}) as scene:
+    with Scene("level.db", kinds={"Name": "Text", "Health": "Int"}) as scene:
         cat = scene.spawn(Name="cat", Health=9)
         scene.insert(cat, Health=5)
         scene.undo()
 
-A refusal is raised as `Refused`, and leaves the scene as it was; so does a line that the shell doesn't take, as `BadLine`.
+Each change is kept in the file before the call returns, and the next `Scene("level.db")` goes on there; without a file nothing is
+kept. A refusal is raised as `Refused`, and leaves the scene as it was; so does a line that the shell doesn't take, as `BadLine`.
 Values are int, str without spaces, three ints, an entity's text for a Link, and True for a Tag.
 """
 import subprocess
@@ -40,19 +41,30 @@ def cell(name, value):
 
 
 class Scene:
-    """A scene in a shell of its own. `with` ends the shell."""
+    """A scene in a shell of its own, kept in the store at a path, if one is given. `with` ends the shell."""
 
-    def __init__(self, program="scene", kinds=None, options=()):
-        words = [program, "shell", "--framed", *options]
+    def __init__(self, store=None, kinds=None, program="scene", options=()):
+        words = [program, "shell", "--framed", *options, *(["--store", str(store)] if store else [])]
         self._shell = subprocess.Popen(words, stdin=subprocess.PIPE, stdout=subprocess.PIPE, text=True, encoding="utf-8")
         for name, shape in (kinds or {}).items():
-            self.line(f"kind {name} {shape}")
+            self._declare(f"kind {name} {shape}")
 
     def __enter__(self):
         return self
 
     def __exit__(self, *_):
         self.close()
+
+    def _declare(self, line):
+        """Declares a kind, which a store may have already."""
+        try:
+            self.line(line)
+        except Refused as refused:
+            if refused.name != "KindTaken":
+                raise
+        except BadLine:
+            # The setup of a store that was used ends with its first frame.
+            pass
 
     def close(self):
         """Ends the shell, and gives its exit status."""

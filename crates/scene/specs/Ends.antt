@@ -1,7 +1,7 @@
 -- With which status the program ends.
 use Rattle.std.specs.Prelude.{ℕ, Bool, if◌then◌else◌, ◌==◌}
 use Rattle.scene.specs.declared.ending.Ending.{Ending}
-use Rattle.scene.specs.declared.ending.Ending.TheVariants.{Done, Refused, BadCommandLine, Fault}
+use Rattle.scene.specs.declared.ending.Ending.TheVariants.{Done, Refused, BadCommandLine, Fault, Store, Told}
 
 -- the exit status of an end
 abbrev pub status_of : Ending → ℕ
@@ -9,6 +9,8 @@ status_of Done = 0
 status_of Refused = 1
 status_of BadCommandLine = 2
 status_of (Fault fault) = 3
+status_of (Store fault) = 3
+status_of Told = 3
 
 -- the end after so many bad lines
 abbrev pub after_bad_lines : ℕ → Ending

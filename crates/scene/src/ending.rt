@@ -4,6 +4,7 @@ ghost use Rattle.std.specs.Process.{exit_status};
 ghost use Rattle.scene.specs.Ends.{after_bad_lines, after_scene, status_of};
 
 use scene_app::AppFault;
+use scene_store::StoreFault;
 use std::process::ExitCode;
 
 /// How the program ended (docs/SCRIPTS.md, "Exit status").
@@ -17,6 +18,10 @@ pub enum Ending {
     BadCommandLine,
     /// The program couldn't do what was asked for.
     Fault(AppFault),
+    /// A store couldn't be used.
+    Store(StoreFault),
+    /// The program couldn't do what was asked for, and has said why.
+    Told,
 }
 
 impl Ending {
@@ -50,7 +55,7 @@ impl Ending {
             Ending::Done => ExitCode::SUCCESS,
             Ending::Refused => ExitCode::from(1),
             Ending::BadCommandLine => ExitCode::from(2),
-            Ending::Fault(_) => ExitCode::from(3),
+            Ending::Fault(_) | Ending::Store(_) | Ending::Told => ExitCode::from(3),
         }
     }
 }

@@ -7,8 +7,10 @@
 #![tactic(auto)]
 
 mod ending;
+mod stored;
 
 use crate::ending::Ending;
+use crate::stored::{compact_store, log_store, show_store, stored_shell};
 use scene_app::{AppFault, RunEnd, check_scene, print_scene, run_script};
 use scene_command_line::{Asked, ShellWords, mistake_in, read_words};
 use scene_script::Limit;
@@ -57,21 +59,29 @@ fn run(rt: &HostRuntime, threads: &(impl Threads + Wait + Sync), workers: u8) ->
     }
 }
 
+/// How the answers of a shell are written, by the words that ask for it.
+pub(crate) fn style_of(words: &ShellWords) -> AnswerStyle {
+    AnswerStyle {
+        is_json: words.is_json,
+        is_framed: words.is_framed,
+    }
+}
+
 /// How a shell is to be, by the words that ask for it; nothing where its depth is out of range, which no words ask for.
-fn shell_settings(words: ShellWords) -> Option<ShellSettings> {
+fn shell_settings(words: &ShellWords) -> Option<ShellSettings> {
     Some(ShellSettings {
         workers: words.workers as usize,
         depth: Limit::new(words.depth)?,
-        style: AnswerStyle {
-            is_json: false,
-            is_framed: words.is_framed,
-        },
+        style: style_of(words),
     })
 }
 
 /// Answers the lines on standard input one by one.
 fn shell(rt: &HostRuntime, threads: &(impl Threads + Wait + Sync), words: ShellWords) -> Ending {
-    let Some(settings) = shell_settings(words) else {
+    if let Some(path) = &words.store {
+        return stored_shell(rt, threads, path.as_str(), &words);
+    }
+    let Some(settings) = shell_settings(&words) else {
         return Ending::BadCommandLine;
     };
     let Ok(mut reader) = BufReader::new(rt.alloc(), rt.stdin()) else {
@@ -126,6 +136,9 @@ fn end(rt: &HostRuntime, threads: &(impl Threads + Wait + Sync), words: &[String
         Ok(Asked::Shell(words)) => shell(rt, threads, words),
         Ok(Asked::Check) => check(rt),
         Ok(Asked::Print) => print(rt),
+        Ok(Asked::Show(path)) => show_store(rt, threads, path.as_str()),
+        Ok(Asked::Log(path)) => log_store(rt, threads, path.as_str()),
+        Ok(Asked::Compact(path)) => compact_store(rt, threads, path.as_str()),
         Ok(Asked::Help(text)) => help(rt, text.as_str()),
         Ok(Asked::Bad) => Ending::BadCommandLine,
         Err(_) => Ending::Fault(AppFault::NoMemory),
@@ -136,7 +149,8 @@ fn end(rt: &HostRuntime, threads: &(impl Threads + Wait + Sync), words: &[String
 /// that no want of memory keeps back what is wrong with them.
 fn tell(rt: &HostRuntime, ending: Ending, words: &[String]) -> io::Result<()> {
     match ending {
-        Ending::Done | Ending::Refused => Ok(()),
+        Ending::Done | Ending::Refused | Ending::Told => Ok(()),
+        Ending::Store(fault) => eprintln!(rt; "scene: {fault}"),
         Ending::BadCommandLine => {
             eprintln!(rt; "scene: bad command line")?;
             eprintln!(rt; "scene: {}", mistake_in(words))

@@ -3,12 +3,14 @@ use Rattle.std.proofs.Common.{◌≡◌, true, List, inl, inr, refl, sym, subst,
 use Rattle.std.specs.Str.{bytes_eq}
 use Rattle.std.proofs.lemmas.Bool.{and_parts, false≢true, or_cases}
 use Rattle.std.proofs.lemmas.Slice.Eq.{bytes_eq-Decides}
-use Rattle.clap.specs.Words.{Kinds, Text, fault_of}
+use Rattle.clap.specs.Words.{Text, fault_of}
 use Rattle.clap.specs.declared.error.kind.ErrorKind.TheVariants.{DisplayHelp}
 use Rattle.clap.proofs.OnLiterals.{clap_on_literals}
-use Rattle.scene_command_line.specs.declared.asked.Asked.{Asked}
-use Rattle.scene_command_line.specs.Words.{Answers, AsksFor, IsHelp, command_in, scene_line}
+use Rattle.scene_command_line.specs.Asks.{Asks, ToHelp}
+use Rattle.scene_command_line.specs.Words.{AsksFor, command_in, scene_line}
 use Rattle.scene_command_line.specs.Plain.{asks_for_help, is_command, is_help_option}
+use Rattle.scene_command_line.proofs.CommandLaws.{by_command}
+use Rattle.scene_command_line.proofs.EnterLaws.{answered_once}
 
 abbrev IsHelpLine : List Text → Type 0
 IsHelpLine words = fault_of scene_line words ≡ DisplayHelp ∷ []
@@ -38,6 +40,18 @@ module _ (name : Text) where
   unfolding clap_on_literals
   long_of_print = refl
 
+  long_of_show : IsHelpLine (name ∷ codes "show" ∷ codes "--help" ∷ [])
+  unfolding clap_on_literals
+  long_of_show = refl
+
+  long_of_log : IsHelpLine (name ∷ codes "log" ∷ codes "--help" ∷ [])
+  unfolding clap_on_literals
+  long_of_log = refl
+
+  long_of_compact : IsHelpLine (name ∷ codes "compact" ∷ codes "--help" ∷ [])
+  unfolding clap_on_literals
+  long_of_compact = refl
+
   short_of_run : IsHelpLine (name ∷ codes "run" ∷ codes "-h" ∷ [])
   unfolding clap_on_literals
   short_of_run = refl
@@ -54,25 +68,23 @@ module _ (name : Text) where
   unfolding clap_on_literals
   short_of_print = refl
 
+  short_of_show : IsHelpLine (name ∷ codes "show" ∷ codes "-h" ∷ [])
+  unfolding clap_on_literals
+  short_of_show = refl
+
+  short_of_log : IsHelpLine (name ∷ codes "log" ∷ codes "-h" ∷ [])
+  unfolding clap_on_literals
+  short_of_log = refl
+
+  short_of_compact : IsHelpLine (name ∷ codes "compact" ∷ codes "-h" ∷ [])
+  unfolding clap_on_literals
+  short_of_compact = refl
+
 -- what holds of both options holds of each word that is one of them
 by_option : (P : Text → Type 0) (word : Text) → P (codes "--help") → P (codes "-h") → is_help_option word ≡ true → P word
 by_option P word long short one = elim (or_cases (bytes_eq word (codes "--help")) _ one) [
   | inl same ↦ subst P (sym ((bytes_eq-Decides word _).0 same)) long
   | inr same ↦ subst P (sym ((bytes_eq-Decides word _).0 same)) short
-]
-
--- what holds of the four commands holds of each word that is one of them
-by_command : (P : Text → Type 0) (word : Text) → P (codes "run") → P (codes "shell") → P (codes "check") → P (codes "print")
-    → is_command word ≡ true → P word
-by_command P word run shell check print one = elim (or_cases (bytes_eq word (codes "run")) _ one) [
-  | inl same ↦ subst P (sym ((bytes_eq-Decides word _).0 same)) run
-  | inr other ↦ elim (or_cases (bytes_eq word (codes "shell")) _ other) [
-    | inl same ↦ subst P (sym ((bytes_eq-Decides word _).0 same)) shell
-    | inr other ↦ elim (or_cases (bytes_eq word (codes "check")) _ other) [
-      | inl same ↦ subst P (sym ((bytes_eq-Decides word _).0 same)) check
-      | inr same ↦ subst P (sym ((bytes_eq-Decides word _).0 same)) print
-    ]
-  ]
 ]
 
 help_line : (words : List Text) → asks_for_help words ≡ true → IsHelpLine words
@@ -86,13 +98,14 @@ help_line (name ∷ command ∷ word ∷ []) asks =
     (by_option (λ w. IsHelpLine (name ∷ codes "shell" ∷ w ∷ [])) word (long_of_shell name) (short_of_shell name) parts.1)
     (by_option (λ w. IsHelpLine (name ∷ codes "check" ∷ w ∷ [])) word (long_of_check name) (short_of_check name) parts.1)
     (by_option (λ w. IsHelpLine (name ∷ codes "print" ∷ w ∷ [])) word (long_of_print name) (short_of_print name) parts.1)
+    (by_option (λ w. IsHelpLine (name ∷ codes "show" ∷ w ∷ [])) word (long_of_show name) (short_of_show name) parts.1)
+    (by_option (λ w. IsHelpLine (name ∷ codes "log" ∷ w ∷ [])) word (long_of_log name) (short_of_log name) parts.1)
+    (by_option (λ w. IsHelpLine (name ∷ codes "compact" ∷ w ∷ [])) word (long_of_compact name)
+    (short_of_compact name) parts.1)
     parts.0
 help_line (name ∷ command ∷ word ∷ next ∷ rest) asks = absurd (false≢true asks)
 
-helps : (kinds : Kinds) (command asked : Asked) → kinds ≡ DisplayHelp ∷ [] → Answers kinds command asked → IsHelp asked
-helps kinds command asked one answers =
-    elim (subst (λ (ks : Kinds). Answers ks command asked) one answers) [ inl help ↦ help | inr none ↦ absurd none ]
-
 -- a command line that asks for help is answered with help
-pub help_answer : (words : List Text) (asked : Asked) → asks_for_help words ≡ true → AsksFor asked words → IsHelp asked
-help_answer words asked asks answers = helps (fault_of scene_line words) (command_in words) asked (help_line words asks) answers
+pub help_answer : (words : List Text) (asks : Asks) → asks_for_help words ≡ true → AsksFor asks words → asks ≡ ToHelp
+help_answer words asks is means =
+    answered_once (fault_of scene_line words) (command_in words) asks DisplayHelp (help_line words is) means

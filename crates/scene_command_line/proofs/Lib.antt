@@ -1,6 +1,11 @@
 pub mod Answered
+pub mod ArgLaws
+pub mod CommandLaws
+pub mod EnterLaws
+pub mod FileLaws
 pub mod FlagLaws
 pub mod HelpLaws
+pub mod LeafLaws
 pub mod NumberLaws
 pub mod PlainLaws
 pub mod ShellLaws

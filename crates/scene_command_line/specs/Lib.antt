@@ -1,3 +1,4 @@
+pub mod Asks
 pub mod Mistakes
 pub mod Plain
 pub mod Words

@@ -1,11 +1,12 @@
--- What the plain command lines ask for: those without options, and those that ask for help.
-use Rattle.std.specs.Prelude.{Bool, List, [], ◌∷◌, ◌==◌, ◌&&◌, ◌||◌, not, true, false, Some, codes, drop}
+-- What the plain command lines ask for: those without options, those with options in the order of the help text, and
+-- those that ask for help.
+use Rattle.std.specs.Prelude.{◌≡◌, Bool, List, [], ◌∷◌, ◌++◌, ◌==◌, ◌&&◌, ◌||◌, not, true, false, Option, Some, None, codes, drop, if◌then◌else◌}
 use Rattle.std.specs.List.{list_all}
+use Rattle.std.specs.Option.{option_map_or}
 use Rattle.std.specs.Str.{bytes_eq}
 use Rattle.clap.specs.Words.{Text}
-use Rattle.scene_command_line.specs.declared.asked.Asked.{Asked}
-use Rattle.scene_command_line.specs.declared.asked.Asked.TheVariants.{Bad}
-use Rattle.scene_command_line.specs.Words.{command_named, run_asked, shell_asked}
+use Rattle.scene_command_line.specs.Asks.{Asks, Nothing}
+use Rattle.scene_command_line.specs.Words.{command_named, file_command_named, run_asked, shell_asked}
 
 -- the word begins with a hyphen (45), as options do
 abbrev pub is_option : Text → Bool
@@ -20,16 +21,27 @@ is_plain word = not (is_option word) && not (bytes_eq word (codes "help"))
 abbrev pub are_plain : List Text → Bool
 are_plain words = list_all is_plain (drop 1 words)
 
--- what such words ask for: one command and nothing more has to be named
-abbrev pub plainly_asked : List Text → Asked
-plainly_asked (name ∷ word ∷ []) = command_named word []
-plainly_asked words = Bad
+-- what such words ask for: one command has to be named, with a file where it takes one, and nothing more
+abbrev pub plainly_asked : List Text → Asks
+plainly_asked (name ∷ command ∷ []) = command_named command []
+plainly_asked (name ∷ command ∷ file ∷ []) = file_command_named command (Some file)
+plainly_asked words = Nothing
+
+-- the word is the name of a command that takes a file
+abbrev pub is_file_command : Text → Bool
+is_file_command word =
+    bytes_eq word (codes "show") || (bytes_eq word (codes "log") || bytes_eq word (codes "compact"))
 
 -- the word is a command's name
 abbrev pub is_command : Text → Bool
 is_command word =
     bytes_eq word (codes "run") || (bytes_eq word (codes "shell")
-    || (bytes_eq word (codes "check") || bytes_eq word (codes "print")))
+    || (bytes_eq word (codes "check") || (bytes_eq word (codes "print") || is_file_command word)))
+
+-- a file is named behind a command that takes one, and nothing more; any word but an option is its name, also `help`
+abbrev pub asks_for_file : List Text → Bool
+asks_for_file (name ∷ command ∷ word ∷ []) = is_file_command command && not (is_option word)
+asks_for_file words = false
 
 -- the word is the option that asks for help
 abbrev pub is_help_option : Text → Bool
@@ -48,18 +60,33 @@ asks_for_workers (name ∷ command ∷ option ∷ word ∷ []) =
 asks_for_workers words = false
 
 -- the word behind the option
-abbrev pub workers_asked : List Text → Asked
+abbrev pub workers_asked : List Text → Asks
 workers_asked (name ∷ command ∷ option ∷ word ∷ []) = run_asked (Some word)
-workers_asked words = Bad
+workers_asked words = Nothing
 
--- a shell is asked for with its three options, in the order of the help text, and nothing more
-abbrev pub asks_for_shell : List Text → Bool
-asks_for_shell (name ∷ command ∷ option ∷ word ∷ option₂ ∷ word₂ ∷ flag ∷ []) =
-    bytes_eq command (codes "shell") && (bytes_eq option (codes "--workers") && (not (is_option word)
-    && (bytes_eq option₂ (codes "--depth") && (not (is_option word₂) && bytes_eq flag (codes "--framed")))))
-asks_for_shell words = false
+-- the words of an option, where it is given this word
+abbrev pub option_words : Text → Option Text → List Text
+option_words option None = []
+option_words option (Some word) = option ∷ word ∷ []
 
--- the workers and the depth behind the options, framed
-abbrev pub shell_words_asked : List Text → Asked
-shell_words_asked (name ∷ command ∷ option ∷ word ∷ option₂ ∷ word₂ ∷ flag ∷ []) = shell_asked (Some word) (Some word₂) true
-shell_words_asked words = Bad
+-- the word of a flag, where it is given
+abbrev pub flag_words : Text → Bool → List Text
+flag_words flag is_given = if is_given then flag ∷ [] else []
+
+-- a word that isn't an option, if there is one
+abbrev pub is_no_option : Option Text → Bool
+is_no_option word = option_map_or (λ w. not (is_option w)) word true
+
+-- the command line of a shell with these options, in the order of the help text
+abbrev pub shell_line : Text → Option Text → Option Text → Bool → Bool → Option Text → List Text
+shell_line name workers depth is_framed is_json store =
+    name ∷ codes "shell" ∷ option_words (codes "--workers") workers ++ (option_words (codes "--depth") depth
+    ++ (flag_words (codes "--framed") is_framed ++ (flag_words (codes "--json") is_json
+    ++ option_words (codes "--store") store)))
+
+-- such a command line asks for a shell with just these options
+abbrev pub AsksForShell : Asks → List Text → Type 0
+AsksForShell asks words = (name : Text) (workers depth : Option Text) (is_framed is_json : Bool) (store : Option Text)
+    → is_no_option workers ≡ true → is_no_option depth ≡ true → is_no_option store ≡ true
+    → words ≡ shell_line name workers depth is_framed is_json store
+    → asks ≡ shell_asked workers depth is_framed is_json store

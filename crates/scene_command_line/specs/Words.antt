@@ -1,5 +1,5 @@
 -- The commands of which `clap` is told, and what its answers mean.
-use Rattle.std.specs.Prelude.{◌≡◌, ◌⊎◌, ◌&&◌, ⊤, ℕ, Bool, List, [], ◌∷◌, length, true, false, Option, Some, None, nat_lt, nat_le, if◌then◌else◌, codes}
+use Rattle.std.specs.Prelude.{◌≡◌, ◌⊎◌, ◌&&◌, ℕ, Bool, List, [], ◌∷◌, length, true, false, Option, Some, None, nat_lt, nat_le, if◌then◌else◌, codes}
 use Rattle.std.specs.Char.{digit_value}
 use Rattle.std.specs.List.{list_all}
 use Rattle.std.specs.Option.{option_map_or}
@@ -10,8 +10,7 @@ use Rattle.clap.specs.Simple.{new_shape, on_top}
 use Rattle.clap.specs.declared.builder.action.ArgAction.TheVariants.{Set, SetTrue}
 use Rattle.clap.specs.declared.error.kind.ErrorKind.{ErrorKind}
 use Rattle.clap.specs.declared.error.kind.ErrorKind.TheVariants.{DisplayHelp}
-use Rattle.scene_command_line.specs.declared.asked.Asked.{Asked}
-use Rattle.scene_command_line.specs.declared.asked.Asked.TheVariants.{Run, Shell, Check, Print, Help, Bad}
+use Rattle.scene_command_line.specs.Asks.{Asks, ToRun, ToShell, ToCheck, ToPrint, ToShow, ToLog, ToCompact, ToHelp, Nothing}
 
 -- an option of this name, which takes one word
 abbrev pub option_rule : Text → Rule
@@ -21,6 +20,10 @@ option_rule name = record (new_rule name) { long = Some name; action = Some Set;
 abbrev pub flag_rule : Text → Rule
 flag_rule name = record (new_rule name) { long = Some name; action = Some SetTrue }
 
+-- the word that stands for the name of a file, and has to be given
+abbrev pub file_rule : Rule
+file_rule = record (new_rule (codes "file")) { action = Some Set; value_names = 1; required = true }
+
 -- the option `--workers` of `run` and of `shell`
 abbrev pub workers_rule : Rule
 workers_rule = option_rule (codes "workers")
@@ -29,16 +32,21 @@ workers_rule = option_rule (codes "workers")
 abbrev pub run_shape : Shape
 run_shape = record (new_shape (codes "run")) { rules = workers_rule ∷ [] }
 
--- the command `shell`, with its three options
+-- the command `shell`, with its five options
 abbrev pub shell_shape : Shape
 shell_shape = record (new_shape (codes "shell")) {
-  rules = workers_rule ∷ option_rule (codes "depth") ∷ flag_rule (codes "framed") ∷ [];
+  rules = workers_rule ∷ option_rule (codes "depth") ∷ flag_rule (codes "framed") ∷ flag_rule (codes "json")
+      ∷ option_rule (codes "store") ∷ [];
 }
 
--- the commands of the program: one of `run`, `shell`, `check` and `print` has to be named, and but for the options none
--- takes a word more
-abbrev pub scene_line : App
-scene_line =
+-- a command of this name, which takes the name of a file
+abbrev pub file_shape : Text → Shape
+file_shape name = record (new_shape name) { rules = file_rule ∷ [] }
+
+-- the program with the commands that no file follows: one of `run`, `shell`, `check` and `print` has to be named, and
+-- but for the options none takes a word more
+abbrev pub line_without_file : App
+line_without_file =
     with_subcommand
     (with_subcommand
     (with_subcommand
@@ -47,6 +55,16 @@ scene_line =
     shell_shape)
     (new_shape (codes "check")))
     (new_shape (codes "print"))
+
+-- the program with all its commands: `show`, `log` and `compact` may be named too, each with a file
+abbrev pub scene_line : App
+scene_line =
+    with_subcommand
+    (with_subcommand
+    (with_subcommand line_without_file
+    (file_shape (codes "show")))
+    (file_shape (codes "log")))
+    (file_shape (codes "compact"))
 
 -- the word is decimal digits, behind at most one plus
 abbrev pub is_number : Text → Bool
@@ -70,68 +88,99 @@ abbrev pub depth_given : Option Text → Option ℕ
 depth_given None = Some 1048576
 depth_given (Some word) = number_to 1048576 word
 
+-- the name of a file that a word is: any but the empty one
+abbrev pub file_in : Text → Option Text
+file_in [] = None
+file_in (byte ∷ bytes) = Some (byte ∷ bytes)
+
+-- the file that a word names, if one does
+abbrev pub file_given : Option Text → Option Text
+file_given None = None
+file_given (Some word) = file_in word
+
+-- what is asked of a file, if it has a name
+abbrev pub file_by : (Text → Asks) → Option Text → Asks
+file_by asks None = Nothing
+file_by asks (Some file) = asks file
+
+-- what is asked of the file that a word names, if one does
+abbrev pub file_asked : (Text → Asks) → Option Text → Asks
+file_asked asks word = file_by asks (file_given word)
+
 -- a run with these workers; it is bad where their number is
-abbrev pub run_by : Option ℕ → Asked
-run_by None = Bad
-run_by (Some workers) = Run workers
+abbrev pub run_by : Option ℕ → Asks
+run_by None = Nothing
+run_by (Some workers) = ToRun workers
 
 -- a run with the workers that a word says, if one does
-abbrev pub run_asked : Option Text → Asked
+abbrev pub run_asked : Option Text → Asks
 run_asked workers = run_by (workers_given workers)
 
--- a shell of these workers and this depth, which is framed or not; it is bad where one of the numbers is
-abbrev pub shell_by : Option ℕ → Option ℕ → Bool → Asked
-shell_by (Some workers) (Some depth) is_framed =
-    Shell (record { workers = workers; depth = depth; is_framed = is_framed })
-shell_by _ _ is_framed = Bad
+-- a shell of these workers and this depth; it is bad where one of the numbers is
+abbrev pub shell_by : Option ℕ → Option ℕ → Bool → Bool → Option Text → Asks
+shell_by (Some workers) (Some depth) is_framed is_json store =
+    ToShell (record { workers = workers; depth = depth; is_framed = is_framed; is_json = is_json; store = store })
+shell_by _ _ is_framed is_json store = Nothing
 
--- a shell with the workers and the depth that words say, if words do
-abbrev pub shell_asked : Option Text → Option Text → Bool → Asked
-shell_asked workers depth is_framed = shell_by (workers_given workers) (depth_given depth) is_framed
+-- a shell with the store that a word names; it is bad where a depth is said too
+abbrev pub shell_of_store : Option Text → Option Text → Bool → Bool → Text → Asks
+shell_of_store workers None is_framed is_json store =
+    file_asked (λ file. shell_by (workers_given workers) (depth_given None) is_framed is_json (Some file)) (Some store)
+shell_of_store workers (Some depth) is_framed is_json store = Nothing
+
+-- a shell with the workers, the depth and the store that words say, if words do, which is framed or not, and answers by
+-- JSON or not
+abbrev pub shell_asked : Option Text → Option Text → Bool → Bool → Option Text → Asks
+shell_asked workers depth is_framed is_json None =
+    shell_by (workers_given workers) (depth_given depth) is_framed is_json None
+shell_asked workers depth is_framed is_json (Some store) = shell_of_store workers depth is_framed is_json store
 
 -- the flag of this name is given
 abbrev pub has_flag : Text → List Row → Bool
 has_flag name rows = option_map_or (λ text. bytes_eq text (codes "true")) (one_of name rows) false
 
+-- a command of one of these names, with what is given for its file; a name that is none's is bad
+abbrev pub file_command_named : Text → Option Text → Asks
+file_command_named name file =
+    if bytes_eq name (codes "show") then file_asked ToShow file
+    else (if bytes_eq name (codes "log") then file_asked ToLog file
+    else (if bytes_eq name (codes "compact") then file_asked ToCompact file else Nothing))
+
 -- the command of a name, with the values of its options; a name that is none's is bad
-abbrev pub command_named : Text → List Row → Asked
+abbrev pub command_named : Text → List Row → Asks
 command_named name options =
     if bytes_eq name (codes "run") then run_asked (first_of (codes "workers") options)
     else (if bytes_eq name (codes "shell")
     then shell_asked (first_of (codes "workers") options) (first_of (codes "depth") options)
-    (has_flag (codes "framed") options)
-    else (if bytes_eq name (codes "check") then Check
-    else (if bytes_eq name (codes "print") then Print else Bad)))
+    (has_flag (codes "framed") options) (has_flag (codes "json") options) (first_of (codes "store") options)
+    else (if bytes_eq name (codes "check") then ToCheck
+    else (if bytes_eq name (codes "print") then ToPrint
+    else file_command_named name (first_of (codes "file") options))))
 
 -- the command that was met, with its matches
-abbrev pub command_of : Option (Text × List Row) → Asked
-command_of None = Bad
+abbrev pub command_of : Option (Text × List Row) → Asks
+command_of None = Nothing
 command_of (Some met) = command_named met.0 met.1
 
 -- the command that the words name, where `clap` takes them
-abbrev pub command_in : List Text → Asked
+abbrev pub command_in : List Text → Asks
 command_in words = command_of (subcommand_of scene_line words)
 
--- a help text is asked for
-abbrev pub IsHelp : Asked → Type 0
-IsHelp (Help text) = ⊤
-IsHelp _ = ⊥
-
 -- a command line on which `clap` gives an error of this kind asks for this: for help, or else it is bad
-abbrev pub AnswersKind : ErrorKind → Asked → Type 0
-AnswersKind DisplayHelp asked = IsHelp asked
-AnswersKind _ asked = asked ≡ Bad
+abbrev pub by_kind : ErrorKind → Asks
+by_kind DisplayHelp = ToHelp
+by_kind _ = Nothing
 
 -- one of the kinds means this
-abbrev pub AnswersOneOf : Kinds → Asked → Type 0
-AnswersOneOf [] asked = ⊥
-AnswersOneOf (kind ∷ kinds) asked = AnswersKind kind asked ⊎ AnswersOneOf kinds asked
+abbrev pub AnswersOneOf : Kinds → Asks → Type 0
+AnswersOneOf [] asks = ⊥
+AnswersOneOf (kind ∷ kinds) asks = (asks ≡ by_kind kind) ⊎ AnswersOneOf kinds asks
 
 -- where `clap` refuses a command line by one of these kinds, it asks for what the kind means, and else for the command
-abbrev pub Answers : Kinds → Asked → Asked → Type 0
-Answers [] command asked = asked ≡ command
-Answers (kind ∷ kinds) command asked = AnswersOneOf (kind ∷ kinds) asked
+abbrev pub Answers : Kinds → Asks → Asks → Type 0
+Answers [] command asks = asks ≡ command
+Answers (kind ∷ kinds) command asks = AnswersOneOf (kind ∷ kinds) asks
 
 -- what the words of a command line ask for, the program's own name first
-abbrev pub AsksFor : Asked → List Text → Type 0
-AsksFor asked words = Answers (fault_of scene_line words) (command_in words) asked
+abbrev pub AsksFor : Asks → List Text → Type 0
+AsksFor asks words = Answers (fault_of scene_line words) (command_in words) asks

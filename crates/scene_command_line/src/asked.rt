@@ -1,6 +1,9 @@
 //! What a command line asks for.
-ghost use Rattle.std.specs.Prelude.{◌≡◌, option_map};
-ghost use Rattle.scene_command_line.specs.Words.{depth_given, number_to, run_asked, shell_asked, workers_given};
+ghost use Rattle.std.specs.Prelude.{◌≡◌, IfOk, option_map, string_bytes};
+ghost use Rattle.scene_command_line.specs.Asks.{ToCompact, ToLog, ToShow, asks_of};
+ghost use Rattle.scene_command_line.specs.Words.{depth_given, file_asked, file_given, file_in, number_to, run_asked, shell_asked, shell_by, workers_given};
+
+use std::alloc::{AllocError, Global};
 
 /// How many workers an advance has at most.
 const MOST_WORKERS: u8 = 16;
@@ -19,6 +22,12 @@ pub enum Asked {
     Check,
     /// `scene print`: to show the scene of the scene text on standard input.
     Print,
+    /// `scene show FILE`: to show the world of the store in this file.
+    Show(String),
+    /// `scene log FILE`: to tell what the lines of the store in this file have done.
+    Log(String),
+    /// `scene compact FILE`: to make the store in this file shorter.
+    Compact(String),
     /// `scene --help` and its kin: to print this help text.
     Help(String),
     /// Nothing, since the command line is bad.
@@ -26,14 +35,19 @@ pub enum Asked {
 }
 
 /// How a shell is asked for.
-#[derive(Clone, Copy, Debug, PartialEq, Eq)]
+#[derive(Debug, Drop)]
 pub struct ShellWords {
     /// `--workers N`: how many threads work on an advance, 1 to 16, and 1 without the option.
     pub workers: u8,
-    /// `--depth N`: of how many frames a record is kept, 1 to 1,048,576, and the most of them without the option.
+    /// `--depth N`: of how many frames a record is kept, 1 to 1,048,576, and the most of them without the option. No
+    /// store is named beside it, since a store tells its depth itself.
     pub depth: u32,
     /// `--framed`: whether each answer ends with an empty line.
     pub is_framed: bool,
+    /// `--json`: whether each answer is JSON.
+    pub is_json: bool,
+    /// `--store FILE`: the file that keeps the lines, whose name isn't empty. Without the option no file does.
+    pub store: Option<String>,
 }
 
 /// The number of workers that a word is, 1 to 16.
@@ -62,6 +76,13 @@ fn depth_in(word: &str) -> Option<u32>
     }
 }
 
+/// The name of a file that a word is: any word but the empty one.
+fn file_in(word: &str) -> Option<&str>
+    ensures { option_map (λ w. w.now) result ≡ file_in word.now }
+{
+    if word.is_empty() { None } else { Some(word) }
+}
+
 /// The number of workers that a word says, if one does, and else one.
 fn workers_given(word: Option<&str>) -> Option<u8>
     ensures { result ≡ workers_given (option_map (λ w. w.now) word.entry) }
@@ -82,9 +103,22 @@ fn depth_given(word: Option<&str>) -> Option<u32>
     }
 }
 
+/// The file that a word names, if one does. It is refused only for want of memory.
+fn file_given(alloc: Global, word: Option<&str>) -> Result<Option<String>, AllocError>
+    ensures { IfOk result (λ file. option_map string_bytes file ≡ file_given (option_map (λ w. w.now) word.entry)) }
+{
+    match word {
+        Some(word) => match file_in(word) {
+            Some(name) => Ok(Some(String::from_str(alloc, name)?)),
+            None => Ok(None),
+        },
+        None => Ok(None),
+    }
+}
+
 /// A run with the workers that a word says, if one does.
 pub(crate) fn run_asked(workers: Option<&str>) -> Asked
-    ensures { result ≡ run_asked (option_map (λ w. w.now) workers.entry) }
+    ensures { asks_of result ≡ run_asked (option_map (λ w. w.now) workers.entry) }
 {
     match workers_given(workers) {
         Some(workers) => Asked::Run(workers),
@@ -92,16 +126,79 @@ pub(crate) fn run_asked(workers: Option<&str>) -> Asked
     }
 }
 
-/// A shell with the workers and the depth that words say, if words do.
-pub(crate) fn shell_asked(workers: Option<&str>, depth: Option<&str>, is_framed: bool) -> Asked
-    ensures { result ≡ shell_asked (option_map (λ w. w.now) workers.entry) (option_map (λ w. w.now) depth.entry) is_framed }
+/// A shell with these workers and this depth, where both are numbers that it may have.
+fn shell_by(
+    workers: Option<u8>,
+    depth: Option<u32>,
+    is_framed: bool,
+    is_json: bool,
+    store: Option<String>,
+) -> Asked
+    ensures { asks_of result ≡ shell_by workers depth is_framed is_json (option_map string_bytes store) }
 {
-    match (workers_given(workers), depth_given(depth)) {
+    match (workers, depth) {
         (Some(workers), Some(depth)) => Asked::Shell(ShellWords {
             workers,
             depth,
             is_framed,
+            is_json,
+            store,
         }),
         _ => Asked::Bad,
+    }
+}
+
+/// A shell with the workers, the depth and the store that words say, if words do. A depth beside a store is bad. It is
+/// refused only for want of memory.
+pub(crate) fn shell_asked(
+    alloc: Global,
+    workers: Option<&str>,
+    depth: Option<&str>,
+    is_framed: bool,
+    is_json: bool,
+    store: Option<&str>,
+) -> Result<Asked, AllocError>
+    ensures { IfOk result (λ asked. asks_of asked ≡ shell_asked (option_map (λ w. w.now) workers.entry)
+        (option_map (λ w. w.now) depth.entry) is_framed is_json (option_map (λ w. w.now) store.entry)) }
+{
+    let workers = workers_given(workers);
+    match (store, depth) {
+        (None, depth) => Ok(shell_by(workers, depth_given(depth), is_framed, is_json, None)),
+        (Some(_), Some(_)) => Ok(Asked::Bad),
+        (Some(_), None) => match file_given(alloc, store)? {
+            Some(file) => Ok(shell_by(workers, depth_given(None), is_framed, is_json, Some(file))),
+            None => Ok(Asked::Bad),
+        },
+    }
+}
+
+/// The world of a store in the file that a word names, if one does. It is refused only for want of memory.
+pub(crate) fn show_asked(alloc: Global, file: Option<&str>) -> Result<Asked, AllocError>
+    ensures { IfOk result (λ asked. asks_of asked ≡ file_asked ToShow (option_map (λ w. w.now) file.entry)) }
+{
+    match file_given(alloc, file)? {
+        Some(file) => Ok(Asked::Show(file)),
+        None => Ok(Asked::Bad),
+    }
+}
+
+/// What the lines of a store have done, in the file that a word names, if one does. It is refused only for want of
+/// memory.
+pub(crate) fn log_asked(alloc: Global, file: Option<&str>) -> Result<Asked, AllocError>
+    ensures { IfOk result (λ asked. asks_of asked ≡ file_asked ToLog (option_map (λ w. w.now) file.entry)) }
+{
+    match file_given(alloc, file)? {
+        Some(file) => Ok(Asked::Log(file)),
+        None => Ok(Asked::Bad),
+    }
+}
+
+/// A shorter store in the file that a word names, if one does. It is refused only for want of memory.
+pub(crate) fn compact_asked(alloc: Global, file: Option<&str>) -> Result<Asked, AllocError>
+    ensures { IfOk result (λ asked. asks_of asked ≡ file_asked ToCompact (option_map (λ w. w.now) file.entry)) }
+{
+    match file_given(alloc, file)? {
+        Some(file) => Ok(Asked::Compact(file)),
+        None => Ok(Asked::Bad),
     }
 }

@@ -15,6 +15,8 @@ pub enum Mistake {
     TakesWorkers,
     /// The word is `shell`, and what follows it is neither good options of it nor asks for help.
     TakesShellOptions,
+    /// The word is `show`, `log` or `compact`, and what follows it is neither the name of one file nor asks for help.
+    TakesFile,
     /// The word is another command's name, and something follows it.
     TakesNoWord,
     /// The word begins with a hyphen.
@@ -38,6 +40,7 @@ fn mistake_of(word: &str) -> Mistake
     match word {
         "run" => Mistake::TakesWorkers,
         "shell" => Mistake::TakesShellOptions,
+        "show" | "log" | "compact" => Mistake::TakesFile,
         "check" | "print" => Mistake::TakesNoWord,
         "help" => Mistake::HelpOfNoCommand,
         _ if word.starts_with('-') => Mistake::NoOption,
@@ -80,7 +83,13 @@ impl<'a> fmt::Display for BadWords<'a> {
                 return write!(
                     f,
                     "{word} takes no word but --workers N, where N is 1 to 16, --depth N, where N is 1 to 1,048,576, \
-                     --framed and --help"
+                     --framed, --json, --store FILE in place of --depth, and --help"
+                );
+            }
+            Mistake::TakesFile => {
+                return write!(
+                    f,
+                    "{word} takes the name of a store's file, and no other word but --help"
                 );
             }
             Mistake::TakesNoWord => return write!(f, "{word} takes no word but --help"),
@@ -91,6 +100,9 @@ impl<'a> fmt::Display for BadWords<'a> {
             Mistake::NoSuchCommand if is_shown => write!(f, "no command is named {word}")?,
             _ => write!(f, "no command has this name")?,
         }
-        write!(f, "; there are run, shell, check and print")
+        write!(
+            f,
+            "; there are run, shell, check, print, show, log and compact"
+        )
     }
 }

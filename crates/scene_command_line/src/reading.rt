@@ -4,10 +4,11 @@ ghost use Rattle.clap.specs.Words.{app_of, found_of, kind_of, rows_of, rule_of, 
 ghost use Rattle.clap.specs.declared.builder.command.Command.TheViews.{out-Command as fields_of};
 ghost use Rattle.clap.specs.Simple.{new_shape};
 ghost use Rattle.clap.specs.declared.error.kind.ErrorKind.TheVariants.{OutOfMemory};
-ghost use Rattle.scene_command_line.specs.Plain.{are_plain, asks_for_help, asks_for_shell, asks_for_workers, plainly_asked, shell_words_asked, workers_asked};
-ghost use Rattle.scene_command_line.specs.Words.{AnswersKind, AsksFor, IsHelp, command_named, command_of, flag_rule, has_flag, option_rule, run_shape, scene_line, shell_shape, workers_rule};
+ghost use Rattle.scene_command_line.specs.Asks.{ToHelp, asks_of};
+ghost use Rattle.scene_command_line.specs.Plain.{AsksForShell, are_plain, asks_for_file, asks_for_help, asks_for_workers, plainly_asked, workers_asked};
+ghost use Rattle.scene_command_line.specs.Words.{AsksFor, by_kind, command_named, command_of, file_rule, file_shape, flag_rule, has_flag, line_without_file, option_rule, run_shape, scene_line, shell_shape, workers_rule};
 
-use crate::asked::{Asked, run_asked, shell_asked};
+use crate::asked::{Asked, compact_asked, log_asked, run_asked, shell_asked, show_asked};
 use crate::texts;
 use clap::error::ErrorKind;
 use clap::{Arg, ArgAction, ArgMatches, Command, Error};
@@ -21,15 +22,15 @@ fn command<'a>(alloc: Global, name: &'a str, about: &'a str, more: &'a str) -> C
     Command::new(alloc, name).about(about).after_help(more)
 }
 
-/// An option that takes one word, a number.
-fn option<'a>(alloc: Global, name: &'a str, help: &'a str) -> Arg<'a>
+/// An option that takes one word, which the help text calls `value`.
+fn option<'a>(alloc: Global, name: &'a str, value: &'a str, help: &'a str) -> Arg<'a>
     ensures rule { rule_of result ≡ option_rule name.entry.now }
     ensures local { result.global ≡ false }
 {
     Arg::new(alloc, name)
         .long(name)
         .action(ArgAction::Set)
-        .value_name("N")
+        .value_name(value)
         .help(help)
 }
 
@@ -49,7 +50,7 @@ fn workers_option<'a>(alloc: Global) -> Arg<'a>
     ensures rule { rule_of result ≡ workers_rule }
     ensures local { result.global ≡ false }
 {
-    option(alloc, "workers", texts::WORKERS)
+    option(alloc, "workers", "N", texts::WORKERS)
 }
 
 /// The command `run` with its option.
@@ -67,13 +68,40 @@ fn shell_command<'a>(alloc: Global) -> Result<Command<'a>, AllocError>
 {
     command(alloc, "shell", texts::SHELL, texts::SHELL_MORE)
         .arg(workers_option(alloc))?
-        .arg(option(alloc, "depth", texts::DEPTH))?
-        .arg(flag(alloc, "framed", texts::FRAMED))
+        .arg(option(alloc, "depth", "N", texts::DEPTH))?
+        .arg(flag(alloc, "framed", texts::FRAMED))?
+        .arg(flag(alloc, "json", texts::JSON))?
+        .arg(option(alloc, "store", "FILE", texts::STORE))
 }
 
-/// The commands of the program, as `clap` reads them.
-fn commands<'a>(alloc: Global) -> Result<Command<'a>, AllocError>
-    ensures { IfOk result (λ c. app_of c ≡ scene_line) }
+/// The name of a store's file, a word that has to be given.
+fn file_argument<'a>(alloc: Global) -> Arg<'a>
+    ensures rule { rule_of result ≡ file_rule }
+    ensures local { result.global ≡ false }
+{
+    Arg::new(alloc, "file")
+        .required(true)
+        .action(ArgAction::Set)
+        .value_name("FILE")
+        .help(texts::FILE)
+}
+
+/// A command with its help texts, which takes the name of a store's file.
+fn file_command<'a>(
+    alloc: Global,
+    name: &'a str,
+    about: &'a str,
+    more: &'a str,
+) -> Result<Command<'a>, AllocError>
+    ensures shape { IfOk result (λ c. shape_of c ≡ file_shape name.entry.now) }
+    ensures local { IfOk result (λ c. (fields_of c).has_globals ≡ false) }
+{
+    command(alloc, name, about, more).arg(file_argument(alloc))
+}
+
+/// The commands that no file follows, as `clap` reads them.
+fn commands_without_file<'a>(alloc: Global) -> Result<Command<'a>, AllocError>
+    ensures { IfOk result (λ c. app_of c ≡ line_without_file) }
 {
     let run = run_command(alloc)?;
     let shell = shell_command(alloc)?;
@@ -88,6 +116,19 @@ fn commands<'a>(alloc: Global) -> Result<Command<'a>, AllocError>
         .subcommand(command(alloc, "print", texts::PRINT, texts::PRINT_MORE))
 }
 
+/// The commands of the program, as `clap` reads them.
+fn commands<'a>(alloc: Global) -> Result<Command<'a>, AllocError>
+    ensures { IfOk result (λ c. app_of c ≡ scene_line) }
+{
+    let show = file_command(alloc, "show", texts::SHOW, texts::SHOW_MORE)?;
+    let log = file_command(alloc, "log", texts::LOG, texts::LOG_MORE)?;
+    let compact = file_command(alloc, "compact", texts::COMPACT, texts::COMPACT_MORE)?;
+    commands_without_file(alloc)?
+        .subcommand(show)?
+        .subcommand(log)?
+        .subcommand(compact)
+}
+
 /// Whether the flag of this name is given.
 fn has_flag(options: &ArgMatches<'_>, name: &str) -> bool
     ensures { result ≡ has_flag name.now (rows_of (found_of options.now)) }
@@ -95,36 +136,42 @@ fn has_flag(options: &ArgMatches<'_>, name: &str) -> bool
     options.get_one::<bool>(name).unwrap_or(false)
 }
 
-/// The command of this name, with its options.
-fn command_named(name: &str, options: &ArgMatches<'_>) -> Asked
-    ensures { result ≡ command_named name.now (rows_of (found_of options.now)) }
+/// The command of this name, with its options. It is refused only for want of memory.
+fn command_named(alloc: Global, name: &str, options: &ArgMatches<'_>) -> Result<Asked, AllocError>
+    ensures { IfOk result (λ asked. asks_of asked ≡ command_named name.now (rows_of (found_of options.now))) }
 {
     match name {
-        "run" => run_asked(options.get_str("workers")),
+        "run" => Ok(run_asked(options.get_str("workers"))),
         "shell" => shell_asked(
+            alloc,
             options.get_str("workers"),
             options.get_str("depth"),
             has_flag(options, "framed"),
+            has_flag(options, "json"),
+            options.get_str("store"),
         ),
-        "check" => Asked::Check,
-        "print" => Asked::Print,
-        _ => Asked::Bad,
+        "check" => Ok(Asked::Check),
+        "print" => Ok(Asked::Print),
+        "show" => show_asked(alloc, options.get_str("file")),
+        "log" => log_asked(alloc, options.get_str("file")),
+        "compact" => compact_asked(alloc, options.get_str("file")),
+        _ => Ok(Asked::Bad),
     }
 }
 
-/// The command whose name stands among the words.
-fn command_met(matches: &ArgMatches<'_>) -> Asked
-    ensures { result ≡ command_of (subcommand_rows_of matches.now) }
+/// The command whose name stands among the words. It is refused only for want of memory.
+fn command_met(alloc: Global, matches: &ArgMatches<'_>) -> Result<Asked, AllocError>
+    ensures { IfOk result (λ asked. asks_of asked ≡ command_of (subcommand_rows_of matches.now)) }
 {
     match matches.subcommand() {
-        Some((name, options)) => command_named(name, options),
-        None => Asked::Bad,
+        Some((name, options)) => command_named(alloc, name, options),
+        None => Ok(Asked::Bad),
     }
 }
 
-/// What the words ask for where `clap` finds no command in them.
+/// What the words ask for where `clap` finds no command in them. It is refused only for want of memory.
 fn without_command(alloc: Global, error: &Error) -> Result<Asked, AllocError>
-    ensures asked { IfOk result (AnswersKind (kind_of error.now)) }
+    ensures asked { IfOk result (λ asked. asks_of asked ≡ by_kind (kind_of error.now)) }
     ensures memory { kind_of error.now ≡ OutOfMemory → IsErr result }
 {
     match error.kind() {
@@ -137,18 +184,19 @@ fn without_command(alloc: Global, error: &Error) -> Result<Asked, AllocError>
 /// What the words of a command line ask for, the program's own name first (docs/SCRIPTS.md, "Command line"). It is
 /// refused only for want of memory, and costs as much as the library takes to look through the words.
 pub fn read_words<'a>(alloc: Global, words: &'a [String]) -> Result<Asked, AllocError>
-    ensures asked { IfOk result (λ asked. AsksFor asked (map string_bytes words.now)) }
+    ensures asked { IfOk result (λ asked. AsksFor (asks_of asked) (map string_bytes words.now)) }
     ensures plain { are_plain (map string_bytes words.now) ≡ true
-        → IfOk result (λ asked. asked ≡ plainly_asked (map string_bytes words.now)) }
+        → IfOk result (λ asked. asks_of asked ≡ plainly_asked (map string_bytes words.now)) }
     ensures workers { asks_for_workers (map string_bytes words.now) ≡ true
-        → IfOk result (λ asked. asked ≡ workers_asked (map string_bytes words.now)) }
-    ensures shell { asks_for_shell (map string_bytes words.now) ≡ true
-        → IfOk result (λ asked. asked ≡ shell_words_asked (map string_bytes words.now)) }
-    ensures help { asks_for_help (map string_bytes words.now) ≡ true → IfOk result IsHelp }
+        → IfOk result (λ asked. asks_of asked ≡ workers_asked (map string_bytes words.now)) }
+    ensures shell { IfOk result (λ asked. AsksForShell (asks_of asked) (map string_bytes words.now)) }
+    ensures file { asks_for_file (map string_bytes words.now) ≡ true
+        → IfOk result (λ asked. asks_of asked ≡ plainly_asked (map string_bytes words.now)) }
+    ensures help { asks_for_help (map string_bytes words.now) ≡ true → IfOk result (λ asked. asks_of asked ≡ ToHelp) }
 {
     let commands = commands(alloc)?;
     match commands.try_get_matches_from(words) {
-        Ok(matches) => Ok(command_met(&matches)),
+        Ok(matches) => command_met(alloc, &matches),
         Err(error) => without_command(alloc, &error),
     }
 }

@@ -2,11 +2,12 @@
 
 /// What the program is.
 pub(crate) const PROGRAM: &str =
-    "Plays scripts of commands on a world of entities, with undo, and looks at saved scenes";
+    "Plays scripts of commands on a world of entities, with undo, and looks at saved scenes and stores";
 
 /// What all commands have in common.
 pub(crate) const PROGRAM_MORE: &str = "\
-Each command prints on standard output. `shell` answers standard input line by line; the others read it to its end.
+Each command prints on standard output. `shell` answers standard input line by line; `run`, `check` and `print` read it
+to its end; `show`, `log` and `compact` read the file of a store.
 
 Exit status:
   0  all went well
@@ -40,6 +41,11 @@ pub(crate) const DEPTH: &str = "Of how many frames a record is kept, 1 to 1,048,
 
 pub(crate) const FRAMED: &str = "Ends each answer with an empty line";
 
+pub(crate) const JSON: &str = "Answers each line by a line of JSON";
+
+pub(crate) const STORE: &str =
+    "Keeps what the lines do in this file, and begins with what it keeps; not beside --depth";
+
 pub(crate) const CHECK: &str = "Says whether the scene text on standard input is good";
 
 pub(crate) const CHECK_MORE: &str = "\
@@ -55,3 +61,23 @@ Prints the lines that `show` prints in a script, or else the first fault as `fau
 then 1.
 
 docs/SCENE_FILES.md explains scene texts and their faults, and docs/SCRIPTS.md the lines of `show`.";
+
+pub(crate) const FILE: &str = "The file of the store, as `shell --store` makes it";
+
+pub(crate) const SHOW: &str = "Shows the world that a store keeps";
+
+pub(crate) const SHOW_MORE: &str = "\
+Prints the lines that `show` prints in a script. The store itself stays as it is.
+
+docs/SHELL.md explains stores, and docs/SCRIPTS.md the lines of `show`.";
+
+pub(crate) const LOG: &str = "Tells what the lines that a store keeps have done";
+
+pub(crate) const LOG_MORE: &str = "\
+The store itself stays as it is.
+
+docs/SHELL.md explains stores.";
+
+pub(crate) const COMPACT: &str = "Makes the file of a store shorter; its world stays";
+
+pub(crate) const COMPACT_MORE: &str = "docs/SHELL.md explains stores.";

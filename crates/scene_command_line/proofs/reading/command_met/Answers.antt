@@ -1,4 +1,5 @@
 use Rattle.std.proofs.Common.{◌≡◌, ◌∙◌, Some, sym, option_map}
+use Rattle.std.proofs.lemmas.Result.{IfOk-weaker}
 use Rattle.clap.specs.Words.{found_of, rows_of, subcommand_rows_of}
 use Rattle.clap.specs.declared.parser.matches.ArgMatches.TheViews.{out-ArgMatches}
 use Rattle.scene_command_line.proofs.Answered.{met_by_parts, named_by_rows}
@@ -12,4 +13,5 @@ returns-in-Some c =
     let named : option_map (λ p. p.0) met ≡ Some name =
     named_by_rows (out-ArgMatches c.args.matches.now).subcommand ∙ sym c.in-Some.ensures.name in
     let rows : option_map (λ p. p.1) met ≡ Some options = sym c.in-Some.ensures.rows in
-    c.command_named.ensures ∙ sym (met_by_parts met name options named rows)
+    IfOk-weaker c.command_named.result _ _
+    (λ asked is. is ∙ sym (met_by_parts met name options named rows)) c.command_named.ensures

@@ -1,0 +1,187 @@
+-- What `clap` makes of the words behind a command's name: what the command makes of them alone.
+use Rattle.std.proofs.Common.{◌≡◌, ◌∙◌, Bool, true, false, Some, None, List, inl, inr, refl, sym, ap, subst, codes, [], ◌∷◌}
+use Rattle.std.specs.Prelude.{fold, find, is_some, option_map}
+use Rattle.std.specs.Option.{option_map_or}
+use Rattle.std.specs.Str.{bytes_eq}
+use Rattle.clap.specs.Words.{App, Kinds, Row, Shape, Text, fault_of, built}
+use Rattle.clap.specs.Kinds.{or_else}
+use Rattle.clap.specs.Simple.{built_leaf, entered, label_of, names_of, new_shape, rows_at}
+use Rattle.clap.specs.Walk.{Held, Names, Walk, answers_to, finished, nothing_held, rows_after, settled, walk, walk_from, walked}
+use Rattle.clap.specs.Faults.{built_fault, check_fault, defaults_fault, entered_fault, level_fault, settle_fault, turn_fault, walk_fault}
+use Rattle.clap.specs.Lexer.{long_of, short_of}
+use Rattle.clap.specs.declared.error.kind.ErrorKind.{ErrorKind}
+use Rattle.clap.proofs.FaultLemmas.{past, stopped_fault}
+use Rattle.clap.proofs.OnLiterals.{clap_on_literals}
+use Rattle.clap.proofs.WalkLemmas.{walk_stopped}
+use Rattle.scene_command_line.specs.Asks.{Asks, Nothing}
+use Rattle.scene_command_line.specs.Plain.{is_option}
+use Rattle.scene_command_line.specs.Words.{Answers, by_kind, command_in, command_named, command_of, file_shape, run_shape, scene_line, shell_shape}
+
+-- ---- words that are no options
+
+pub no_dashes : (word : Text) → is_option word ≡ false → bytes_eq word (45 ∷ 45 ∷ []) ≡ false
+no_dashes [] plain = refl
+no_dashes (x ∷ xs) plain = rw plain refl
+
+pub no_long : (word : Text) → is_option word ≡ false → long_of word ≡ None
+no_long [] plain = refl
+no_long (x ∷ xs) plain = rw plain refl
+
+pub no_short : (word : Text) → is_option word ≡ false → short_of word ≡ None
+no_short [] plain = refl
+no_short (x ∷ xs) plain = rw plain refl
+
+-- ---- answers at which `clap` takes the words, and at which it refuses them
+
+pub taken : (kinds : Kinds) (command named asks : Asks) → kinds ≡ [] → command ≡ named → Answers kinds command asks
+    → asks ≡ named
+taken kinds command named asks none is means = subst (λ (ks : Kinds). Answers ks command asks) none means ∙ is
+
+pub answered_once : (kinds : Kinds) (command asks : Asks) (kind : ErrorKind) → kinds ≡ kind ∷ []
+    → Answers kinds command asks
+    → asks ≡ by_kind kind
+answered_once kinds command asks kind one means =
+    elim (subst (λ (ks : Kinds). Answers ks command asks) one means) [ inl is ↦ is | inr none ↦ absurd none ]
+
+pub refused_once : (kinds : Kinds) (command asks : Asks) (kind : ErrorKind) → by_kind kind ≡ Nothing → kinds ≡ kind ∷ []
+    → Answers kinds command asks → asks ≡ Nothing
+refused_once kinds command asks kind bad one means = answered_once kinds command asks kind one means ∙ bad
+
+-- ---- one level of a parse
+
+abbrev pub start : Walk
+start = walk_from nothing_held
+
+pub or_nothing : (kinds : Kinds) → or_else kinds [] ≡ kinds
+or_nothing [] = refl
+or_nothing (k ∷ ks) = refl
+
+-- where the first word fails
+pub level_first : (s : Shape) (names : Names) (word : Text) (rest : List Text) (has : Bool) (below : Kinds)
+    (k : ErrorKind) (ks : Kinds)
+    → turn_fault s names start word ≡ k ∷ ks → level_fault s names nothing_held (word ∷ rest) has below ≡ k ∷ ks
+unfolding walk_fault
+level_first s names word rest has below k ks first = rw first refl
+
+-- where the second one does
+pub level_second : (s : Shape) (word next : Text) (rest : List Text) (k : ErrorKind) (ks : Kinds)
+    → turn_fault s [] start word ≡ []
+    → turn_fault s [] (walked s.rules [] start word) next ≡ k ∷ ks
+    → level_fault s [] nothing_held (word ∷ next ∷ rest) false [] ≡ k ∷ ks
+unfolding walk_fault
+level_second s word next rest k ks first second = rw (first, second) refl
+
+-- a built program, and one of its commands, which its name enters
+module _ (a : App) (command : Text) (s : Shape)
+    (enters : walked a.top.rules (names_of a) start command ≡ record start { stopped = Some (command, []) })
+    (passes : turn_fault a.top (names_of a) start command ≡ [])
+    (is_one : find (λ sub. answers_to command (label_of sub)) a.subs ≡ Some s) where
+  abbrev last : Bool → Held → Kinds
+  last has_sub end =
+      or_else (settle_fault a.top.rules a.top.args_override_self end)
+      (or_else (defaults_fault (settled a.top.rules end).rows a.top.rules)
+      (check_fault a.top (finished a.top.rules end) has_sub))
+
+  abbrev after : Walk → Kinds
+  after w = or_else (entered_fault a w.stopped) (last (is_some (entered a w.stopped)) w.held)
+
+  stops : (words : List Text)
+      → ◌≡◌ {A = Walk} (walk a.top.rules (names_of a) nothing_held (command ∷ words))
+      (record start { stopped = Some (command, words) })
+  stops words =
+      ap (λ (w : Walk). fold (walked a.top.rules (names_of a)) w words) enters
+      ∙ sym (walk_stopped a.top.rules (names_of a) start command [] words)
+
+  walks : (words : List Text) → walk_fault a.top (names_of a) start (command ∷ words) ≡ []
+  unfolding walk_fault
+  walks words =
+      let later : walk_fault a.top (names_of a) (walked a.top.rules (names_of a) start command) words ≡ [] =
+      ap (λ (w : Walk). walk_fault a.top (names_of a) w words) enters
+      ∙ stopped_fault a.top (names_of a) start (command, []) words in
+      past _ _ passes ∙ later
+
+  -- the words fail as they fail at the command
+  pub entered_level : last true nothing_held ≡ [] → (words : List Text)
+      → built_fault a nothing_held (command ∷ words) ≡ level_fault s [] nothing_held words false []
+  entered_level ends words =
+      past _ (after (walk a.top.rules (names_of a) nothing_held (command ∷ words))) (walks words)
+      ∙ (ap after (stops words)
+      ∙ (ap (λ found. or_else (option_map_or (λ sub. level_fault sub [] nothing_held words false []) found [])
+      (last (is_some (option_map (λ sub. rows_at sub words) found)) nothing_held)) is_one
+      ∙ (ap (or_else (level_fault s [] nothing_held words false [])) ends ∙ or_nothing _)))
+
+  -- the words give the command the matches that they give it alone
+  pub entered_rows : (words : List Text)
+      → entered a (walk a.top.rules (names_of a) nothing_held (command ∷ words)).stopped ≡ Some (rows_at s words)
+  entered_rows words =
+      ap (λ (w : Walk). entered a w.stopped) (stops words) ∙ ap (option_map (λ sub. rows_at sub words)) is_one
+
+-- ---- the program's commands
+
+abbrev pub line : App
+line = built scene_line
+
+-- how a command fails at words
+abbrev pub leaf_fault : Shape → List Text → Kinds
+leaf_fault s words = level_fault (built_leaf s) [] nothing_held words false []
+
+-- what a command has of words
+abbrev pub leaf_rows : Shape → List Text → List Row
+leaf_rows s words = rows_after (built_leaf s).rules [] words
+
+module _ (name : Text) (words : List Text) where
+  pub run_fails : fault_of scene_line (name ∷ codes "run" ∷ words) ≡ leaf_fault run_shape words
+  unfolding clap_on_literals
+  run_fails = entered_level line (codes "run") (built_leaf run_shape) refl refl refl refl words
+
+  pub run_in : command_in (name ∷ codes "run" ∷ words) ≡ command_named (codes "run") (leaf_rows run_shape words)
+  unfolding clap_on_literals
+  run_in = ap command_of (entered_rows line (codes "run") (built_leaf run_shape) refl refl refl words)
+
+  pub shell_fails : fault_of scene_line (name ∷ codes "shell" ∷ words) ≡ leaf_fault shell_shape words
+  unfolding clap_on_literals
+  shell_fails = entered_level line (codes "shell") (built_leaf shell_shape) refl refl refl refl words
+
+  pub shell_in : command_in (name ∷ codes "shell" ∷ words) ≡ command_named (codes "shell") (leaf_rows shell_shape words)
+  unfolding clap_on_literals
+  shell_in = ap command_of (entered_rows line (codes "shell") (built_leaf shell_shape) refl refl refl words)
+
+  pub check_fails : fault_of scene_line (name ∷ codes "check" ∷ words) ≡ leaf_fault (new_shape (codes "check")) words
+  unfolding clap_on_literals
+  check_fails = entered_level line (codes "check") (built_leaf (new_shape (codes "check"))) refl refl refl refl words
+
+  pub print_fails : fault_of scene_line (name ∷ codes "print" ∷ words) ≡ leaf_fault (new_shape (codes "print")) words
+  unfolding clap_on_literals
+  print_fails = entered_level line (codes "print") (built_leaf (new_shape (codes "print"))) refl refl refl refl words
+
+  pub show_fails : fault_of scene_line (name ∷ codes "show" ∷ words) ≡ leaf_fault (file_shape (codes "show")) words
+  unfolding clap_on_literals
+  show_fails = entered_level line (codes "show") (built_leaf (file_shape (codes "show"))) refl refl refl refl words
+
+  pub show_in : command_in (name ∷ codes "show" ∷ words)
+      ≡ command_named (codes "show") (leaf_rows (file_shape (codes "show")) words)
+  unfolding clap_on_literals
+  show_in =
+      ap command_of (entered_rows line (codes "show") (built_leaf (file_shape (codes "show"))) refl refl refl words)
+
+  pub log_fails : fault_of scene_line (name ∷ codes "log" ∷ words) ≡ leaf_fault (file_shape (codes "log")) words
+  unfolding clap_on_literals
+  log_fails = entered_level line (codes "log") (built_leaf (file_shape (codes "log"))) refl refl refl refl words
+
+  pub log_in : command_in (name ∷ codes "log" ∷ words)
+      ≡ command_named (codes "log") (leaf_rows (file_shape (codes "log")) words)
+  unfolding clap_on_literals
+  log_in = ap command_of (entered_rows line (codes "log") (built_leaf (file_shape (codes "log"))) refl refl refl words)
+
+  pub compact_fails : fault_of scene_line (name ∷ codes "compact" ∷ words)
+      ≡ leaf_fault (file_shape (codes "compact")) words
+  unfolding clap_on_literals
+  compact_fails =
+      entered_level line (codes "compact") (built_leaf (file_shape (codes "compact"))) refl refl refl refl words
+
+  pub compact_in : command_in (name ∷ codes "compact" ∷ words)
+      ≡ command_named (codes "compact") (leaf_rows (file_shape (codes "compact")) words)
+  unfolding clap_on_literals
+  compact_in =
+      ap command_of
+      (entered_rows line (codes "compact") (built_leaf (file_shape (codes "compact"))) refl refl refl words)

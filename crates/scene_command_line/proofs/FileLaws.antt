@@ -1,0 +1,113 @@
+-- What `clap` makes of a command line with a command that takes the name of a file.
+use Rattle.std.proofs.Common.{◌≡◌, ◌∙◌, ℕ, true, false, Some, List, refl, sym, ap, codes, [], ◌∷◌}
+use Rattle.std.specs.Option.{option_map_or}
+use Rattle.std.proofs.lemmas.Bool.{and_parts, false≢true, not-true}
+use Rattle.clap.specs.Words.{Rule, Shape, Text, fault_of, first_of}
+use Rattle.clap.specs.Simple.{built_leaf}
+use Rattle.clap.specs.Walk.{Walk, arg_by_index, nothing_held, to_positional, walk_from, walked}
+use Rattle.clap.specs.Faults.{positional_fault, stray_fault, turn_fault}
+use Rattle.clap.specs.declared.error.kind.ErrorKind.TheVariants.{MissingRequiredArgument, UnknownArgument}
+use Rattle.clap.proofs.OnLiterals.{clap_on_literals}
+use Rattle.scene_command_line.specs.Asks.{Asks, Nothing}
+use Rattle.scene_command_line.specs.Words.{AsksFor, command_in, command_named, file_command_named, file_shape, scene_line}
+use Rattle.scene_command_line.specs.Plain.{asks_for_file, is_file_command, is_option, plainly_asked}
+use Rattle.scene_command_line.proofs.CommandLaws.{by_file_command}
+use Rattle.scene_command_line.proofs.EnterLaws.{compact_fails, compact_in, leaf_fault, leaf_rows, level_second, log_fails, log_in, no_dashes, no_long, no_short, refused_once, show_fails, show_in, start, taken}
+
+-- ---- words of a command that takes a file
+
+-- a word that is no option goes to the positional whose turn it is, if there is one
+module _ (word : Text) (plain : is_option word ≡ false) (position : ℕ) where
+  abbrev at : Walk → Walk
+  at w = record w { position = position }
+
+  word_walked : (c : List Rule) (h : _)
+      → walked c [] (at (walk_from h)) word ≡ to_positional c (arg_by_index c position) word (at (walk_from h)) h
+  unfolding walked
+  word_walked c h = rw (no_dashes word plain, no_long word plain, no_short word plain) refl
+
+  word_turn : (s : Shape) (h : _) → turn_fault s [] (at (walk_from h)) word
+      ≡ option_map_or (λ a. positional_fault s.rules s.args_override_self a h) (arg_by_index s.rules position)
+      (stray_fault s)
+  word_turn s h = rw (no_dashes word plain, no_long word plain, no_short word plain) refl
+
+module _ (command : Text) where
+  abbrev leaf : Shape
+  leaf = built_leaf (file_shape command)
+
+  -- without a word the file is missing
+  no_file : leaf_fault (file_shape command) [] ≡ MissingRequiredArgument ∷ []
+  unfolding clap_on_literals
+  no_file = refl
+
+  module _ (word : Text) (plain : is_option word ≡ false) where
+    first : ◌≡◌ {A = Walk} (walked leaf.rules [] start word)
+        (to_positional leaf.rules (arg_by_index leaf.rules 1) word start nothing_held)
+    first = word_walked word plain 1 leaf.rules nothing_held
+
+    passes : turn_fault leaf [] start word ≡ []
+    passes = word_turn word plain 1 leaf nothing_held ∙ refl
+
+    -- one word is its name
+    one_file : leaf_fault (file_shape command) (word ∷ []) ≡ []
+    unfolding clap_on_literals
+    one_file = rw (no_dashes word plain, no_long word plain, no_short word plain) refl
+
+    file_named : first_of (codes "file") (leaf_rows (file_shape command) (word ∷ [])) ≡ Some word
+    unfolding clap_on_literals
+    file_named = rw (no_dashes word plain, no_long word plain, no_short word plain) refl
+
+    -- a second one is too many
+    two_words : (next : Text) (rest : List Text) → is_option next ≡ false
+        → leaf_fault (file_shape command) (word ∷ next ∷ rest) ≡ UnknownArgument ∷ []
+    two_words next rest plainly =
+        level_second leaf word next rest UnknownArgument [] passes
+        (ap (λ (w : Walk). turn_fault leaf [] w next) first ∙ word_turn next plainly 2 leaf _)
+
+-- ---- the three commands
+
+record TakesFile (command : Text) : Type 0 where
+  fails : (name : Text) (words : List Text)
+      → fault_of scene_line (name ∷ command ∷ words) ≡ leaf_fault (file_shape command) words
+  has : (name : Text) (words : List Text) → command_in (name ∷ command ∷ words)
+      ≡ file_command_named command (first_of (codes "file") (leaf_rows (file_shape command) words))
+  bare : command_named command [] ≡ Nothing
+
+takes_file : (command : Text) → is_file_command command ≡ true → TakesFile command
+takes_file command one = by_file_command TakesFile command
+    (record { fails = show_fails; has = show_in; bare = refl })
+    (record { fails = log_fails; has = log_in; bare = refl })
+    (record { fails = compact_fails; has = compact_in; bare = refl }) one
+
+module _ (command name : Text) (one : is_file_command command ≡ true) (asks : Asks) where
+  -- without a file such a command is bad
+  pub bare_answer : AsksFor asks (name ∷ command ∷ []) → asks ≡ plainly_asked (name ∷ command ∷ [])
+  bare_answer means =
+      let takes = takes_file command one in
+      refused_once _ _ asks MissingRequiredArgument refl (takes.fails name [] ∙ no_file command) means ∙ sym takes.bare
+
+  -- with one it asks for that one
+  pub named_answer : (word : Text) → is_option word ≡ false → AsksFor asks (name ∷ command ∷ word ∷ [])
+      → asks ≡ plainly_asked (name ∷ command ∷ word ∷ [])
+  named_answer word plain means =
+      let takes = takes_file command one in
+      taken _ _ _ asks (takes.fails name (word ∷ []) ∙ one_file command word plain)
+      (takes.has name (word ∷ []) ∙ ap (file_command_named command) (file_named command word plain)) means
+
+  -- and with a word more it is bad
+  pub further_answer : (word next : Text) (rest : List Text) → is_option word ≡ false → is_option next ≡ false
+      → AsksFor asks (name ∷ command ∷ word ∷ next ∷ rest) → asks ≡ Nothing
+  further_answer word next rest plain plainly means =
+      refused_once _ _ asks UnknownArgument refl
+      ((takes_file command one).fails name (word ∷ next ∷ rest) ∙ two_words command word plain next rest plainly) means
+
+-- a command line with such a command and one word that is no option asks for what it plainly asks for
+pub file_answer : (words : List Text) (asks : Asks) → asks_for_file words ≡ true → AsksFor asks words
+    → asks ≡ plainly_asked words
+file_answer [] asks is means = absurd (false≢true is)
+file_answer (name ∷ []) asks is means = absurd (false≢true is)
+file_answer (name ∷ command ∷ []) asks is means = absurd (false≢true is)
+file_answer (name ∷ command ∷ word ∷ []) asks is means =
+    let parts = and_parts (is_file_command command) _ is in
+    named_answer command name parts.0 asks word (not-true _ parts.1) means
+file_answer (name ∷ command ∷ word ∷ next ∷ rest) asks is means = absurd (false≢true is)

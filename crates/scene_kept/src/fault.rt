@@ -1,0 +1,21 @@
+//! Why kept lines weren't played.
+use scene_player::Halt;
+use scene_script::BadLine;
+use thiserror::Error;
+
+/// Why kept lines weren't played to their end. The number is that of the line that stopped it, from 1.
+#[derive(Debug, Drop, Error)]
+pub enum KeptLineFault {
+    /// A line is bad, which none was when it was kept.
+    #[error("fault 67 StoredLineBad {0}: {1}")]
+    Bad(u64, BadLine),
+    /// No memory was found for a line.
+    #[error("fault 20 NoMemory {0}: {1}")]
+    Halted(u64, Halt),
+    /// What was to be written couldn't be.
+    #[error("fault 55 WriteFault")]
+    Unwritten,
+    /// The text of the scene would be too long.
+    #[error("fault 56 TooLong")]
+    TooLong,
+}
