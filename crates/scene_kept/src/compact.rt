@@ -1,5 +1,13 @@
 //! Fewer lines that lead to the same scene.
+ghost use Rattle.std.specs.Prelude.{◌≡◌, ◌++◌, IfOk, IfSome, OnOk, string_bytes, true};
+ghost use Rattle.std.specs.Str.Lines.{lines};
+ghost use Rattle.scene_player.specs.Player.{first_player, player_of};
+ghost use Rattle.scene_shell.specs.Shell.{player_after};
+ghost use Rattle.scene_kept.specs.SceneText.{scene_text};
+
 use crate::fault::KeptLineFault;
+use crate::play_again::{play_kept_line, replay};
+use scene_kinds::Schema;
 use scene_player::{Halt, Player};
 use scene_script::{Line, first_line, read_line};
 use std::alloc::{AllocError, Global};
@@ -9,7 +17,7 @@ use std::thread::Threads;
 /// What a scene text doesn't hold, as the lines say it.
 #[derive(Drop)]
 struct Kept {
-    /// The last lines of the limits of the setup.
+    /// The lines of the limits of the setup.
     limits: Vec<u8>,
     /// The lines of the systems, from the last `clear` on.
     systems: Vec<u8>,
@@ -49,6 +57,30 @@ impl Kept {
             _ => Ok(()),
         }
     }
+
+    /// Notes a line by its bytes.
+    fn read(&mut self, alloc: Global, schema: &Schema, line: &[u8]) -> Result<(), AllocError> {
+        match read_line(alloc, schema, line) {
+            Ok(said) => self.note(line, &said),
+            Err(_) => Ok(()),
+        }
+    }
+
+    /// The lines of what is kept, with the text of a whole scene.
+    fn joined(&self, alloc: Global, scene: &[u8]) -> Result<Vec<u8>, AllocError> {
+        let mut lines = Vec::new(alloc);
+        lines.extend_from_slice(self.limits.as_slice())?;
+        lines.extend_from_slice(b"load ")?;
+        lines.extend_from_slice(scene)?;
+        lines.extend_from_slice(self.systems.as_slice())?;
+        if self.turn.is_empty() {
+            // This line ends the setup, as it was.
+            lines.extend_from_slice(b"as 0\n")?;
+        } else {
+            lines.extend_from_slice(self.turn.as_slice())?;
+        }
+        Ok(lines)
+    }
 }
 
 /// Notes what lines say beyond a scene text, and plays them.
@@ -56,10 +88,12 @@ fn play_noted<T: Threads + Wait + Sync>(
     rt: &T,
     alloc: Global,
     player: &mut Player,
-    lines: &[u8],
     kept: &mut Kept,
-) -> Result<(), KeptLineFault> {
-    let mut rest = lines;
+    text: &[u8],
+) -> Result<(), KeptLineFault>
+    ensures { OnOk result (player_of player.new ≡ player_after (player_of player.old) (lines text.now)) }
+{
+    let mut rest = text;
     let mut answer = String::new(alloc);
     'lines: for number in 1..u64::MAX {
         if rest.is_empty() {
@@ -67,67 +101,142 @@ fn play_noted<T: Threads + Wait + Sync>(
         }
         let (line, more) = first_line(rest);
         rest = more;
-        let noted = match read_line(alloc, player.schema(), line) {
-            Ok(said) => kept.note(line, &said),
-            Err(_) => Ok(()),
-        };
-        if noted.is_err() {
+        if kept.read(alloc, player.schema(), line).is_err() {
             return Err(KeptLineFault::Halted(number, Halt::Before));
         }
-        answer.clear();
-        match player.line(rt, line, &mut answer) {
-            Ok(None) => {}
-            Ok(Some(reason)) => return Err(KeptLineFault::Bad(number, reason)),
-            Err(halt) => return Err(KeptLineFault::Halted(number, halt)),
+        match play_kept_line(rt, player, number, line, &mut answer) {
+            Ok(()) => {}
+            Err(fault) => return Err(fault),
         }
     }
     Err(KeptLineFault::TooLong)
 }
 
-/// The lines of what is kept, with the text of a whole scene.
-fn joined(alloc: Global, kept: &Kept, scene: &[u8]) -> Result<Vec<u8>, AllocError> {
-    let mut lines = Vec::new(alloc);
-    lines.extend_from_slice(kept.limits.as_slice())?;
-    lines.extend_from_slice(b"load ")?;
-    lines.extend_from_slice(scene)?;
-    lines.extend_from_slice(kept.systems.as_slice())?;
-    if kept.turn.is_empty() {
-        // This line ends the setup, as it was.
-        lines.extend_from_slice(b"as 0\n")?;
-    } else {
-        lines.extend_from_slice(kept.turn.as_slice())?;
+/// The text of the whole scene of a player.
+fn scene_of<T: Threads + Wait + Sync>(
+    rt: &T,
+    player: &mut Player,
+    scene: &mut String,
+) -> Result<(), KeptLineFault>
+    ensures { OnOk result (string_bytes scene.new ≡ string_bytes scene.old ++ scene_text (player_of player.old)) }
+{
+    match player.line(rt, b"dumpall", scene) {
+        Ok(_) => Ok(()),
+        Err(_) => Err(KeptLineFault::NoMemory),
     }
-    Ok(lines)
+}
+
+/// The text of the whole scene that lines lead to, and what they say beyond it. Nothing where they are still in the
+/// setup.
+fn play_to_scene<T: Threads + Wait + Sync>(
+    rt: &T,
+    alloc: Global,
+    player: &mut Player,
+    kept: &mut Kept,
+    text: &[u8],
+    scene: &mut String,
+) -> Result<bool, KeptLineFault>
+    ensures { IfOk result (λ is_begun. is_begun ≡ true → string_bytes scene.new ≡ string_bytes scene.old
+        ++ scene_text (player_after (player_of player.old) (lines text.now))) }
+{
+    play_noted(rt, alloc, player, kept, text)?;
+    // Behind the setup this line would change nothing.
+    match player.changes(b"show") {
+        Ok(true) => Ok(false),
+        Ok(false) => match scene_of(rt, player, scene) {
+            Ok(()) => Ok(true),
+            Err(fault) => Err(fault),
+        },
+        Err(AllocError) => Err(KeptLineFault::NoMemory),
+    }
+}
+
+/// The same of a new player.
+fn noted_scene<T: Threads + Wait + Sync>(
+    rt: &T,
+    alloc: Global,
+    kept: &mut Kept,
+    text: &[u8],
+    scene: &mut String,
+) -> Result<bool, KeptLineFault>
+    ensures { IfOk result (λ is_begun. is_begun ≡ true → string_bytes scene.new ≡ string_bytes scene.old
+        ++ scene_text (player_after first_player (lines text.now))) }
+{
+    let mut player = Player::new(alloc, 1);
+    play_to_scene(rt, alloc, &mut player, kept, text, scene)
+}
+
+/// The text of the whole scene that lines lead a player to.
+fn play_again_to_scene<T: Threads + Wait + Sync>(
+    rt: &T,
+    alloc: Global,
+    player: &mut Player,
+    text: &[u8],
+    scene: &mut String,
+) -> Result<(), KeptLineFault>
+    ensures { OnOk result (string_bytes scene.new ≡ string_bytes scene.old
+        ++ scene_text (player_after (player_of player.old) (lines text.now))) }
+{
+    replay(rt, alloc, player, text)?;
+    scene_of(rt, player, scene)
+}
+
+/// The same of a new player.
+fn replayed_scene<T: Threads + Wait + Sync>(
+    rt: &T,
+    alloc: Global,
+    text: &[u8],
+    scene: &mut String,
+) -> Result<(), KeptLineFault>
+    ensures { OnOk result (string_bytes scene.new ≡ string_bytes scene.old
+        ++ scene_text (player_after first_player (lines text.now))) }
+{
+    let mut player = Player::new(alloc, 1);
+    play_again_to_scene(rt, alloc, &mut player, text, scene)
+}
+
+/// Whether lines lead to a scene of this text.
+fn leads_to<T: Threads + Wait + Sync>(
+    rt: &T,
+    alloc: Global,
+    text: &[u8],
+    scene: &[u8],
+) -> Result<bool, KeptLineFault>
+    ensures { IfOk result (λ same. same ≡ true → scene_text (player_after first_player (lines text.now)) ≡ scene.now) }
+{
+    let mut again = String::new(alloc);
+    replayed_scene(rt, alloc, text, &mut again)?;
+    Ok(again.as_bytes() == scene)
 }
 
 /// Fewer lines that lead to the same world, past, future, systems and session as these lines; nothing where these are
-/// still in the setup. The history, the count of rewinds and the cursor begin anew with them.
+/// still in the setup. The history, the count of rewinds and the cursor begin anew with them. The fewer lines are
+/// played too, and given only where `dumpall` says the same behind them.
 ///
-/// It costs what the lines cost in a script, and `dumpall` at their end. Refused: `Bad` at a line that is bad, `Halted`
-/// for want of memory, and `TooLong` where the text of the scene would be.
+/// It costs what the lines cost in a script, a load of the scene's text, and `dumpall` twice. Refused: `Bad` at a line
+/// that is bad, `Halted` and `NoMemory` for want of memory, and `TooLong` where the text of the scene would be.
 pub fn compacted<T: Threads + Wait + Sync>(
     rt: &T,
     alloc: Global,
-    lines: &[u8],
-) -> Result<Option<Vec<u8>>, KeptLineFault> {
-    let mut player = Player::new(alloc, 1);
+    text: &[u8],
+) -> Result<Option<Vec<u8>>, KeptLineFault>
+    ensures { IfOk result (λ fewer. IfSome fewer (λ l.
+        scene_text (player_after first_player (lines l.items)) ≡ scene_text (player_after first_player (lines text.now)))) }
+{
     let mut kept = Kept::new(alloc);
     let mut scene = String::new(alloc);
-    play_noted(rt, alloc, &mut player, lines, &mut kept)?;
-    // Behind the setup this line would change nothing.
-    match player.changes(b"show") {
-        Ok(true) => return Ok(None),
-        Ok(false) => {}
-        Err(AllocError) => return Err(KeptLineFault::Halted(0, Halt::Before)),
-    }
-    if let Err(halt) = player.line(rt, b"dumpall", &mut scene) {
-        return Err(KeptLineFault::Halted(0, halt));
+    if !noted_scene(rt, alloc, &mut kept, text, &mut scene)? {
+        return Ok(None);
     }
     if scene.as_str().starts_with("fault") {
         return Err(KeptLineFault::TooLong);
     }
-    match joined(alloc, &kept, scene.as_bytes()) {
-        Ok(lines) => Ok(Some(lines)),
-        Err(AllocError) => Err(KeptLineFault::Halted(0, Halt::Before)),
+    let Ok(fewer) = kept.joined(alloc, scene.as_bytes()) else {
+        return Err(KeptLineFault::NoMemory);
+    };
+    if leads_to(rt, alloc, fewer.as_slice(), scene.as_bytes())? {
+        Ok(Some(fewer))
+    } else {
+        Ok(None)
     }
 }

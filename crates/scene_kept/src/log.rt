@@ -62,14 +62,6 @@ impl fmt::Display for LogCounts {
     }
 }
 
-/// Whose calls the next lines are, behind this one.
-fn session_behind(alloc: Global, player: &Player, line: &[u8], session: u32) -> u32 {
-    match read_line(alloc, player.schema(), line) {
-        Ok(Line::As(next)) => next.get(),
-        _ => session,
-    }
-}
-
 /// The first line of an answer, without its line break.
 fn first_of(text: &str) -> &str {
     match text.split_once('\n') {
@@ -78,49 +70,104 @@ fn first_of(text: &str) -> &str {
     }
 }
 
-/// Adds what a line says and what it came to.
-fn write_entry(
-    out: &mut String,
-    number: u64,
+/// How far a log has come.
+#[derive(Drop)]
+struct Log {
+    alloc: Global,
+    counts: LogCounts,
+    /// Whose calls the next lines are.
     session: u32,
-    line: &[u8],
-    answer: &str,
-) -> Result<(), AllocError> {
-    let said = match str::from_utf8(line) {
-        Ok(said) => said,
-        Err(_) => "",
-    };
-    let came_to = first_of(answer);
-    Ok(write!(out, "{number} as {session}: {said} -> {came_to}\n")?)
+    /// The answer to the line.
+    answer: String,
+    /// What the log says of it.
+    entry: String,
 }
 
-/// Plays a line, and puts its entry in the place of the one before; a line that says nothing has none.
-fn log_line<T: Threads + Wait + Sync>(
-    rt: &T,
-    alloc: Global,
-    player: &mut Player,
-    counts: &mut LogCounts,
-    number: u64,
-    session: u32,
-    line: &[u8],
-    entry: &mut String,
-) -> Result<(), Halt> {
-    let mut text = String::new(alloc);
-    let answer = player.play(rt, line)?;
-    counts.count(&answer);
-    entry.clear();
-    if answer
-        .write_text(alloc, player.schema(), &mut text)
-        .is_err()
-    {
-        return Err(Halt::After);
+impl Log {
+    /// The log of no line.
+    fn new(alloc: Global) -> Log {
+        Log {
+            alloc,
+            counts: LogCounts::none(),
+            session: SessionNumber::first().get(),
+            answer: String::new(alloc),
+            entry: String::new(alloc),
+        }
     }
-    if text.is_empty() {
-        return Ok(());
+
+    /// Plays a line, counts its answer, and puts it in the place of the one before.
+    fn play<T: Threads + Wait + Sync>(
+        &mut self,
+        rt: &T,
+        player: &mut Player,
+        line: &[u8],
+    ) -> Result<(), Halt> {
+        self.answer.clear();
+        let answer = player.play(rt, line)?;
+        self.counts.count(&answer);
+        match answer.write_text(self.alloc, player.schema(), &mut self.answer) {
+            Ok(()) => Ok(()),
+            Err(AllocError) => Err(Halt::After),
+        }
     }
-    match write_entry(entry, number, session, line, text.as_str()) {
-        Ok(()) => Ok(()),
-        Err(AllocError) => Err(Halt::After),
+
+    /// What the log says of a line, in the place of the one before; nothing where its answer is empty.
+    fn write_entry(&mut self, number: u64, line: &[u8]) -> Result<(), AllocError> {
+        self.entry.clear();
+        if self.answer.is_empty() {
+            return Ok(());
+        }
+        let said = match str::from_utf8(line) {
+            Ok(said) => said,
+            Err(_) => "",
+        };
+        let session = self.session;
+        let came_to = first_of(self.answer.as_str());
+        Ok(write!(
+            &mut self.entry,
+            "{number} as {session}: {said} -> {came_to}\n"
+        )?)
+    }
+
+    /// Notes whose calls the next lines are, behind this one.
+    fn turn(&mut self, player: &Player, line: &[u8]) {
+        if let Ok(Line::As(next)) = read_line(self.alloc, player.schema(), line) {
+            self.session = next.get();
+        }
+    }
+
+    /// Plays a line, and says what it came to.
+    fn line<T: Threads + Wait + Sync>(
+        &mut self,
+        rt: &T,
+        player: &mut Player,
+        number: u64,
+        line: &[u8],
+    ) -> Result<(), KeptLineFault> {
+        if let Err(halt) = self.play(rt, player, line) {
+            return Err(KeptLineFault::Halted(number, halt));
+        }
+        if self.write_entry(number, line).is_err() {
+            return Err(KeptLineFault::Halted(number, Halt::After));
+        }
+        self.turn(player, line);
+        Ok(())
+    }
+
+    /// Plays a line, and writes what it came to.
+    fn write_line<T: Threads + Wait + Sync, W: Write>(
+        &mut self,
+        rt: &T,
+        player: &mut Player,
+        number: u64,
+        line: &[u8],
+        writer: &mut W,
+    ) -> Result<(), KeptLineFault> {
+        self.line(rt, player, number, line)?;
+        match writer.write_all(self.entry.as_bytes()) {
+            Ok(()) => Ok(()),
+            Err(_) => Err(KeptLineFault::Unwritten),
+        }
     }
 }
 
@@ -135,32 +182,18 @@ pub fn write_log<T: Threads + Wait + Sync, W: Write>(
     lines: &[u8],
     writer: &mut W,
 ) -> Result<LogCounts, KeptLineFault> {
-    let mut counts = LogCounts::none();
+    let mut log = Log::new(alloc);
     let mut rest = lines;
-    let mut session = SessionNumber::first().get();
-    let mut entry = String::new(alloc);
     'lines: for number in 1..u64::MAX {
         if rest.is_empty() {
-            return Ok(counts);
+            return Ok(log.counts);
         }
         let (line, more) = first_line(rest);
         rest = more;
-        if let Err(halt) = log_line(
-            rt,
-            alloc,
-            player,
-            &mut counts,
-            number,
-            session,
-            line,
-            &mut entry,
-        ) {
-            return Err(KeptLineFault::Halted(number, halt));
+        match log.write_line(rt, player, number, line, writer) {
+            Ok(()) => {}
+            Err(fault) => return Err(fault),
         }
-        if writer.write_all(entry.as_bytes()).is_err() {
-            return Err(KeptLineFault::Unwritten);
-        }
-        session = session_behind(alloc, player, line, session);
     }
     Err(KeptLineFault::TooLong)
 }

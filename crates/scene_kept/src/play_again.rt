@@ -1,7 +1,7 @@
 //! Lines that are played again.
 ghost use Rattle.std.specs.Prelude.{◌≡◌, OnOk};
 ghost use Rattle.std.specs.Str.Lines.{lines};
-ghost use Rattle.scene_player.specs.Player.{player_of};
+ghost use Rattle.scene_player.specs.Player.{player_of, player_reply};
 ghost use Rattle.scene_shell.specs.Shell.{player_after};
 
 use crate::fault::KeptLineFault;
@@ -10,6 +10,25 @@ use scene_script::first_line;
 use std::alloc::Global;
 use std::sync::Wait;
 use std::thread::Threads;
+
+/// Plays a line that was kept, which is given without its line break, and puts its answer in the place of the one
+/// before.
+pub(crate) fn play_kept_line<T: Threads + Wait + Sync>(
+    rt: &T,
+    player: &mut Player,
+    number: u64,
+    line: &[u8],
+    answer: &mut String,
+) -> Result<(), KeptLineFault>
+    ensures { OnOk result (player_of player.new ≡ (player_reply (player_of player.old) line.now).player) }
+{
+    answer.clear();
+    match player.line(rt, line, answer) {
+        Ok(None) => Ok(()),
+        Ok(Some(reason)) => Err(KeptLineFault::Bad(number, reason)),
+        Err(halt) => Err(KeptLineFault::Halted(number, halt)),
+    }
+}
 
 /// Plays the lines of a text, whose answers aren't asked for. It costs what the lines cost in a script.
 ///
@@ -30,11 +49,9 @@ pub fn replay<T: Threads + Wait + Sync>(
         }
         let (line, more) = first_line(rest);
         rest = more;
-        answer.clear();
-        match player.line(rt, line, &mut answer) {
-            Ok(None) => {}
-            Ok(Some(reason)) => return Err(KeptLineFault::Bad(number, reason)),
-            Err(halt) => return Err(KeptLineFault::Halted(number, halt)),
+        match play_kept_line(rt, player, number, line, &mut answer) {
+            Ok(()) => {}
+            Err(fault) => return Err(fault),
         }
     }
     Err(KeptLineFault::TooLong)

@@ -1,5 +1,5 @@
 -- A line that is answered as JSON (docs/SHELL.md, "JSON").
-use Rattle.std.specs.Prelude.{◌≡◌, ℕ, List, ◌++◌, Bool, false, Option, Some, None, Result, Ok, Err, is_some, if◌then◌else◌}
+use Rattle.std.specs.Prelude.{◌≡◌, ℕ, List, ◌++◌, Option, Some, None, Result, Ok, Err, if◌then◌else◌}
 use Rattle.scene_hand.specs.Hand.{whole_at}
 use Rattle.scene_script.specs.declared.bad_line.BadLine.{BadLine}
 use Rattle.scene_script.specs.declared.script_line.Line.{Line}
@@ -8,9 +8,10 @@ use Rattle.scene_script.specs.Script.{line_in}
 use Rattle.scene_player.specs.declared.answer.Answer.{Answer}
 use Rattle.scene_player.specs.declared.json_question.StateJson.{StateJson}
 use Rattle.scene_player.specs.declared.json_question.StateJson.TheVariants.{Show, Get, Dump, DumpAll}
+use Rattle.scene_player.specs.Changes.{frame_is_open}
 use Rattle.scene_player.specs.JsonAnswer.{json_line, json_text}
 use Rattle.scene_player.specs.JsonQuestion.{asked_json}
-use Rattle.scene_player.specs.Player.{Player, Setting, Playing, Tells, hand_of, player_kinds, player_reply}
+use Rattle.scene_player.specs.Player.{Player, Tells, hand_of, player_kinds, player_reply}
 
 -- a line that asks for a text of the state
 abbrev pub question_of : Result Line BadLine → Option StateJson
@@ -20,14 +21,9 @@ question_of (Ok line.Dump) = Some Dump
 question_of (Ok line.DumpAll) = Some DumpAll
 question_of said = None
 
--- a frame is open
-abbrev pub has_frame : Player → Bool
-has_frame (Setting s) = false
-has_frame (Playing s) = is_some s.frame
-
 -- what a line asks of the state, where it does; in an open frame no line does
 abbrev pub asked_in : Player → List ℕ → Option StateJson
-asked_in z bytes = if has_frame z then None else question_of (line_in (player_kinds z) bytes)
+asked_in z bytes = if frame_is_open z then None else question_of (line_in (player_kinds z) bytes)
 
 -- a line of JSON was added: what the state is asked for; or else that of an answer that says just what the reply to the line says
 abbrev pub AddsJson : (old new : List ℕ) → (before after : Player) → List ℕ → Option StateJson → Type 0

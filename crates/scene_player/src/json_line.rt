@@ -2,7 +2,7 @@
 ghost use Rattle.std.specs.Prelude.{◌≡◌, ◌++◌, IfErr, IfOk, None, OnOk, string_bytes};
 ghost use Rattle.scene_hand.specs.Hand.{whole_at};
 ghost use Rattle.scene_player.specs.JsonAnswer.{json_line};
-ghost use Rattle.scene_player.specs.JsonLine.{AddsJson, IsAnsweredAsJson, asked_in, has_frame, question_of};
+ghost use Rattle.scene_player.specs.JsonLine.{AddsJson, IsAnsweredAsJson, asked_in, question_of};
 ghost use Rattle.scene_player.specs.JsonQuestion.{asked_json};
 ghost use Rattle.scene_player.specs.Play.{first_state};
 ghost use Rattle.scene_player.specs.Player.{HaltsSetup, Player as State, begun, halted, hand_of, player_of, player_reply};
@@ -63,21 +63,11 @@ fn begin_asked<T: Wait>(
 }
 
 impl Player {
-    /// Whether a frame is open.
-    fn has_frame(&self) -> bool
-        ensures { result ≡ has_frame (player_of self.now) }
-    {
-        match &self.stage {
-            Stage::Setting(_) => false,
-            Stage::Playing(state) => state.frame.is_some(),
-        }
-    }
-
     /// What a line asks of the state, where it does.
     fn asked_in(&self, bytes: &[u8]) -> Result<Option<StateJson>, AllocError>
         ensures { IfOk result (λ asked. asked ≡ asked_in (player_of self.now) bytes.now) }
     {
-        if self.has_frame() {
+        if self.has_open_frame() {
             return Ok(None);
         }
         let said = said_in(self.alloc, self.schema(), bytes)?;
