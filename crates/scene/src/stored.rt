@@ -45,13 +45,14 @@ fn line_count(lines: &[u8]) -> usize {
     lines.iter().filter(|byte| **byte == b'\n').count()
 }
 
-/// Fewer lines that lead to the same scene, or none, where the lines are still in the setup.
+/// Fewer lines that lead to the same scene, of so many bytes at most; none where the lines are still in the setup.
 fn fewer_lines(
     rt: &HostRuntime,
     threads: &(impl Threads + Wait + Sync),
     lines: &[u8],
+    most: usize,
 ) -> Result<Option<Vec<u8>>, Ending> {
-    match compacted(threads, rt.alloc(), lines) {
+    match compacted(threads, rt.alloc(), lines, most) {
         Ok(fewer) => Ok(fewer),
         Err(fault) => Err(told(rt, &fault)),
     }
@@ -78,15 +79,16 @@ fn lines_to_begin(
     if line_count(lines.as_slice()) < MANY_LINES {
         return Ok(lines);
     }
-    match fewer_lines(rt, threads, lines.as_slice())? {
-        Some(fewer) if fewer.len() < lines.len() / TIMES_SHORTER => {
+    let most = lines.len() / TIMES_SHORTER;
+    match fewer_lines(rt, threads, lines.as_slice(), most)? {
+        Some(fewer) => {
             let _told = eprintln!(rt;
                 "scene: the store is compacted: its history and its cursor begin anew"
             );
             replace_lines(store, fewer.as_slice())?;
             Ok(fewer)
         }
-        _ => Ok(lines),
+        None => Ok(lines),
     }
 }
 
@@ -207,7 +209,7 @@ fn compact_over(
         Err(fault) => return Err(Ending::Store(fault)),
     };
     let before = line_count(lines.as_slice());
-    match fewer_lines(rt, threads, lines.as_slice())? {
+    match fewer_lines(rt, threads, lines.as_slice(), usize::MAX)? {
         Some(fewer) => {
             replace_lines(store, fewer.as_slice())?;
             // The head, which each store has, is a line too.

@@ -209,16 +209,18 @@ fn leads_to<T: Threads + Wait + Sync>(
     Ok(again.as_bytes() == scene)
 }
 
-/// Fewer lines that lead to the same world, past, future, systems and session as these lines; nothing where these are
-/// still in the setup. The history, the count of rewinds and the cursor begin anew with them. The fewer lines are
-/// played too, and given only where `dumpall` says the same behind them.
+/// Fewer lines that lead to the same world, past, future, systems and session as these lines. The history, the count of
+/// rewinds and the cursor begin anew with them. Nothing where these lines are still in the setup, or the others would
+/// take more than `most` bytes. What is given was played too: `dumpall` says the same behind it.
 ///
-/// It costs what the lines cost in a script, a load of the scene's text, and `dumpall` twice. Refused: `Bad` at a line
-/// that is bad, `Halted` and `NoMemory` for want of memory, and `TooLong` where the text of the scene would be.
+/// It costs what the lines cost in a script, and `dumpall`; and where there are fewer lines, a load of them and `dumpall`
+/// again. Refused: `Bad` at a line that is bad, `Halted` and `NoMemory` for want of memory, and `TooLong` where the text
+/// of the scene would be.
 pub fn compacted<T: Threads + Wait + Sync>(
     rt: &T,
     alloc: Global,
     text: &[u8],
+    most: usize,
 ) -> Result<Option<Vec<u8>>, KeptLineFault>
     ensures { IfOk result (λ fewer. IfSome fewer (λ l.
         scene_text (player_after first_player (lines l.items)) ≡ scene_text (player_after first_player (lines text.now)))) }
@@ -234,7 +236,7 @@ pub fn compacted<T: Threads + Wait + Sync>(
     let Ok(fewer) = kept.joined(alloc, scene.as_bytes()) else {
         return Err(KeptLineFault::NoMemory);
     };
-    if leads_to(rt, alloc, fewer.as_slice(), scene.as_bytes())? {
+    if fewer.len() <= most && leads_to(rt, alloc, fewer.as_slice(), scene.as_bytes())? {
         Ok(Some(fewer))
     } else {
         Ok(None)
