@@ -37,7 +37,9 @@ keeping_of p w = waiting_of (player_of p) w
 
 -- the lines of a frame are due where it is over
 abbrev pub released : Player → List ℕ → List ℕ → Keeping
-released p due held = if frame_is_open p then record { player = p; due = due; held = held } else record { player = p; due = due ++ held; held = [] }
+released p due held =
+    if frame_is_open p then record { player = p; due = due; held = held }
+    else record { player = p; due = due ++ held; held = [] }
 
 -- a line is noted where it changes the player
 abbrev pub noted : Player → List ℕ → List ℕ → List ℕ
@@ -67,7 +69,8 @@ abbrev pub Grows : {K : Type 0} → (K → List ℕ → Type 0) → K → K → 
 Grows keeps old new more = (text : List ℕ) → keeps old text → keeps new (text ++ more)
 
 -- How far a shell has come: the answers to the first lines are written and these lines kept, and of the next ones the answers wait.
-pub record HasCome {K : Type 0} (keeps : K → List ℕ → Type 0) (style : AnswerStyle) (script rest : List ℕ) (old new : Option (List ℕ)) (kept keeper : K) (first : Player)
+pub record HasCome {K : Type 0} (keeps : K → List ℕ → Type 0) (style : AnswerStyle) (script rest : List ℕ)
+    (old new : Option (List ℕ)) (kept keeper : K) (first : Player)
     (now : Keeping) (answers : List ℕ) (count : ℕ) : Type 0 where
   pub front : List (List ℕ)
   pub next : List (List ℕ)
@@ -81,10 +84,12 @@ pub record HasCome {K : Type 0} (keeps : K → List ℕ → Type 0) (style : Ans
   pub counted : count ≡ bad_count first (front ++ next)
 
 -- the same where the reader tells its bytes
-abbrev pub Comes : {K : Type 0} → (K → List ℕ → Type 0) → AnswerStyle → (script rest old new : Option (List ℕ)) → K → K → Player → Keeping → List ℕ → ℕ → Type 0
+abbrev pub Comes : {K : Type 0} → (K → List ℕ → Type 0) → AnswerStyle → (script rest old new : Option (List ℕ))
+    → K → K → Player → Keeping → List ℕ → ℕ → Type 0
 Comes keeps style None rest old new kept keeper first now answers count = ⊤
 Comes keeps style (Some script) None old new kept keeper first now answers count = ⊥
-Comes keeps style (Some script) (Some rest) old new kept keeper first now answers count = HasCome keeps style script rest old new kept keeper first now answers count
+Comes keeps style (Some script) (Some rest) old new kept keeper first now answers count =
+    HasCome keeps style script rest old new kept keeper first now answers count
 
 -- a line of a text is played and noted, and its answer waits
 abbrev pub IsPlayed : AnswerStyle → List ℕ → Keeping → Keeping → List ℕ → List ℕ → Type 0
@@ -93,16 +98,19 @@ IsPlayed style line old new answers more = (l : List ℕ) (others : List (List �
 
 -- and it is known whether it is bad
 abbrev pub IsBad : List ℕ → Player → ℕ → Type 0
-IsBad line p bad = (l : List ℕ) (others : List (List ℕ)) → lines line ≡ l ∷ others → bad ≡ (if is_some (player_reply p l).bad then 1 else 0)
+IsBad line p bad = (l : List ℕ) (others : List (List ℕ)) → lines line ≡ l ∷ others
+    → bad ≡ (if is_some (player_reply p l).bad then 1 else 0)
 
 -- the answers to the first lines are written, and these lines kept
-abbrev pub HasSettled : {K : Type 0} → (K → List ℕ → Type 0) → AnswerStyle → List ℕ → (old new : Option (List ℕ)) → (kept keeper : K) → Player → Type 0
+abbrev pub HasSettled : {K : Type 0} → (K → List ℕ → Type 0) → AnswerStyle → List ℕ → (old new : Option (List ℕ))
+    → (kept keeper : K) → Player → Type 0
 HasSettled keeps style script old new kept keeper first =
     (front : List (List ℕ)) × (back : List (List ℕ)) × (lines script ≡ front ++ back) × HasSaid style first front old new
     × Grows keeps kept keeper (kept_of first front)
 
 -- all lines are answered and kept
-abbrev pub IsAllSettled : {K : Type 0} → (K → List ℕ → Type 0) → AnswerStyle → List ℕ → (old new : Option (List ℕ)) → (kept keeper : K) → Player → Type 0
+abbrev pub IsAllSettled : {K : Type 0} → (K → List ℕ → Type 0) → AnswerStyle → List ℕ
+    → (old new : Option (List ℕ)) → (kept keeper : K) → Player → Type 0
 IsAllSettled keeps style script old new kept keeper first =
     HasSaid style first (lines script) old new × Grows keeps kept keeper (kept_of first (lines script))
 
@@ -112,13 +120,15 @@ HasKept keeps script kept keeper first =
     (front : List (List ℕ)) × (back : List (List ℕ)) × (lines script ≡ front ++ back) × Grows keeps kept keeper (kept_of first front)
 
 -- how far a shell has come, where so much is due and so much is to be said
-abbrev pub HasComeTo : {K : Type 0} → (K → List ℕ → Type 0) → AnswerStyle → (script rest : List ℕ) → (old new : Option (List ℕ)) → (kept keeper : K) → Player
+abbrev pub HasComeTo : {K : Type 0} → (K → List ℕ → Type 0) → AnswerStyle → (script rest : List ℕ)
+    → (old new : Option (List ℕ)) → (kept keeper : K) → Player
     → (due answers : List ℕ) → ℕ → Type 0
 HasComeTo keeps style script rest old new kept keeper first due answers count =
     (now : Keeping) × (now.due ≡ due) × HasCome keeps style script rest old new kept keeper first now answers count
 
 -- and whatever is left
-abbrev pub HasComeSomewhere : {K : Type 0} → (K → List ℕ → Type 0) → AnswerStyle → List ℕ → (old new : Option (List ℕ)) → (kept keeper : K) → Player
+abbrev pub HasComeSomewhere : {K : Type 0} → (K → List ℕ → Type 0) → AnswerStyle → List ℕ
+    → (old new : Option (List ℕ)) → (kept keeper : K) → Player
     → (due answers : List ℕ) → Type 0
 HasComeSomewhere keeps style script old new kept keeper first due answers =
     (rest : List ℕ) × (count : ℕ) × HasComeTo keeps style script rest old new kept keeper first due answers count
@@ -129,35 +139,45 @@ is_write_fault WriteFault = true
 is_write_fault _ = false
 
 -- where a stream or the memory stops it
-abbrev pub StopsAt : {K : Type 0} → (K → List ℕ → Type 0) → AnswerStyle → List ℕ → (old new : Option (List ℕ)) → (kept keeper : K) → Player
-    → (due answers : List ℕ) → AppFault → Type 0
+abbrev pub StopsAt : {K : Type 0} → (K → List ℕ → Type 0) → AnswerStyle → List ℕ → (old new : Option (List ℕ))
+    → (kept keeper : K) → Player → (due answers : List ℕ) → AppFault → Type 0
 StopsAt keeps style script old new kept keeper first due answers WriteFault = HasKept keeps script kept keeper first
-StopsAt keeps style script old new kept keeper first due answers NoMemory = HasComeSomewhere keeps style script old new kept keeper first due answers
-StopsAt keeps style script old new kept keeper first due answers ReadFault = HasComeSomewhere keeps style script old new kept keeper first due answers
-StopsAt keeps style script old new kept keeper first due answers TooLong = HasComeSomewhere keeps style script old new kept keeper first due answers
+StopsAt keeps style script old new kept keeper first due answers NoMemory =
+    HasComeSomewhere keeps style script old new kept keeper first due answers
+StopsAt keeps style script old new kept keeper first due answers ReadFault =
+    HasComeSomewhere keeps style script old new kept keeper first due answers
+StopsAt keeps style script old new kept keeper first due answers TooLong =
+    HasComeSomewhere keeps style script old new kept keeper first due answers
 
 -- where the lines of a reader have led, while some may wait
-abbrev pub LeadsTo : {K F : Type 0} → (K → List ℕ → Type 0) → AnswerStyle → List ℕ → (old new : Option (List ℕ)) → (kept keeper : K) → Player
-    → (due answers : List ℕ) → Result ℕ (KeptFault F) → Type 0
-LeadsTo keeps style script old new kept keeper first due answers (Ok count) = HasComeTo keeps style script [] old new kept keeper first due answers count
-LeadsTo keeps style script old new kept keeper first due answers (Err (Ended fault)) = StopsAt keeps style script old new kept keeper first due answers fault
-LeadsTo keeps style script old new kept keeper first due answers (Err (Keep fault)) = HasAnswered style first script old new
+abbrev pub LeadsTo : {K F : Type 0} → (K → List ℕ → Type 0) → AnswerStyle → List ℕ → (old new : Option (List ℕ))
+    → (kept keeper : K) → Player → (due answers : List ℕ) → Result ℕ (KeptFault F) → Type 0
+LeadsTo keeps style script old new kept keeper first due answers (Ok count) =
+    HasComeTo keeps style script [] old new kept keeper first due answers count
+LeadsTo keeps style script old new kept keeper first due answers (Err (Ended fault)) =
+    StopsAt keeps style script old new kept keeper first due answers fault
+LeadsTo keeps style script old new kept keeper first due answers (Err (Keep fault)) =
+    HasAnswered style first script old new
 
 -- How a shell that keeps its lines ends: all lines are answered and kept; or the first ones, where a stream or the memory stops it.
 -- Where the writer fails, nothing is known of the answers, and where lines weren't kept, nothing of what is kept.
-abbrev pub EndsBy : {K : Type 0} → (K → List ℕ → Type 0) → AnswerStyle → List ℕ → (old new : Option (List ℕ)) → (kept keeper : K) → Player → AppFault → Type 0
+abbrev pub EndsBy : {K : Type 0} → (K → List ℕ → Type 0) → AnswerStyle → List ℕ → (old new : Option (List ℕ))
+    → (kept keeper : K) → Player → AppFault → Type 0
 EndsBy keeps style script old new kept keeper first WriteFault = HasKept keeps script kept keeper first
 EndsBy keeps style script old new kept keeper first NoMemory = HasSettled keeps style script old new kept keeper first
 EndsBy keeps style script old new kept keeper first ReadFault = HasSettled keeps style script old new kept keeper first
 EndsBy keeps style script old new kept keeper first TooLong = HasSettled keeps style script old new kept keeper first
 
-abbrev pub EndsAs : {K F : Type 0} → (K → List ℕ → Type 0) → AnswerStyle → List ℕ → (old new : Option (List ℕ)) → (kept keeper : K) → Player → Result ℕ (KeptFault F) → Type 0
+abbrev pub EndsAs : {K F : Type 0} → (K → List ℕ → Type 0) → AnswerStyle → List ℕ → (old new : Option (List ℕ))
+    → (kept keeper : K) → Player → Result ℕ (KeptFault F) → Type 0
 EndsAs keeps style script old new kept keeper first (Ok count) =
     IsAllSettled keeps style script old new kept keeper first × (count ≡ bad_count first (lines script))
-EndsAs keeps style script old new kept keeper first (Err (Ended fault)) = EndsBy keeps style script old new kept keeper first fault
+EndsAs keeps style script old new kept keeper first (Err (Ended fault)) =
+    EndsBy keeps style script old new kept keeper first fault
 EndsAs keeps style script old new kept keeper first (Err (Keep fault)) = HasAnswered style first script old new
 
 -- why what waits wasn't kept and sent: the writer failed, behind what was kept; or nothing was sent, since it wasn't kept
-abbrev pub FailsToSettle : {K F : Type 0} → (K → List ℕ → Type 0) → K → K → List ℕ → (old new : Option (List ℕ)) → KeptFault F → Type 0
+abbrev pub FailsToSettle : {K F : Type 0} → (K → List ℕ → Type 0) → K → K → List ℕ → (old new : Option (List ℕ))
+    → KeptFault F → Type 0
 FailsToSettle keeps before keeper due old new (Ended fault) = (fault ≡ WriteFault) × Grows keeps before keeper due
 FailsToSettle keeps before keeper due old new (Keep fault) = Keeps old new
