@@ -6,10 +6,10 @@ ghost use Rattle.scene_shell.specs.Shell.{player_after};
 ghost use Rattle.scene_kept.specs.SceneText.{scene_text};
 
 use crate::fault::KeptLineFault;
-use crate::play_again::{play_kept_line, replay};
+use crate::play_again::{Note, play_noted, replay};
 use scene_kinds::Schema;
-use scene_player::{Halt, Player};
-use scene_script::{Line, first_line, read_line};
+use scene_player::Player;
+use scene_script::{Line, read_line};
 use std::alloc::{AllocError, Global};
 use std::sync::Wait;
 use std::thread::Threads;
@@ -41,8 +41,8 @@ impl Kept {
         }
     }
 
-    /// Notes a line that says more than a scene text holds.
-    fn note(&mut self, line: &[u8], said: &Line) -> Result<(), AllocError> {
+    /// Notes a line, where it says more than a scene text holds.
+    fn note_said(&mut self, line: &[u8], said: &Line) -> Result<(), AllocError> {
         match said {
             Line::Calls(_) | Line::Depth(_) => push_line(&mut self.limits, line),
             Line::Phase | Line::System(_) => push_line(&mut self.systems, line),
@@ -55,14 +55,6 @@ impl Kept {
                 push_line(&mut self.turn, line)
             }
             _ => Ok(()),
-        }
-    }
-
-    /// Notes a line by its bytes.
-    fn read(&mut self, alloc: Global, schema: &Schema, line: &[u8]) -> Result<(), AllocError> {
-        match read_line(alloc, schema, line) {
-            Ok(said) => self.note(line, &said),
-            Err(_) => Ok(()),
         }
     }
 
@@ -83,33 +75,13 @@ impl Kept {
     }
 }
 
-/// Notes what lines say beyond a scene text, and plays them.
-fn play_noted<T: Threads + Wait + Sync>(
-    rt: &T,
-    alloc: Global,
-    player: &mut Player,
-    kept: &mut Kept,
-    text: &[u8],
-) -> Result<(), KeptLineFault>
-    ensures { OnOk result (player_of player.new ≡ player_after (player_of player.old) (lines text.now)) }
-{
-    let mut rest = text;
-    let mut answer = String::new(alloc);
-    'lines: for number in 1..u64::MAX {
-        if rest.is_empty() {
-            return Ok(());
-        }
-        let (line, more) = first_line(rest);
-        rest = more;
-        if kept.read(alloc, player.schema(), line).is_err() {
-            return Err(KeptLineFault::Halted(number, Halt::Before));
-        }
-        match play_kept_line(rt, player, number, line, &mut answer) {
-            Ok(()) => {}
-            Err(fault) => return Err(fault),
+impl Note for Kept {
+    fn note(&mut self, alloc: Global, schema: &Schema, line: &[u8]) -> Result<(), AllocError> {
+        match read_line(alloc, schema, line) {
+            Ok(said) => self.note_said(line, &said),
+            Err(_) => Ok(()),
         }
     }
-    Err(KeptLineFault::TooLong)
 }
 
 /// The text of the whole scene of a player.

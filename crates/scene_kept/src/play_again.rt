@@ -5,15 +5,31 @@ ghost use Rattle.scene_player.specs.Player.{player_of, player_reply};
 ghost use Rattle.scene_shell.specs.Shell.{player_after};
 
 use crate::fault::KeptLineFault;
-use scene_player::Player;
+use scene_kinds::Schema;
+use scene_player::{Halt, Player};
 use scene_script::first_line;
-use std::alloc::Global;
+use std::alloc::{AllocError, Global};
 use std::sync::Wait;
 use std::thread::Threads;
 
+/// What is told of each line before it is played.
+pub(crate) trait Note {
+    /// Notes a line, which is given without its line break, by the kinds so far.
+    fn note(&mut self, alloc: Global, schema: &Schema, line: &[u8]) -> Result<(), AllocError>;
+}
+
+/// Notes nothing.
+struct Unnoted;
+
+impl Note for Unnoted {
+    fn note(&mut self, _: Global, _: &Schema, _: &[u8]) -> Result<(), AllocError> {
+        Ok(())
+    }
+}
+
 /// Plays a line that was kept, which is given without its line break, and puts its answer in the place of the one
 /// before.
-pub(crate) fn play_kept_line<T: Threads + Wait + Sync>(
+fn play_kept_line<T: Threads + Wait + Sync>(
     rt: &T,
     player: &mut Player,
     number: u64,
@@ -30,13 +46,12 @@ pub(crate) fn play_kept_line<T: Threads + Wait + Sync>(
     }
 }
 
-/// Plays the lines of a text, whose answers aren't asked for. It costs what the lines cost in a script.
-///
-/// Refused: `Bad` at a line that is bad, and `Halted` for want of memory. The lines before are played then.
-pub fn replay<T: Threads + Wait + Sync>(
+/// Notes each line of a text, and plays it.
+pub(crate) fn play_noted<T: Threads + Wait + Sync, N: Note>(
     rt: &T,
     alloc: Global,
     player: &mut Player,
+    notes: &mut N,
     text: &[u8],
 ) -> Result<(), KeptLineFault>
     ensures { OnOk result (player_of player.new ≡ player_after (player_of player.old) (lines text.now)) }
@@ -49,10 +64,27 @@ pub fn replay<T: Threads + Wait + Sync>(
         }
         let (line, more) = first_line(rest);
         rest = more;
+        if notes.note(alloc, player.schema(), line).is_err() {
+            return Err(KeptLineFault::Halted(number, Halt::Before));
+        }
         match play_kept_line(rt, player, number, line, &mut answer) {
             Ok(()) => {}
             Err(fault) => return Err(fault),
         }
     }
     Err(KeptLineFault::TooLong)
+}
+
+/// Plays the lines of a text, whose answers aren't asked for. It costs what the lines cost in a script.
+///
+/// Refused: `Bad` at a line that is bad, and `Halted` for want of memory. The lines before are played then.
+pub fn replay<T: Threads + Wait + Sync>(
+    rt: &T,
+    alloc: Global,
+    player: &mut Player,
+    text: &[u8],
+) -> Result<(), KeptLineFault>
+    ensures { OnOk result (player_of player.new ≡ player_after (player_of player.old) (lines text.now)) }
+{
+    play_noted(rt, alloc, player, &mut Unnoted, text)
 }
