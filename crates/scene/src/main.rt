@@ -121,8 +121,8 @@ fn print(rt: &HostRuntime) -> Ending {
     }
 }
 
-/// Prints a help text.
-fn help(rt: &HostRuntime, text: &str) -> Ending {
+/// Prints a text.
+pub(crate) fn printed(rt: &HostRuntime, text: &str) -> Ending {
     match rt.print(text) {
         Ok(()) => Ending::Done,
         Err(_) => Ending::Fault(AppFault::WriteFault),
@@ -139,7 +139,7 @@ fn end(rt: &HostRuntime, threads: &(impl Threads + Wait + Sync), words: &[String
         Ok(Asked::Show(path)) => show_store(rt, threads, path.as_str()),
         Ok(Asked::Log(path)) => log_store(rt, threads, path.as_str()),
         Ok(Asked::Compact(path)) => compact_store(rt, threads, path.as_str()),
-        Ok(Asked::Help(text)) => help(rt, text.as_str()),
+        Ok(Asked::Help(text)) => printed(rt, text.as_str()),
         Ok(Asked::Bad) => Ending::BadCommandLine,
         Err(_) => Ending::Fault(AppFault::NoMemory),
     }

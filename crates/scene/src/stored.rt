@@ -1,14 +1,14 @@
 //! What the program does with a store (docs/SHELL.md, "A store").
 use crate::ending::Ending;
-use crate::style_of;
+use crate::{printed, style_of};
 use scene_app::AppFault;
 use scene_command_line::ShellWords;
-use scene_kept::{KeptLineFault, compacted, replay, write_log};
+use scene_kept::{KeptLineFault, LogCounts, compacted, replay, write_log};
 use scene_player::Player;
-use scene_shell::{KeptFault, run_kept_shell};
+use scene_shell::{AnswerStyle, KeptFault, run_kept_shell};
 use scene_store::{FileLines, StoreFault};
 use std::fs;
-use std::io::{BufReader, Write};
+use std::io::BufReader;
 use std::sync::Wait;
 use std::thread::Threads;
 
@@ -40,6 +40,19 @@ fn open_there(rt: &HostRuntime, path: &str) -> Result<FileLines, StoreFault> {
     }
 }
 
+/// Plays lines that were kept.
+fn play_lines(
+    rt: &HostRuntime,
+    threads: &(impl Threads + Wait + Sync),
+    player: &mut Player,
+    lines: &[u8],
+) -> Result<(), Ending> {
+    match replay(threads, rt.alloc(), player, lines) {
+        Ok(()) => Ok(()),
+        Err(fault) => Err(told(rt, &fault)),
+    }
+}
+
 /// How many lines a text has, whose last line ends as the others do.
 fn line_count(lines: &[u8]) -> usize {
     lines.iter().filter(|byte| **byte == b'\n').count()
@@ -66,6 +79,13 @@ fn replace_lines(store: &mut FileLines, lines: &[u8]) -> Result<(), Ending> {
     }
 }
 
+/// Says on standard error that a store is compacted.
+fn tell_compacted(rt: &HostRuntime) {
+    let _told = eprintln!(rt;
+        "scene: the store is compacted: its history and its cursor begin anew"
+    );
+}
+
 /// The lines of a store, which is compacted where they are very many and few would do.
 fn lines_to_begin(
     rt: &HostRuntime,
@@ -82,32 +102,33 @@ fn lines_to_begin(
     let most = lines.len() / TIMES_SHORTER;
     match fewer_lines(rt, threads, lines.as_slice(), most)? {
         Some(fewer) => {
-            let _told = eprintln!(rt;
-                "scene: the store is compacted: its history and its cursor begin anew"
-            );
             replace_lines(store, fewer.as_slice())?;
+            tell_compacted(rt);
             Ok(fewer)
         }
         None => Ok(lines),
     }
 }
 
-/// Answers the lines on standard input, and keeps them in a store that is open.
-fn shell_over(
+/// Plays the lines of a store.
+fn begin_player(
     rt: &HostRuntime,
     threads: &(impl Threads + Wait + Sync),
     store: &mut FileLines,
-    words: &ShellWords,
+    player: &mut Player,
+) -> Result<(), Ending> {
+    let lines = lines_to_begin(rt, threads, store)?;
+    play_lines(rt, threads, player, lines.as_slice())
+}
+
+/// Answers the lines on standard input, and keeps them in a store whose lines led to this player.
+fn answer_lines(
+    rt: &HostRuntime,
+    threads: &(impl Threads + Wait + Sync),
+    store: &mut FileLines,
+    style: AnswerStyle,
+    player: &mut Player,
 ) -> Ending {
-    let mut player = Player::new(rt.alloc(), words.workers as usize);
-    let lines = match lines_to_begin(rt, threads, store) {
-        Ok(lines) => lines,
-        Err(ending) => return ending,
-    };
-    if let Err(fault) = replay(threads, rt.alloc(), &mut player, lines.as_slice()) {
-        return told(rt, &fault);
-    }
-    drop(lines);
     let Ok(mut reader) = BufReader::new(rt.alloc(), rt.stdin()) else {
         return Ending::Fault(AppFault::NoMemory);
     };
@@ -115,8 +136,8 @@ fn shell_over(
     match run_kept_shell(
         threads,
         rt.alloc(),
-        &mut player,
-        style_of(words),
+        player,
+        style,
         store,
         &mut reader,
         &mut writer,
@@ -125,6 +146,20 @@ fn shell_over(
         Ok(bad_lines) => Ending::after_bad_lines(u32::from(bad_lines > 0)),
         Err(KeptFault::Ended(fault)) => Ending::Fault(fault),
         Err(KeptFault::Keep(fault)) => Ending::Store(fault),
+    }
+}
+
+/// Goes on where a store that is open has ended.
+fn shell_over(
+    rt: &HostRuntime,
+    threads: &(impl Threads + Wait + Sync),
+    store: &mut FileLines,
+    words: &ShellWords,
+) -> Ending {
+    let mut player = Player::new(rt.alloc(), words.workers as usize);
+    match begin_player(rt, threads, store, &mut player) {
+        Ok(()) => answer_lines(rt, threads, store, style_of(words), &mut player),
+        Err(ending) => ending,
     }
 }
 
@@ -153,6 +188,23 @@ fn lines_of(rt: &HostRuntime, path: &str) -> Result<Vec<u8>, StoreFault> {
     Ok(lines)
 }
 
+/// Shows the world that lines lead a new player to.
+fn show_lines(
+    rt: &HostRuntime,
+    threads: &(impl Threads + Wait + Sync),
+    player: &mut Player,
+    lines: &[u8],
+) -> Ending {
+    if let Err(ending) = play_lines(rt, threads, player, lines) {
+        return ending;
+    }
+    let mut text = String::new(rt.alloc());
+    match player.line(threads, b"show", &mut text) {
+        Ok(_) => printed(rt, text.as_str()),
+        Err(_) => Ending::Fault(AppFault::NoMemory),
+    }
+}
+
 /// Shows the world of a store.
 pub fn show_store(rt: &HostRuntime, threads: &(impl Threads + Wait + Sync), path: &str) -> Ending {
     let lines = match lines_of(rt, path) {
@@ -160,16 +212,14 @@ pub fn show_store(rt: &HostRuntime, threads: &(impl Threads + Wait + Sync), path
         Err(fault) => return Ending::Store(fault),
     };
     let mut player = Player::new(rt.alloc(), 1);
-    let mut text = String::new(rt.alloc());
-    if let Err(fault) = replay(threads, rt.alloc(), &mut player, lines.as_slice()) {
-        return told(rt, &fault);
-    }
-    match player.line(threads, b"show", &mut text) {
-        Ok(_) => match rt.print(text.as_str()) {
-            Ok(()) => Ending::Done,
-            Err(_) => Ending::Fault(AppFault::WriteFault),
-        },
-        Err(_) => Ending::Fault(AppFault::NoMemory),
+    show_lines(rt, threads, &mut player, lines.as_slice())
+}
+
+/// Says how many calls came to what.
+fn tell_counts(rt: &HostRuntime, counts: LogCounts) -> Ending {
+    match println!(rt; "{counts}") {
+        Ok(()) => Ending::Done,
+        Err(_) => Ending::Fault(AppFault::WriteFault),
     }
 }
 
@@ -179,21 +229,8 @@ pub fn log_store(rt: &HostRuntime, threads: &(impl Threads + Wait + Sync), path:
         Ok(lines) => lines,
         Err(fault) => return Ending::Store(fault),
     };
-    let mut player = Player::new(rt.alloc(), 1);
-    let mut writer = rt.stdout();
-    match write_log(
-        threads,
-        rt.alloc(),
-        &mut player,
-        lines.as_slice(),
-        &mut writer,
-    ) {
-        Ok(counts) => {
-            match println!(rt; "{counts}") {
-                Ok(()) => Ending::Done,
-                Err(_) => Ending::Fault(AppFault::WriteFault),
-            }
-        }
+    match write_log(threads, rt.alloc(), lines.as_slice(), &mut rt.stdout()) {
+        Ok(counts) => tell_counts(rt, counts),
         Err(fault) => told(rt, &fault),
     }
 }
@@ -219,6 +256,14 @@ fn compact_over(
     }
 }
 
+/// Says how many lines there were and are.
+fn tell_lines(rt: &HostRuntime, before: usize, after: usize) -> Ending {
+    match println!(rt; "lines {before}, now {after}") {
+        Ok(()) => Ending::Done,
+        Err(_) => Ending::Fault(AppFault::WriteFault),
+    }
+}
+
 /// Puts fewer lines in the place of those of a store, and says how many there were and are.
 pub fn compact_store(
     rt: &HostRuntime,
@@ -230,10 +275,7 @@ pub fn compact_store(
         Err(fault) => return Ending::Store(fault),
     };
     let ending = match compact_over(rt, threads, &mut store) {
-        Ok((before, after)) => match println!(rt; "lines {before}, now {after}") {
-            Ok(()) => Ending::Done,
-            Err(_) => Ending::Fault(AppFault::WriteFault),
-        },
+        Ok((before, after)) => tell_lines(rt, before, after),
         Err(ending) => ending,
     };
     closed(store, ending)

@@ -171,19 +171,16 @@ impl Log {
     }
 }
 
-/// Plays lines, and writes for each its number, whose call it is, what it says, and the first line of its answer. It
-/// gives how many calls came to what. It costs what the lines cost in a script.
-///
-/// Refused: `Halted` for want of memory, and `Unwritten`. The entries of the lines before are written then.
-pub fn write_log<T: Threads + Wait + Sync, W: Write>(
+/// Plays the lines of a text, and writes what they came to. It gives how many calls came to what.
+fn write_lines<T: Threads + Wait + Sync, W: Write>(
     rt: &T,
     alloc: Global,
     player: &mut Player,
-    lines: &[u8],
+    text: &[u8],
     writer: &mut W,
 ) -> Result<LogCounts, KeptLineFault> {
     let mut log = Log::new(alloc);
-    let mut rest = lines;
+    let mut rest = text;
     'lines: for number in 1..u64::MAX {
         if rest.is_empty() {
             return Ok(log.counts);
@@ -196,4 +193,18 @@ pub fn write_log<T: Threads + Wait + Sync, W: Write>(
         }
     }
     Err(KeptLineFault::TooLong)
+}
+
+/// Plays the lines of a text from a new player on, and writes for each its number, whose call it is, what it says, and
+/// the first line of its answer. It gives how many calls came to what. It costs what the lines cost in a script.
+///
+/// Refused: `Halted` for want of memory, and `Unwritten`. The entries of the lines before are written then.
+pub fn write_log<T: Threads + Wait + Sync, W: Write>(
+    rt: &T,
+    alloc: Global,
+    text: &[u8],
+    writer: &mut W,
+) -> Result<LogCounts, KeptLineFault> {
+    let mut player = Player::new(alloc, 1);
+    write_lines(rt, alloc, &mut player, text, writer)
 }
