@@ -19,6 +19,7 @@ pub(crate) trait Note {
 }
 
 /// Notes nothing.
+#[derive(Drop)]
 struct Unnoted;
 
 impl Note for Unnoted {
