@@ -6,7 +6,7 @@ ghost use Rattle.scene_shell.specs.Shell.{player_after};
 ghost use Rattle.scene_kept.specs.SceneText.{scene_text};
 
 use crate::fault::KeptLineFault;
-use crate::play_again::{Note, play_noted, replay};
+use crate::play_again::{Note, Unnoted, play_noted};
 use scene_kinds::Schema;
 use scene_player::Player;
 use scene_script::{Line, read_line};
@@ -98,20 +98,20 @@ fn scene_of<T: Threads + Wait + Sync>(
     }
 }
 
-/// The text of the whole scene that lines lead to, and what they say beyond it. Nothing where they are still in the
-/// setup.
-fn play_to_scene<T: Threads + Wait + Sync>(
+/// The text of the whole scene that lines lead to, each of which is noted. It gives whether there is one: lines that are
+/// still in the setup have none.
+fn play_to_scene<T: Threads + Wait + Sync, N: Note>(
     rt: &T,
     alloc: Global,
     player: &mut Player,
-    kept: &mut Kept,
+    notes: &mut N,
     text: &[u8],
     scene: &mut String,
 ) -> Result<bool, KeptLineFault>
     ensures { IfOk result (λ is_begun. is_begun ≡ true → string_bytes scene.new ≡ string_bytes scene.old
         ++ scene_text (player_after (player_of player.old) (lines text.now))) }
 {
-    play_noted(rt, alloc, player, kept, text)?;
+    play_noted(rt, alloc, player, notes, text)?;
     // Behind the setup this line would change nothing.
     match player.changes(b"show") {
         Ok(true) => Ok(false),
@@ -124,10 +124,10 @@ fn play_to_scene<T: Threads + Wait + Sync>(
 }
 
 /// The same of a new player.
-fn noted_scene<T: Threads + Wait + Sync>(
+fn scene_behind<T: Threads + Wait + Sync, N: Note>(
     rt: &T,
     alloc: Global,
-    kept: &mut Kept,
+    notes: &mut N,
     text: &[u8],
     scene: &mut String,
 ) -> Result<bool, KeptLineFault>
@@ -135,36 +135,7 @@ fn noted_scene<T: Threads + Wait + Sync>(
         ++ scene_text (player_after first_player (lines text.now))) }
 {
     let mut player = Player::new(alloc, 1);
-    play_to_scene(rt, alloc, &mut player, kept, text, scene)
-}
-
-/// The text of the whole scene that lines lead a player to.
-fn play_again_to_scene<T: Threads + Wait + Sync>(
-    rt: &T,
-    alloc: Global,
-    player: &mut Player,
-    text: &[u8],
-    scene: &mut String,
-) -> Result<(), KeptLineFault>
-    ensures { OnOk result (string_bytes scene.new ≡ string_bytes scene.old
-        ++ scene_text (player_after (player_of player.old) (lines text.now))) }
-{
-    replay(rt, alloc, player, text)?;
-    scene_of(rt, player, scene)
-}
-
-/// The same of a new player.
-fn replayed_scene<T: Threads + Wait + Sync>(
-    rt: &T,
-    alloc: Global,
-    text: &[u8],
-    scene: &mut String,
-) -> Result<(), KeptLineFault>
-    ensures { OnOk result (string_bytes scene.new ≡ string_bytes scene.old
-        ++ scene_text (player_after first_player (lines text.now))) }
-{
-    let mut player = Player::new(alloc, 1);
-    play_again_to_scene(rt, alloc, &mut player, text, scene)
+    play_to_scene(rt, alloc, &mut player, notes, text, scene)
 }
 
 /// Whether lines lead to a scene of this text.
@@ -177,8 +148,8 @@ fn leads_to<T: Threads + Wait + Sync>(
     ensures { IfOk result (λ same. same ≡ true → scene_text (player_after first_player (lines text.now)) ≡ scene.now) }
 {
     let mut again = String::new(alloc);
-    replayed_scene(rt, alloc, text, &mut again)?;
-    Ok(again.as_bytes() == scene)
+    let is_begun = scene_behind(rt, alloc, &mut Unnoted, text, &mut again)?;
+    Ok(is_begun && again.as_bytes() == scene)
 }
 
 /// Fewer lines that lead to the same world, past, future, systems and session as these lines. The history, the count of
@@ -199,7 +170,7 @@ pub fn compacted<T: Threads + Wait + Sync>(
 {
     let mut kept = Kept::new(alloc);
     let mut scene = String::new(alloc);
-    if !noted_scene(rt, alloc, &mut kept, text, &mut scene)? {
+    if !scene_behind(rt, alloc, &mut kept, text, &mut scene)? {
         return Ok(None);
     }
     if scene.as_str().starts_with("fault") {

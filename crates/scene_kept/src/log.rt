@@ -129,9 +129,9 @@ impl Log {
         )?)
     }
 
-    /// Notes whose calls the next lines are, behind this one.
-    fn turn(&mut self, player: &Player, line: &[u8]) {
-        if let Ok(Line::As(next)) = read_line(self.alloc, player.schema(), line) {
+    /// Notes whose calls the next lines are.
+    fn turn(&mut self, said: &Line) {
+        if let Line::As(next) = said {
             self.session = next.get();
         }
     }
@@ -150,7 +150,9 @@ impl Log {
         if self.write_entry(number, line).is_err() {
             return Err(KeptLineFault::Halted(number, Halt::After));
         }
-        self.turn(player, line);
+        if let Ok(said) = read_line(self.alloc, player.schema(), line) {
+            self.turn(&said);
+        }
         Ok(())
     }
 

@@ -20,7 +20,7 @@ pub(crate) trait Note {
 
 /// Notes nothing.
 #[derive(Drop)]
-struct Unnoted;
+pub(crate) struct Unnoted;
 
 impl Note for Unnoted {
     fn note(&mut self, _: Global, _: &Schema, _: &[u8]) -> Result<(), AllocError> {
