@@ -3,7 +3,7 @@ ghost use Rattle.std.specs.Prelude.{◌≡◌, ◌≢◌, IfErr, IfOk, OnOk, IfS
 ghost use Rattle.std.specs.Io.Buffered.{reader_remaining};
 ghost use Rattle.std.specs.Str.Lines.{lines};
 ghost use Rattle.scene_app.specs.declared.fault.AppFault.TheVariants.{WriteFault};
-ghost use Rattle.scene_player.specs.Player.{limited_player};
+ghost use Rattle.scene_player.specs.Player.{limited_player, player_of};
 ghost use Rattle.scene_shell.specs.Shell.{HasAnswered, HasSaid, bad_count};
 
 use crate::keep::Keep;
@@ -45,13 +45,47 @@ impl Keep for Nowhere {
     }
 }
 
+/// Answers each line of a reader by a player, as `run_shell` does, and keeps nothing.
+#[tactic(auto, using(crate::proofs::KeptLaws::ends))]
+fn run_unkept<T: Threads + Wait + Sync, R: Read, W: Write, E: Write>(
+    rt: &T,
+    alloc: Global,
+    player: &mut Player,
+    style: AnswerStyle,
+    reader: &mut BufReader<R>,
+    writer: &mut W,
+    errors: &mut E,
+) -> Result<u64, AppFault>
+    ensures answers { OnOk result (IfSome (reader_remaining R.remaining reader.old) (λ script.
+        HasSaid style (player_of player.old) (lines script) (W.contents writer.old) (W.contents writer.new))) }
+    ensures bad { IfOk result (λ count. IfSome (reader_remaining R.remaining reader.old) (λ script.
+        count ≡ bad_count (player_of player.old) (lines script))) }
+    ensures whole { IfErr result (λ f. f ≢ WriteFault
+        → IfSome (reader_remaining R.remaining reader.old) (λ script.
+        HasAnswered style (player_of player.old) script (W.contents writer.old) (W.contents writer.new))) }
+{
+    match run_kept_shell(
+        rt,
+        alloc,
+        player,
+        style,
+        &mut Nowhere,
+        reader,
+        writer,
+        errors,
+    ) {
+        Ok(bad_lines) => Ok(bad_lines),
+        Err(KeptFault::Ended(fault)) => Err(fault),
+        Err(KeptFault::Keep(fault)) => Err(fault),
+    }
+}
+
 /// Answers each line of a reader before it waits for the next one, until the reader's end (docs/SHELL.md). A bad line
 /// is told on the stream of errors at once, by its number from 1. It gives how many lines were bad.
 ///
 /// Refused: `ReadFault`, `WriteFault`, and `NoMemory`; then the stream of errors tells what became of the line. But for
 /// `WriteFault`, just the lines before are answered, each whole. A line costs what `scene run` costs for it, and where
 /// none waits behind it a call of the writer; the memory is the player's, a line's and 64 KiB of answers.
-#[tactic(auto, using(crate::proofs::KeptLaws::ends))]
 pub fn run_shell<T: Threads + Wait + Sync, R: Read, W: Write, E: Write>(
     rt: &T,
     alloc: Global,
@@ -75,18 +109,5 @@ pub fn run_shell<T: Threads + Wait + Sync, R: Read, W: Write, E: Write>(
         style,
     } = settings;
     let mut player = Player::with_depth(alloc, workers, depth);
-    match run_kept_shell(
-        rt,
-        alloc,
-        &mut player,
-        style,
-        &mut Nowhere,
-        reader,
-        writer,
-        errors,
-    ) {
-        Ok(bad_lines) => Ok(bad_lines),
-        Err(KeptFault::Ended(fault)) => Err(fault),
-        Err(KeptFault::Keep(fault)) => Err(fault),
-    }
+    run_unkept(rt, alloc, &mut player, style, reader, writer, errors)
 }
