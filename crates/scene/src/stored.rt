@@ -3,9 +3,10 @@ use crate::ending::Ending;
 use crate::{printed, style_of};
 use scene_app::AppFault;
 use scene_command_line::ShellWords;
-use scene_kept::{KeptLineFault, LogCounts, compacted, replay, write_log};
-use scene_player::Player;
-use scene_shell::{AnswerStyle, KeptFault, run_kept_shell};
+use scene_kept::{
+    KeptLineFault, LogCounts, ShellOnFault, compacted, run_shell_on, show_lines, write_log,
+};
+use scene_shell::KeptFault;
 use scene_store::{FileLines, StoreFault};
 use std::fs;
 use std::io::BufReader;
@@ -40,22 +41,15 @@ fn open_there(rt: &HostRuntime, path: &str) -> Result<FileLines, StoreFault> {
     }
 }
 
-/// Plays lines that were kept.
-fn play_lines(
-    rt: &HostRuntime,
-    threads: &(impl Threads + Wait + Sync),
-    player: &mut Player,
-    lines: &[u8],
-) -> Result<(), Ending> {
-    match replay(threads, rt.alloc(), player, lines) {
-        Ok(()) => Ok(()),
-        Err(fault) => Err(told(rt, &fault)),
-    }
-}
-
 /// How many lines a text has, whose last line ends as the others do.
 fn line_count(lines: &[u8]) -> usize {
-    lines.iter().filter(|byte| **byte == b'\n').count()
+    let mut count = 0usize;
+    for byte in lines {
+        if *byte == b'\n' {
+            count = count.saturating_add(1);
+        }
+    }
+    count
 }
 
 /// Fewer lines that lead to the same scene, of so many bytes at most; none where the lines are still in the setup.
@@ -110,43 +104,39 @@ fn lines_to_begin(
     }
 }
 
-/// Plays the lines of a store.
-fn begin_player(
-    rt: &HostRuntime,
-    threads: &(impl Threads + Wait + Sync),
-    store: &mut FileLines,
-    player: &mut Player,
-) -> Result<(), Ending> {
-    let lines = lines_to_begin(rt, threads, store)?;
-    play_lines(rt, threads, player, lines.as_slice())
+/// How a shell on a store ended.
+fn shell_ending(rt: &HostRuntime, ended: Result<u64, ShellOnFault<StoreFault>>) -> Ending {
+    match ended {
+        Ok(bad_lines) => Ending::after_bad_lines(u32::from(bad_lines > 0)),
+        Err(ShellOnFault::Lines(fault)) => told(rt, &fault),
+        Err(ShellOnFault::Shell(KeptFault::Ended(fault))) => Ending::Fault(fault),
+        Err(ShellOnFault::Shell(KeptFault::Keep(fault))) => Ending::Store(fault),
+    }
 }
 
-/// Answers the lines on standard input, and keeps them in a store whose lines led to this player.
-fn answer_lines(
+/// Answers the lines on standard input behind these lines, and keeps them in a store.
+fn shell_behind(
     rt: &HostRuntime,
     threads: &(impl Threads + Wait + Sync),
     store: &mut FileLines,
-    style: AnswerStyle,
-    player: &mut Player,
+    words: &ShellWords,
+    lines: Vec<u8>,
 ) -> Ending {
     let Ok(mut reader) = BufReader::new(rt.alloc(), rt.stdin()) else {
         return Ending::Fault(AppFault::NoMemory);
     };
-    let (mut writer, mut errors) = (rt.stdout(), rt.stderr());
-    match run_kept_shell(
+    let ended = run_shell_on(
         threads,
         rt.alloc(),
-        player,
-        style,
+        words.workers as usize,
+        style_of(words),
+        lines,
         store,
         &mut reader,
-        &mut writer,
-        &mut errors,
-    ) {
-        Ok(bad_lines) => Ending::after_bad_lines(u32::from(bad_lines > 0)),
-        Err(KeptFault::Ended(fault)) => Ending::Fault(fault),
-        Err(KeptFault::Keep(fault)) => Ending::Store(fault),
-    }
+        &mut rt.stdout(),
+        &mut rt.stderr(),
+    );
+    shell_ending(rt, ended)
 }
 
 /// Goes on where a store that is open has ended.
@@ -156,9 +146,8 @@ fn shell_over(
     store: &mut FileLines,
     words: &ShellWords,
 ) -> Ending {
-    let mut player = Player::new(rt.alloc(), words.workers as usize);
-    match begin_player(rt, threads, store, &mut player) {
-        Ok(()) => answer_lines(rt, threads, store, style_of(words), &mut player),
+    match lines_to_begin(rt, threads, store) {
+        Ok(lines) => shell_behind(rt, threads, store, words, lines),
         Err(ending) => ending,
     }
 }
@@ -183,25 +172,11 @@ pub fn stored_shell(
 /// The lines of the store at a path, which has to be there.
 fn lines_of(rt: &HostRuntime, path: &str) -> Result<Vec<u8>, StoreFault> {
     let mut store = open_there(rt, path)?;
-    let lines = store.lines(rt.alloc())?;
-    store.close()?;
-    Ok(lines)
-}
-
-/// Shows the world that lines lead a new player to.
-fn show_lines(
-    rt: &HostRuntime,
-    threads: &(impl Threads + Wait + Sync),
-    player: &mut Player,
-    lines: &[u8],
-) -> Ending {
-    if let Err(ending) = play_lines(rt, threads, player, lines) {
-        return ending;
-    }
-    let mut text = String::new(rt.alloc());
-    match player.line(threads, b"show", &mut text) {
-        Ok(_) => printed(rt, text.as_str()),
-        Err(_) => Ending::Fault(AppFault::NoMemory),
+    let lines = store.lines(rt.alloc());
+    match (store.close(), lines) {
+        (Ok(()), lines) => lines,
+        (Err(_), Err(fault)) => Err(fault),
+        (Err(fault), Ok(_)) => Err(fault),
     }
 }
 
@@ -211,8 +186,11 @@ pub fn show_store(rt: &HostRuntime, threads: &(impl Threads + Wait + Sync), path
         Ok(lines) => lines,
         Err(fault) => return Ending::Store(fault),
     };
-    let mut player = Player::new(rt.alloc(), 1);
-    show_lines(rt, threads, &mut player, lines.as_slice())
+    let mut world = String::new(rt.alloc());
+    match show_lines(threads, rt.alloc(), lines.as_slice(), &mut world) {
+        Ok(()) => printed(rt, world.as_str()),
+        Err(fault) => told(rt, &fault),
+    }
 }
 
 /// Says how many calls came to what.

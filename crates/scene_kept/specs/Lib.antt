@@ -1,1 +1,2 @@
-pub mod SceneText
+pub mod AnswerText
+pub mod GoesOn

@@ -1,14 +1,11 @@
 //! Fewer lines that lead to the same scene.
-ghost use Rattle.std.specs.Prelude.{◌≡◌, ◌++◌, IfOk, IfSome, OnOk, string_bytes, true};
-ghost use Rattle.std.specs.Str.Lines.{lines};
-ghost use Rattle.scene_player.specs.Player.{first_player, player_of};
-ghost use Rattle.scene_shell.specs.Shell.{player_after};
-ghost use Rattle.scene_kept.specs.SceneText.{scene_text};
+ghost use Rattle.std.specs.Prelude.{◌≡◌, IfOk, IfSome, codes, true};
+ghost use Rattle.scene_kept.specs.AnswerText.{answer_text};
 
+use crate::asked::answer_behind;
 use crate::fault::KeptLineFault;
-use crate::play_again::{Note, Unnoted, play_noted};
+use crate::play_again::{Note, Unnoted};
 use scene_kinds::Schema;
-use scene_player::Player;
 use scene_script::{Line, read_line};
 use std::alloc::{AllocError, Global};
 use std::sync::Wait;
@@ -84,60 +81,6 @@ impl Note for Kept {
     }
 }
 
-/// The text of the whole scene of a player.
-fn scene_of<T: Threads + Wait + Sync>(
-    rt: &T,
-    player: &mut Player,
-    scene: &mut String,
-) -> Result<(), KeptLineFault>
-    ensures { OnOk result (string_bytes scene.new ≡ string_bytes scene.old ++ scene_text (player_of player.old)) }
-{
-    match player.line(rt, b"dumpall", scene) {
-        Ok(_) => Ok(()),
-        Err(_) => Err(KeptLineFault::NoMemory),
-    }
-}
-
-/// The text of the whole scene that lines lead to, each of which is noted. It gives whether there is one: lines that are
-/// still in the setup have none.
-fn play_to_scene<T: Threads + Wait + Sync, N: Note>(
-    rt: &T,
-    alloc: Global,
-    player: &mut Player,
-    notes: &mut N,
-    text: &[u8],
-    scene: &mut String,
-) -> Result<bool, KeptLineFault>
-    ensures { IfOk result (λ is_begun. is_begun ≡ true → string_bytes scene.new ≡ string_bytes scene.old
-        ++ scene_text (player_after (player_of player.old) (lines text.now))) }
-{
-    play_noted(rt, alloc, player, notes, text)?;
-    // Behind the setup this line would change nothing.
-    match player.changes(b"show") {
-        Ok(true) => Ok(false),
-        Ok(false) => match scene_of(rt, player, scene) {
-            Ok(()) => Ok(true),
-            Err(fault) => Err(fault),
-        },
-        Err(AllocError) => Err(KeptLineFault::NoMemory),
-    }
-}
-
-/// The same of a new player.
-fn scene_behind<T: Threads + Wait + Sync, N: Note>(
-    rt: &T,
-    alloc: Global,
-    notes: &mut N,
-    text: &[u8],
-    scene: &mut String,
-) -> Result<bool, KeptLineFault>
-    ensures { IfOk result (λ is_begun. is_begun ≡ true → string_bytes scene.new ≡ string_bytes scene.old
-        ++ scene_text (player_after first_player (lines text.now))) }
-{
-    let mut player = Player::new(alloc, 1);
-    play_to_scene(rt, alloc, &mut player, notes, text, scene)
-}
-
 /// Whether lines lead to a scene of this text.
 fn leads_to<T: Threads + Wait + Sync>(
     rt: &T,
@@ -145,11 +88,11 @@ fn leads_to<T: Threads + Wait + Sync>(
     text: &[u8],
     scene: &[u8],
 ) -> Result<bool, KeptLineFault>
-    ensures { IfOk result (λ same. same ≡ true → scene_text (player_after first_player (lines text.now)) ≡ scene.now) }
+    ensures { IfOk result (λ same. same ≡ true → answer_text (codes "dumpall") text.now ≡ scene.now) }
 {
     let mut again = String::new(alloc);
-    let is_begun = scene_behind(rt, alloc, &mut Unnoted, text, &mut again)?;
-    Ok(is_begun && again.as_bytes() == scene)
+    answer_behind(rt, alloc, &mut Unnoted, text, b"dumpall", &mut again)?;
+    Ok(again.as_bytes() == scene)
 }
 
 /// Fewer lines that lead to the same world, past, future, systems and session as these lines. The history, the count of
@@ -166,11 +109,11 @@ pub fn compacted<T: Threads + Wait + Sync>(
     most: usize,
 ) -> Result<Option<Vec<u8>>, KeptLineFault>
     ensures { IfOk result (λ fewer. IfSome fewer (λ l.
-        scene_text (player_after first_player (lines l.items)) ≡ scene_text (player_after first_player (lines text.now)))) }
+        answer_text (codes "dumpall") l.items ≡ answer_text (codes "dumpall") text.now)) }
 {
     let mut kept = Kept::new(alloc);
     let mut scene = String::new(alloc);
-    if !scene_behind(rt, alloc, &mut kept, text, &mut scene)? {
+    if !answer_behind(rt, alloc, &mut kept, text, b"dumpall", &mut scene)? {
         return Ok(None);
     }
     if scene.as_str().starts_with("fault") {
