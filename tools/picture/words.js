@@ -1,0 +1,119 @@
+// What is said of cells and of changes, and what a search finds. Nothing here draws: all of it is text.
+
+// A text stands as the program prints it, as a JSON string, so that no control character hides.
+function valueText(shape, value) {
+  if (shape === "Tag") return "";
+  if (shape === "Text") return JSON.stringify(value);
+  return String(value);
+}
+
+function named(name, shape, value) {
+  return shape === "Tag" ? name : `${name}=${valueText(shape, value)}`;
+}
+
+function cellText(kinds, kind, [value]) {
+  const [name, shape] = kinds[kind];
+  return named(name, shape, value);
+}
+
+function ticksText([added, changed]) {
+  return `added at tick ${added}, changed at tick ${changed}`;
+}
+
+function cellsText(kinds, cells) {
+  return cells.map(([kind, ...cell]) => cellText(kinds, kind, cell)).join(" ");
+}
+
+// The cells of a row by ascending kind.
+function rowCells(row) {
+  return row.table.kinds.map((kind) => [kind, ...row.cells.get(kind)]);
+}
+
+function resourceText(name, [shape, value]) {
+  return named(name, shape, value);
+}
+
+function linkText(link) {
+  return link === null ? "below none" : `below ${link[0]} at place ${link[1]}`;
+}
+
+function valueChange(name, shape, before, after) {
+  if (shape === "Tag") return `${name} is written again`;
+  return `${name} ${valueText(shape, before)} → ${valueText(shape, after)}`;
+}
+
+const SAY = {
+  spawned: (kinds, { cells }) => ["new", cellsText(kinds, cells)],
+  despawned: (kinds, { cells, retired }) => ["gone", cellsText(kinds, cells) + (retired ? " (index retired)" : "")],
+  shifted: (kinds, { cell, inward }) => ["changed", `${inward ? "gets" : "loses"} ${cellsText(kinds, [cell])}`],
+  cellset(kinds, { before, after }) {
+    const [name, shape] = kinds[before[0]];
+    return ["changed", valueChange(name, shape, before[1], after[1])];
+  },
+  linked: (kinds, { before, after }) => ["moved", `${linkText(before)} → ${linkText(after)}`],
+  resourceset(kinds, { name, before, after }) {
+    if (before === null) return ["resource", `new: ${resourceText(name, after)}`];
+    if (after === null) return ["resource", `gone: ${resourceText(name, before)}`];
+    if (before[0] === after[0]) return ["resource", valueChange(name, ...before.slice(0, 2), after[1])];
+    return ["resource", `${resourceText(name, before)} (${before[0]}) → ${resourceText(name, after)} (${after[0]})`];
+  },
+};
+
+// What a delta of a frame did, as a line: its sort, the entity if it is of one, and words.
+function changeOf(kinds, delta) {
+  const [sort, text] = SAY[delta.op](kinds, delta);
+  return { sort, entity: delta.entity, text };
+}
+
+// Which entities a frame changed, each with the sort of its change and the kinds that it wrote, and which resources.
+// Of several sorts the first of new, moved, changed is told.
+function marksOf(record) {
+  const entities = new Map();
+  const resources = new Set();
+  const order = ["new", "moved", "changed"];
+  for (const delta of record?.deltas ?? []) {
+    if (delta.op === "resourceset") {
+      resources.add(delta.name);
+      continue;
+    }
+    const sort = { spawned: "new", linked: "moved", shifted: "changed", cellset: "changed" }[delta.op];
+    if (sort === undefined) continue;
+    const mark = entities.get(delta.entity) ?? { sort, kinds: new Set() };
+    if (order.indexOf(sort) < order.indexOf(mark.sort)) mark.sort = sort;
+    const written = { spawned: delta.cells, shifted: [delta.cell], cellset: [delta.after] }[delta.op] ?? [];
+    for (const [kind] of written) mark.kinds.add(kind);
+    entities.set(delta.entity, mark);
+  }
+  return { entities, resources };
+}
+
+// The frames, as positions behind them, whose records name an entity.
+function framesOf(records, entity) {
+  const frames = [];
+  records.forEach((record, at) => {
+    if (record.deltas.some((delta) => delta.entity === entity)) frames.push(at + 1);
+  });
+  return frames;
+}
+
+// What a search looks in: the entity and its cells, as they are shown.
+function searchText(kinds, row) {
+  return `${row.entity} ${cellsText(kinds, rowCells(row))}`.toLowerCase();
+}
+
+// The entities that have each word of a search, or null for an empty one.
+function found(timeline, search) {
+  const words = search.toLowerCase().split(/\s+/).filter((word) => word !== "");
+  if (words.length === 0) return null;
+  const matched = new Set();
+  for (const row of timeline.state.rows.values()) {
+    const text = searchText(timeline.kinds, row);
+    if (words.every((word) => text.includes(word))) matched.add(row.entity);
+  }
+  return matched;
+}
+
+function positionText({ position, now, records, state }) {
+  const where = position === now ? "now" : position < now ? "past" : "future";
+  return `after frame ${position} of ${records.length}, tick ${state.tick} (${where})`;
+}
