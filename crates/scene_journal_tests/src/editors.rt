@@ -10,6 +10,8 @@ mod small;
 mod sweep;
 #[cfg(test)]
 mod tree;
+#[cfg(test)]
+mod trials;
 
 pub use small::{editor_of, given, queue_of, submit_one};
 pub use sweep::{Sweep, sweep_away};

@@ -1,5 +1,5 @@
 //! The records of frames that were worked out by hand, and copies of deltas and of records.
-use crate::frames::framed;
+use crate::frames::{framed, record_of};
 use crate::printed::same_delta;
 use crate::scenes::{T, empty_world, first, one_tag, pushed, spawn};
 use scene_commands::{Command, Target};
@@ -7,7 +7,9 @@ use scene_deltas::Delta;
 use scene_journal::FrameRecord;
 use scene_kinds::{Entity, Value};
 use scene_queue::Queue;
+use scene_world::World;
 use std::alloc::{AllocError, Global};
+use std::process::Abort;
 use std::test::Fail;
 
 /// Three entities with the Tag come, of which the second and the third go below the first.
@@ -86,19 +88,29 @@ fn are_of_felling(alloc: Global, deltas: &[Delta]) -> bool {
         && is_delta(alloc, deltas.get(2), went(alloc, 0, 0, None))
 }
 
+/// The world after planting, whose deltas are noted.
+fn planted(rt: &impl Abort, alloc: Global) -> World {
+    let mut planting = Queue::new(alloc);
+    assert!(rt; push_planting(alloc, &mut planting));
+    let empty = empty_world(alloc).expect(rt, "a world");
+    let (planted, one) = framed(rt, alloc, empty, &planting);
+    assert_eq!(rt; one.tick_before(), 0);
+    assert!(rt; are_of_planting(alloc, one.deltas()));
+    planted
+}
+
+/// Felling after planting, whose deltas are noted.
+fn fell(rt: &impl Abort, alloc: Global, planted: World) {
+    let mut felling = Queue::new(alloc);
+    assert!(rt; push_felling(&mut felling));
+    let (two, _text) = record_of(rt, alloc, planted, &felling);
+    assert_eq!(rt; two.tick_before(), 1);
+    assert!(rt; are_of_felling(alloc, two.deltas()));
+}
+
 #[test]
 fn frames_note_their_deltas(rt: HostRuntime) -> Result<(), Fail> {
-    let empty = empty_world(rt.alloc())?;
-    let mut planting = Queue::new(rt.alloc());
-    assert!(rt; push_planting(rt.alloc(), &mut planting));
-    let (planted, one) = framed(&rt, rt.alloc(), empty, &planting);
-    assert_eq!(rt; one.tick_before(), 0);
-    assert!(rt; are_of_planting(rt.alloc(), one.deltas()));
-    let mut felling = Queue::new(rt.alloc());
-    assert!(rt; push_felling(&mut felling));
-    let (_felled, two) = framed(&rt, rt.alloc(), planted, &felling);
-    assert_eq!(rt; two.tick_before(), 1);
-    assert!(rt; are_of_felling(rt.alloc(), two.deltas()));
+    fell(&rt, rt.alloc(), planted(&rt, rt.alloc()));
     Ok(())
 }
 

@@ -1,7 +1,9 @@
 //! Frames of one queue, with their records.
 ghost use Rattle.scene_deltas.specs.Ready.{AreReady};
 
+use crate::printed::text_of;
 use scene_journal::{FrameRecord, Recorder};
+use scene_kinds::Refusal;
 use scene_queue::Queue;
 use scene_world::World;
 use std::alloc::Global;
@@ -29,4 +31,27 @@ pub fn framed(rt: &impl Abort, alloc: Global, world: World, queue: &Queue) -> (W
     let mut recorder = begun(rt, alloc, world);
     apply(rt, &mut recorder, queue);
     recorder.into_parts()
+}
+
+/// The world after a frame of one queue.
+pub fn world_after(
+    rt: &impl Abort,
+    alloc: Global,
+    world: Result<World, Refusal>,
+    queue: &Queue,
+) -> World {
+    let world = world.expect(rt, "a world");
+    let (world, _record) = framed(rt, alloc, world, queue);
+    world
+}
+
+/// The record of a frame of one queue, and the text of the world after it.
+pub fn record_of(
+    rt: &impl Abort,
+    alloc: Global,
+    world: World,
+    queue: &Queue,
+) -> (FrameRecord, String) {
+    let (after, record) = framed(rt, alloc, world, queue);
+    (record, text_of(alloc, &after).expect(rt, "memory"))
 }

@@ -24,6 +24,8 @@ mod scenes;
 mod slot_tests;
 #[cfg(test)]
 mod steps;
+#[cfg(test)]
+mod trials;
 
 pub use editors::{Sweep, editor_of, given, queue_of, submit_one, sweep_away};
 pub use long_frame::{push_long, push_opening};

@@ -2,12 +2,14 @@
 use crate::changes::Change::{Comes, Leaves, Linked, Put, SetAgain, Tagged};
 use crate::changes::{Change, LinkTo};
 use crate::scenes::empty_world;
+use crate::steps::Step;
 use crate::steps::Step::{
     CannotGo, CannotReturn, Children, Goes, Resource, Returns, Rows, Slots, Tick,
 };
-use crate::steps::{Step, first_wrong};
-use scene_kinds::{KindSet, Refusal};
+use crate::trials::{Trial, try_world};
+use scene_kinds::KindSet;
 use std::alloc::Global;
+use std::process::Abort;
 use std::test::Fail;
 
 /// The kind set of A alone.
@@ -28,19 +30,15 @@ const THREE_COME: [Step; 8] = [
     Slots(&[1, 1, 1], &[]),
 ];
 
-/// The number of the first step that is wrong, on an empty world.
-fn wrong_at(alloc: Global, steps: &[Step]) -> Result<Option<usize>, Refusal> {
-    let mut world = empty_world(alloc)?;
-    Ok(first_wrong(alloc, &mut world, steps))
+/// All steps hold, on an empty world.
+fn hold(rt: &impl Abort, alloc: Global, steps: &[Step]) {
+    try_world(rt, alloc, empty_world(alloc), Trial::Steps(&[], steps));
 }
 
-/// The same after three entities have come; a fault in their coming counts as step 0.
-fn wrong_after_three(alloc: Global, steps: &[Step]) -> Result<Option<usize>, Refusal> {
-    let mut world = empty_world(alloc)?;
-    Ok(match first_wrong(alloc, &mut world, &THREE_COME) {
-        Some(_) => Some(0),
-        None => first_wrong(alloc, &mut world, steps),
-    })
+/// The same after three entities have come.
+fn hold_after_three(rt: &impl Abort, alloc: Global, steps: &[Step]) {
+    let trial = Trial::Steps(&THREE_COME, steps);
+    try_world(rt, alloc, empty_world(alloc), trial);
 }
 
 #[test]
@@ -55,7 +53,7 @@ fn rows_come_and_go(rt: HostRuntime) -> Result<(), Fail> {
         Goes(Comes(0)),
         Rows(JUST_A, &[0]),
     ];
-    assert_eq!(rt; wrong_at(rt.alloc(), &steps), Ok(None));
+    hold(&rt, rt.alloc(), &steps);
     Ok(())
 }
 
@@ -75,7 +73,7 @@ fn rows_leave_and_come_back(rt: HostRuntime) -> Result<(), Fail> {
         Rows(JUST_A, &[0, 1, 2]),
         Slots(&[1, 1, 1], &[]),
     ];
-    assert_eq!(rt; wrong_after_three(rt.alloc(), &steps), Ok(None));
+    hold_after_three(&rt, rt.alloc(), &steps);
     Ok(())
 }
 
@@ -101,7 +99,7 @@ fn rows_move_and_come_back(rt: HostRuntime) -> Result<(), Fail> {
         Returns(given),
         Rows(JUST_A, &[0, 1, 2]),
     ];
-    assert_eq!(rt; wrong_after_three(rt.alloc(), &steps), Ok(None));
+    hold_after_three(&rt, rt.alloc(), &steps);
     Ok(())
 }
 
@@ -116,7 +114,7 @@ fn cells_change_and_come_back(rt: HostRuntime) -> Result<(), Fail> {
         Returns(SetAgain),
         CannotReturn(SetAgain),
     ];
-    assert_eq!(rt; wrong_at(rt.alloc(), &steps), Ok(None));
+    hold(&rt, rt.alloc(), &steps);
     Ok(())
 }
 
@@ -144,7 +142,7 @@ fn children_move_and_come_back(rt: HostRuntime) -> Result<(), Fail> {
         Returns(becomes_last),
         Children(0, &[1, 2]),
     ];
-    assert_eq!(rt; wrong_after_three(rt.alloc(), &steps), Ok(None));
+    hold_after_three(&rt, rt.alloc(), &steps);
     Ok(())
 }
 
@@ -163,6 +161,6 @@ fn resources_change_and_come_back(rt: HostRuntime) -> Result<(), Fail> {
         Returns(put(Some(1), Some(2))),
         Resource(Some(1)),
     ];
-    assert_eq!(rt; wrong_at(rt.alloc(), &steps), Ok(None));
+    hold(&rt, rt.alloc(), &steps);
     Ok(())
 }

@@ -1,6 +1,7 @@
 //! Records that don't fit, each with its first fault.
-use crate::frames::framed;
+use crate::frames::world_after;
 use crate::scenes::{A, empty_world, first, one_number, pushed, spawn};
+use crate::trials::{Trial, try_world};
 use scene_deltas::Delta;
 use scene_journal::FrameRecord;
 use scene_kinds::{Entity, Fault, Refusal, Value};
@@ -11,11 +12,10 @@ use std::process::Abort;
 use std::test::Fail;
 
 /// The world after a frame on an empty one, which spawned an entity with a 5.
-fn spawned_world(rt: &impl Abort, alloc: Global, empty: World) -> World {
+fn spawned_world(rt: &impl Abort, alloc: Global) -> World {
     let mut queue = Queue::new(alloc);
     assert!(rt; pushed(&mut queue, spawn(alloc, A, Value::Int(5))));
-    let (world, _record) = framed(rt, alloc, empty, &queue);
-    world
+    world_after(rt, alloc, empty_world(alloc), &queue)
 }
 
 /// The record with this delta alone.
@@ -72,28 +72,36 @@ fn bad(delta: u64) -> Result<(), Refusal> {
     Err(Refusal::from(Fault::BadRecord { frame: 0, delta }))
 }
 
+/// Records are tried back on the world of one entity.
+pub fn undone_are_tried(rt: &impl Abort, alloc: Global, world: &World) {
+    assert!(rt; undone(spawn_of(alloc, 0, 5), world, Ok(())));
+    assert!(rt; undone(spawn_of(alloc, 3, 5), world, bad(1)));
+    assert!(rt; undone(spawn_of(alloc, 0, 6), world, bad(0)));
+    let nothing = FrameRecord::new(0, Vec::new(alloc));
+    assert!(rt; undone(Ok(nothing), world, bad(0)));
+}
+
 #[test]
 fn faults_of_undone_records_are_told(rt: HostRuntime) -> Result<(), Fail> {
-    let empty = empty_world(rt.alloc())?;
-    let world = spawned_world(&rt, rt.alloc(), empty);
-    assert!(rt; undone(spawn_of(rt.alloc(), 0, 5), &world, Ok(())));
-    assert!(rt; undone(spawn_of(rt.alloc(), 3, 5), &world, bad(1)));
-    assert!(rt; undone(spawn_of(rt.alloc(), 0, 6), &world, bad(0)));
-    let nothing = FrameRecord::new(0, Vec::new(rt.alloc()));
-    assert!(rt; undone(Ok(nothing), &world, bad(0)));
+    let world = spawned_world(&rt, rt.alloc());
+    try_world(&rt, rt.alloc(), Ok(world), Trial::Undone);
     Ok(())
+}
+
+/// Records are tried on that world.
+pub fn redone_are_tried(rt: &impl Abort, alloc: Global, world: &World) {
+    let nothing = FrameRecord::new(1, Vec::new(alloc));
+    assert!(rt; redone(Ok(nothing), world, Ok(())));
+    let nothing = FrameRecord::new(0, Vec::new(alloc));
+    assert!(rt; redone(Ok(nothing), world, bad(0)));
+    assert!(rt; redone(spawn_of(alloc, 0, 5), world, bad(1)));
+    assert!(rt; redone(link_of(alloc, first(0), first(0)), world, bad(0)));
+    assert!(rt; redone(link_of(alloc, first(0), first(1)), world, bad(0)));
 }
 
 #[test]
 fn faults_of_redone_records_are_told(rt: HostRuntime) -> Result<(), Fail> {
-    let empty = empty_world(rt.alloc())?;
-    let world = spawned_world(&rt, rt.alloc(), empty);
-    let nothing = FrameRecord::new(1, Vec::new(rt.alloc()));
-    assert!(rt; redone(Ok(nothing), &world, Ok(())));
-    let nothing = FrameRecord::new(0, Vec::new(rt.alloc()));
-    assert!(rt; redone(Ok(nothing), &world, bad(0)));
-    assert!(rt; redone(spawn_of(rt.alloc(), 0, 5), &world, bad(1)));
-    assert!(rt; redone(link_of(rt.alloc(), first(0), first(0)), &world, bad(0)));
-    assert!(rt; redone(link_of(rt.alloc(), first(0), first(1)), &world, bad(0)));
+    let world = spawned_world(&rt, rt.alloc());
+    try_world(&rt, rt.alloc(), Ok(world), Trial::Redone);
     Ok(())
 }

@@ -7,6 +7,7 @@ use scene_alloc::Slots;
 use scene_kinds::{Cells, Entity, Row};
 use scene_table::Table;
 use std::alloc::{AllocError, Global};
+use std::process::Abort;
 use std::test::Fail;
 
 /// A row without cells.
@@ -32,22 +33,31 @@ fn three_rows(alloc: Global) -> Result<Table, AllocError>
     Ok(table)
 }
 
-#[test]
-fn moves_of_rows_and_slots_are_taken_back(rt: HostRuntime) -> Result<(), Fail> {
-    let mut table = three_rows(rt.alloc())?;
-    table.reserve(1)?;
-    let left = table.swap_remove(0)?;
+/// The first of three rows leaves its table, and comes back to its place.
+fn row_is_taken_back(rt: &impl Abort, alloc: Global) {
+    let mut table = three_rows(alloc).expect(rt, "memory");
+    table.reserve(1).expect(rt, "memory");
+    let left = table.swap_remove(0).expect(rt, "memory");
     assert_eq!(rt; left.entity, first(0));
     assert_eq!(rt; table.entities(), [first(2), first(1)].as_slice());
     assert!(rt; table.unswap(0, left).is_ok());
     assert_eq!(rt; table.entities(), [first(0), first(1), first(2)].as_slice());
+}
 
-    let mut slots = Slots::new(rt.alloc(), 1);
-    let entity = slots.take().expect(&rt, "a slot");
+/// The one slot is taken and released, and both are taken back.
+fn slot_is_taken_back(rt: &impl Abort, alloc: Global) {
+    let mut slots = Slots::new(alloc, 1);
+    let entity = slots.take().expect(rt, "a slot");
     let retired = slots.release(entity);
     assert!(rt; !retired);
     slots.unrelease(entity, retired);
     slots.untake(entity, true);
     assert!(rt; slots.is_empty());
+}
+
+#[test]
+fn moves_of_rows_and_slots_are_taken_back(rt: HostRuntime) -> Result<(), Fail> {
+    row_is_taken_back(&rt, rt.alloc());
+    slot_is_taken_back(&rt, rt.alloc());
     Ok(())
 }

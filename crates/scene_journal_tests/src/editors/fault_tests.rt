@@ -1,5 +1,6 @@
 //! Records that don't fit, on a world of tick 1 with one entity, whose one Int is 5 since then.
 use crate::editors::small::{editor_of, given, queue_of, submit_one};
+use crate::editors::trials::{Then, Trial, taken_up, try_new};
 use crate::scenes::first;
 use scene_commands::Command;
 use scene_deltas::Delta;
@@ -7,8 +8,8 @@ use scene_journal::FrameRecord;
 use scene_kinds::{Cell, Cells, Fault, Refusal, Shape, Value};
 use scene_queue::Queue;
 use scene_undo::Editor;
-use scene_world::World;
 use std::alloc::Global;
+use std::process::Abort;
 use std::test::Fail;
 
 /// The queue of the one frame.
@@ -17,26 +18,11 @@ fn one_spawn(alloc: Global) -> Result<Queue, Refusal> {
     queue_of(alloc, Command::Spawn(components))
 }
 
-/// Undoes a frame and redoes it.
-fn goes_back_and_on(editor: &mut Editor) -> Result<(), Refusal> {
+/// Does the one frame, undoes it and redoes it.
+fn begin(alloc: Global, editor: &mut Editor) -> Result<(), Refusal> {
+    submit_one(alloc, editor, one_spawn(alloc)?)?;
     editor.undo()?;
     editor.redo()
-}
-
-/// An editor of the one frame, which was undone and redone.
-fn editor(alloc: Global) -> Result<Editor, Refusal> {
-    let queue = one_spawn(alloc)?;
-    let mut editor = editor_of(alloc, Shape::Int)?;
-    submit_one(alloc, &mut editor, queue)?;
-    goes_back_and_on(&mut editor)?;
-    Ok(editor)
-}
-
-/// The world after it.
-fn world(alloc: Global) -> Result<World, Refusal> {
-    let editor = editor(alloc)?;
-    let world = editor.world().try_clone()?;
-    Ok(world)
 }
 
 /// A record of the spawn, with this tick and this number; those of the frame are 0 and 5.
@@ -69,38 +55,87 @@ fn linked_to_itself(alloc: Global) -> Result<FrameRecord, Refusal> {
     Ok(FrameRecord::new(1, vec![in alloc; delta]?))
 }
 
+/// Why an editor of a copy of this one's world is refused with these records, if it is.
+fn fault_of(
+    rt: &impl Abort,
+    alloc: Global,
+    editor: &Editor,
+    past: Vec<FrameRecord>,
+    future: Vec<FrameRecord>,
+) -> Option<Fault> {
+    let world = editor.world().try_clone().expect(rt, "memory");
+    let made = Editor::from_parts(alloc, world, past, future, 1);
+    taken_up(made, Then::Nothing).err()
+}
+
+/// The past of just the record of a spawn.
+fn past_of(rt: &impl Abort, alloc: Global, tick_before: u64, number: i64) -> Vec<FrameRecord> {
+    let record = spawned(alloc, tick_before, number).expect(rt, "memory");
+    vec![in alloc; record].expect(rt, "memory")
+}
+
 /// Why an editor of such a record of the spawn is refused, if it is.
-fn fault(alloc: Global, tick_before: u64, number: i64) -> Result<Option<Fault>, Refusal> {
-    let past = vec![in alloc; spawned(alloc, tick_before, number)?]?;
-    let made = Editor::from_parts(alloc, world(alloc)?, past, Vec::new(alloc), 1);
-    Ok(made.err().map(|refusal| refusal.fault))
+fn fault(
+    rt: &impl Abort,
+    alloc: Global,
+    editor: &Editor,
+    tick_before: u64,
+    number: i64,
+) -> Option<Fault> {
+    let past = past_of(rt, alloc, tick_before, number);
+    fault_of(rt, alloc, editor, past, Vec::new(alloc))
 }
 
 /// Why an editor of the one frame and of a record of the future is refused, if it is.
-fn later_fault(alloc: Global, future: FrameRecord) -> Result<Option<Fault>, Refusal> {
-    let future = vec![in alloc; future]?;
-    let past = vec![in alloc; spawned(alloc, 0, 5)?]?;
-    let made = Editor::from_parts(alloc, world(alloc)?, past, future, 1);
-    Ok(made.err().map(|refusal| refusal.fault))
+fn later_fault(
+    rt: &impl Abort,
+    alloc: Global,
+    editor: &Editor,
+    future: FrameRecord,
+) -> Option<Fault> {
+    let future = vec![in alloc; future].expect(rt, "memory");
+    fault_of(rt, alloc, editor, past_of(rt, alloc, 0, 5), future)
+}
+
+pub fn past_is_tried(rt: &impl Abort, alloc: Global, editor: &mut Editor) {
+    assert!(rt; begin(alloc, editor).is_ok());
+    let tick = Fault::BadRecord { frame: 0, delta: 1 };
+    let cell = Fault::BadRecord { frame: 0, delta: 0 };
+    assert_eq!(rt; fault(rt, alloc, editor, 0, 5), None);
+    assert_eq!(rt; fault(rt, alloc, editor, 3, 5), Some(tick));
+    assert_eq!(rt; fault(rt, alloc, editor, 0, 6), Some(cell));
 }
 
 #[test]
 fn faults_of_the_past_are_told(rt: HostRuntime) -> Result<(), Fail> {
-    let tick = Fault::BadRecord { frame: 0, delta: 1 };
-    let cell = Fault::BadRecord { frame: 0, delta: 0 };
-    assert_eq!(rt; fault(rt.alloc(), 0, 5), Ok(None));
-    assert_eq!(rt; fault(rt.alloc(), 3, 5), Ok(Some(tick)));
-    assert_eq!(rt; fault(rt.alloc(), 0, 6), Ok(Some(cell)));
+    try_new(
+        &rt,
+        rt.alloc(),
+        editor_of(rt.alloc(), Shape::Int),
+        Trial::PastFaults,
+    );
     Ok(())
+}
+
+pub fn future_is_tried(rt: &impl Abort, alloc: Global, editor: &mut Editor) {
+    assert!(rt; begin(alloc, editor).is_ok());
+    let second = Fault::BadRecord { frame: 1, delta: 0 };
+    assert_eq!(rt; later_fault(rt, alloc, editor, nothing(alloc, 1)), None);
+    assert_eq!(rt;
+        later_fault(rt, alloc, editor, nothing(alloc, 0)),
+        Some(second)
+    );
+    let link = linked_to_itself(alloc).expect(rt, "memory");
+    assert_eq!(rt; later_fault(rt, alloc, editor, link), Some(second));
 }
 
 #[test]
 fn faults_of_the_future_are_told(rt: HostRuntime) -> Result<(), Fail> {
-    let alloc = rt.alloc();
-    let second = Fault::BadRecord { frame: 1, delta: 0 };
-    assert_eq!(rt; later_fault(alloc, nothing(alloc, 1)), Ok(None));
-    assert_eq!(rt; later_fault(alloc, nothing(alloc, 0)), Ok(Some(second)));
-    let link = linked_to_itself(alloc)?;
-    assert_eq!(rt; later_fault(alloc, link), Ok(Some(second)));
+    try_new(
+        &rt,
+        rt.alloc(),
+        editor_of(rt.alloc(), Shape::Int),
+        Trial::FutureFaults,
+    );
     Ok(())
 }

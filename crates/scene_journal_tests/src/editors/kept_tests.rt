@@ -1,6 +1,7 @@
 //! A past that is kept outside, and taken up by another editor.
 use crate::editors::small::{editor_of, queue_of, submit_one};
-use crate::editors::tree::{goes_back_and_on, goes_on, grow};
+use crate::editors::tree::grow;
+use crate::editors::trials::{Then, Trial, taken_up, try_new};
 use crate::scenes::first;
 use scene_commands::{Command, Target};
 use scene_journal::FrameRecord;
@@ -8,20 +9,14 @@ use scene_kinds::{Refusal, Schema, Shape};
 use scene_undo::{Editor, MOST_FRAMES};
 use scene_world::World;
 use std::alloc::{AllocError, Global};
+use std::process::Abort;
 use std::test::Fail;
 
-/// Despawns the root with all below it.
-fn fell(alloc: Global, editor: &mut Editor) -> Result<(), Refusal> {
-    let queue = queue_of(alloc, Command::DespawnAll(Target::Id(first(0))))?;
-    submit_one(alloc, editor, queue)
-}
-
-/// An editor of two frames: the first spawns a tree, the second despawns all of it.
-fn grown_and_felled(alloc: Global) -> Result<Editor, Refusal> {
-    let mut editor = editor_of(alloc, Shape::Tag)?;
-    grow(alloc, &mut editor)?;
-    fell(alloc, &mut editor)?;
-    Ok(editor)
+/// Two frames: the first spawns a tree, the second despawns all of it.
+fn grow_and_fell(alloc: Global, editor: &mut Editor) -> Result<(), Refusal> {
+    grow(alloc, editor)?;
+    let felling = queue_of(alloc, Command::DespawnAll(Target::Id(first(0))))?;
+    submit_one(alloc, editor, felling)
 }
 
 fn copies(alloc: Global, records: &[FrameRecord]) -> Result<Vec<FrameRecord>, AllocError> {
@@ -33,75 +28,100 @@ fn copies(alloc: Global, records: &[FrameRecord]) -> Result<Vec<FrameRecord>, Al
 }
 
 /// An editor of clones of the world and the records of another.
-fn taken_up(alloc: Global, editor: &Editor) -> Result<Editor, Refusal> {
+fn copy_of(rt: &impl Abort, alloc: Global, editor: &Editor) -> Result<Editor, Refusal> {
     let (past, future) = editor.records();
-    let past = copies(alloc, past)?;
-    let future = copies(alloc, future)?;
-    Editor::from_parts(
-        alloc,
-        editor.world().try_clone()?,
-        past,
-        future,
-        MOST_FRAMES,
-    )
+    let past = copies(alloc, past).expect(rt, "memory");
+    let future = copies(alloc, future).expect(rt, "memory");
+    let world = editor.world().try_clone().expect(rt, "memory");
+    Editor::from_parts(alloc, world, past, future, MOST_FRAMES)
 }
 
-/// Whether a past that is taken up can be undone and redone, and how many rewinds that makes.
-fn past_taken_up(alloc: Global) -> Result<(bool, u64), Refusal> {
-    let before = grown_and_felled(alloc)?;
-    let mut editor = taken_up(alloc, &before)?;
-    let went = goes_back_and_on(&mut editor);
-    Ok((went, editor.rewinds()))
+/// A past that is taken up can be undone and redone, which makes two rewinds.
+pub fn past_is_tried(rt: &impl Abort, alloc: Global, editor: &mut Editor) {
+    assert!(rt; grow_and_fell(alloc, editor).is_ok());
+    let copy = copy_of(rt, alloc, editor);
+    assert_eq!(rt; taken_up(copy, Then::BackAndOn), Ok((true, 2)));
 }
 
 #[test]
 fn kept_past_is_undone_and_redone(rt: HostRuntime) -> Result<(), Fail> {
-    assert_eq!(rt; past_taken_up(rt.alloc()), Ok((true, 2)));
+    try_new(
+        &rt,
+        rt.alloc(),
+        editor_of(rt.alloc(), Shape::Tag),
+        Trial::KeptPast,
+    );
     Ok(())
 }
 
-/// An editor whose two frames were undone.
-fn undone(alloc: Global) -> Result<Editor, Refusal> {
-    let mut editor = grown_and_felled(alloc)?;
+fn undo_both(editor: &mut Editor) -> Result<(), Refusal> {
     editor.undo()?;
-    editor.undo()?;
-    Ok(editor)
+    editor.undo()
 }
 
-/// Whether a future that is taken up can be redone, and how many rewinds that makes.
-fn future_taken_up(alloc: Global) -> Result<(bool, u64), Refusal> {
-    let before = undone(alloc)?;
-    let mut editor = taken_up(alloc, &before)?;
-    let went = goes_on(&mut editor);
-    Ok((went, editor.rewinds()))
+/// A future that is taken up can be redone, which makes no rewind.
+pub fn future_is_tried(rt: &impl Abort, alloc: Global, editor: &mut Editor) {
+    assert!(rt; grow_and_fell(alloc, editor).is_ok());
+    assert!(rt; undo_both(editor).is_ok());
+    let copy = copy_of(rt, alloc, editor);
+    assert_eq!(rt; taken_up(copy, Then::On), Ok((true, 0)));
 }
 
 #[test]
 fn kept_future_is_redone(rt: HostRuntime) -> Result<(), Fail> {
-    assert_eq!(rt; future_taken_up(rt.alloc()), Ok((true, 0)));
+    try_new(
+        &rt,
+        rt.alloc(),
+        editor_of(rt.alloc(), Shape::Tag),
+        Trial::KeptFuture,
+    );
     Ok(())
 }
 
-/// The tick of a world after so many frames without commands of this depth, how many of them can be undone, and the tick after
-/// these undos.
-fn after_idle_frames(alloc: Global, depth: u32, frames: u32) -> Result<(u64, usize, u64), Refusal> {
-    let world = World::new(alloc, Schema::new(alloc), 1);
-    let mut editor = Editor::with_depth(alloc, world, depth);
+/// The tick of a world after frames without commands, how many of them can be undone, and the tick after these undos.
+pub type Seen = (u64, usize, u64);
+
+fn do_nothing(editor: &mut Editor, frames: u32) -> Result<(), Refusal> {
     for _frame in 0..frames {
         let _made = editor.submit(&[])?;
     }
-    let (tick, kept) = (editor.world().tick(), editor.undo_len());
-    for _undo in 0..kept {
+    Ok(())
+}
+
+fn undo_frames(editor: &mut Editor, frames: usize) -> Result<(), Refusal> {
+    for _undo in 0..frames {
         editor.undo()?;
     }
+    Ok(())
+}
+
+fn after_idle_frames(editor: &mut Editor, frames: u32) -> Result<Seen, Refusal> {
+    do_nothing(editor, frames)?;
+    let (tick, kept) = (editor.world().tick(), editor.undo_len());
+    undo_frames(editor, kept)?;
     Ok((tick, kept, editor.world().tick()))
+}
+
+pub fn idle_is_tried(rt: &impl Abort, editor: &mut Editor, frames: u32, seen: Seen) {
+    assert_eq!(rt; after_idle_frames(editor, frames), Ok(seen));
+}
+
+/// An editor of a world without kinds, which keeps so many frames.
+fn editor_of_depth(alloc: Global, depth: u32) -> Result<Editor, Refusal> {
+    let world = World::new(alloc, Schema::new(alloc), 1);
+    Ok(Editor::with_depth(alloc, world, depth))
+}
+
+/// An editor of this depth does so many frames without commands.
+fn keeps(rt: &impl Abort, alloc: Global, depth: u32, frames: u32, seen: Seen) {
+    let trial = Trial::Idle { frames, seen };
+    try_new(rt, alloc, editor_of_depth(alloc, depth), trial);
 }
 
 #[test]
 fn depth_keeps_the_newest_frames(rt: HostRuntime) -> Result<(), Fail> {
-    let alloc = rt.alloc();
-    assert_eq!(rt; after_idle_frames(alloc, 1, 2), Ok((2, 1, 1)));
-    assert_eq!(rt; after_idle_frames(alloc, 3, 40), Ok((40, 3, 37)));
-    assert_eq!(rt; after_idle_frames(alloc, 0, 2), Ok((2, 0, 2)));
+    keeps(&rt, rt.alloc(), 1, 2, (2, 1, 1));
+    keeps(&rt, rt.alloc(), 3, 40, (40, 3, 37));
+    keeps(&rt, rt.alloc(), 0, 2, (2, 0, 2));
     Ok(())
 }
