@@ -28,38 +28,59 @@ fn spawn_each_by_state(alloc: Global, state: &mut State, count: u32) -> Result<(
     Ok(())
 }
 
-/// So many frames of one spawn by an editor. How many can be undone.
-pub fn spawn_by_editor(alloc: Global, count: u32) -> Result<usize, Refusal> {
-    let mut editor = empty_editor(alloc)?;
-    spawn_each_by_editor(alloc, &mut editor, count)?;
-    Ok(editor.undo_len())
-}
-
-/// The same by a state.
-pub fn spawn_by_state(alloc: Global, count: u32) -> Result<usize, Refusal> {
-    let mut state = empty_state(alloc)?;
-    spawn_each_by_state(alloc, &mut state, count)?;
-    Ok(state.editor().undo_len())
-}
-
-/// A frame of one spawn, which is undone and redone so often, by an editor. How many frames can be undone.
-pub fn swing_by_editor(alloc: Global, count: u32) -> Result<usize, Refusal> {
-    let mut editor = empty_editor(alloc)?;
-    spawn_each_by_editor(alloc, &mut editor, 1)?;
+fn swing_by_editor(alloc: Global, editor: &mut Editor, count: u32) -> Result<(), Refusal> {
+    spawn_each_by_editor(alloc, editor, 1)?;
     for _ in 0..count {
         editor.undo()?;
         editor.redo()?;
     }
-    Ok(editor.undo_len())
+    Ok(())
 }
 
-/// The same by a state.
-pub fn swing_by_state(alloc: Global, count: u32) -> Result<usize, Refusal> {
-    let mut state = empty_state(alloc)?;
-    spawn_each_by_state(alloc, &mut state, 1)?;
+fn swing_by_state(alloc: Global, state: &mut State, count: u32) -> Result<(), Refusal> {
+    spawn_each_by_state(alloc, state, 1)?;
     for _ in 0..count {
         is_done(state.perform(0, Call::Undo))?;
         is_done(state.perform(0, Call::Redo))?;
     }
-    Ok(state.editor().undo_len())
+    Ok(())
+}
+
+/// What is done.
+#[derive(Clone, Copy)]
+pub enum Work {
+    /// So many frames of one spawn.
+    Spawn(u32),
+    /// A frame of one spawn, which is undone and redone so often.
+    Swing(u32),
+}
+
+impl Work {
+    fn do_by_editor(self, alloc: Global, editor: &mut Editor) -> Result<usize, Refusal> {
+        match self {
+            Work::Spawn(count) => spawn_each_by_editor(alloc, editor, count)?,
+            Work::Swing(count) => swing_by_editor(alloc, editor, count)?,
+        }
+        Ok(editor.undo_len())
+    }
+
+    fn do_by_state(self, alloc: Global, state: &mut State) -> Result<usize, Refusal> {
+        match self {
+            Work::Spawn(count) => spawn_each_by_state(alloc, state, count)?,
+            Work::Swing(count) => swing_by_state(alloc, state, count)?,
+        }
+        Ok(state.editor().undo_len())
+    }
+
+    /// Does it by an editor. How many frames can be undone.
+    pub fn by_editor(self, alloc: Global) -> Result<usize, Refusal> {
+        let mut editor = empty_editor(alloc)?;
+        self.do_by_editor(alloc, &mut editor)
+    }
+
+    /// The same by a state.
+    pub fn by_state(self, alloc: Global) -> Result<usize, Refusal> {
+        let mut state = empty_state(alloc)?;
+        self.do_by_state(alloc, &mut state)
+    }
 }

@@ -21,8 +21,8 @@ mod scene;
 mod soak;
 mod turns;
 
-use crate::asking::{cursors_answered, rows_answered};
-use crate::cost::{spawn_by_editor, spawn_by_state, swing_by_editor, swing_by_state};
+use crate::asking::{Query, answered};
+use crate::cost::Work;
 use crate::soak::{Outcome, SESSIONS, Span, soak};
 use anyhow::Result;
 use std::alloc::Global;
@@ -85,14 +85,14 @@ fn count<R: Threads + Wait + Sync + Clock + Print>(
 ) -> Result<bool> {
     let start = Instant::now(rt)?;
     let counted = match asked {
-        Asked::SpawnByEditor(count) => spawn_by_editor(alloc, count)?,
-        Asked::SpawnByState(count) => spawn_by_state(alloc, count)?,
-        Asked::SwingByEditor(count) => swing_by_editor(alloc, count)?,
-        Asked::SwingByState(count) => swing_by_state(alloc, count)?,
+        Asked::SpawnByEditor(count) => Work::Spawn(count).by_editor(alloc)?,
+        Asked::SpawnByState(count) => Work::Spawn(count).by_state(alloc)?,
+        Asked::SwingByEditor(count) => Work::Swing(count).by_editor(alloc)?,
+        Asked::SwingByState(count) => Work::Swing(count).by_state(alloc)?,
         Asked::Rows { sessions, count } if sessions > 0 && sessions <= 64 => {
-            rows_answered(rt, alloc, sessions, count)?
+            answered(rt, alloc, sessions, Query::Rows(count))?
         }
-        Asked::Cursor(count) => cursors_answered(alloc, count)? as usize,
+        Asked::Cursor(count) => answered(rt, alloc, 1, Query::Cursor(count))?,
         _ => return Ok(false),
     };
     let taken = start.elapsed(rt)?;

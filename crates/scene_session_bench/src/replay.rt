@@ -80,11 +80,16 @@ fn same_editor(alloc: Global, one: &Editor, other: &Editor) -> Result<bool> {
     Ok(texts && undos && one.rewinds() == other.rewinds())
 }
 
+/// How many replies of a state are others on one that begins again; one more where the editors differ in the end.
+fn differences_on(alloc: Global, state: &State, again: &mut State) -> Result<u64> {
+    let differences = play(alloc, state.history(), again)?;
+    let is_same = same_editor(alloc, state.editor(), again.editor())?;
+    Ok(differences.saturating_add(u64::from(!is_same)))
+}
+
 /// How many replies are others when one thread does the calls of the history from the opening on; one more where the editors differ
 /// in the end.
 pub fn replay_differences(alloc: Global, state: &State) -> Result<u64> {
     let mut again = empty_state(alloc)?;
-    let differences = play(alloc, state.history(), &mut again)?;
-    let is_same = same_editor(alloc, state.editor(), again.editor())?;
-    Ok(differences.saturating_add(u64::from(!is_same)))
+    differences_on(alloc, state, &mut again)
 }

@@ -206,6 +206,36 @@ fn outcome_of(alloc: Global, state: &State, logs: &[Log]) -> Result<Outcome> {
     }))
 }
 
+/// All that sessions do over one state. The passes, and the logs.
+fn soak_sessions<R: Threads + Wait + Sync + Clock>(
+    rt: &R,
+    alloc: Global,
+    lock: &WordLock<State>,
+    passes: Vec<Pass<State>>,
+    seed: u64,
+    span: Span,
+) -> Result<(Vec<Pass<State>>, Vec<Log>)>
+    requires { All (IsPassOf lock.now) passes.items }
+    ensures { IfOk result (λ both. All (IsPassOf lock.now) both.0.items) }
+{
+    let sessions = begin(alloc, lock, passes)?;
+    let sessions = rounds(rt, alloc, lock, sessions, seed, span)?;
+    Ok(split(alloc, lock, sessions)?)
+}
+
+/// What came of the state behind a lock, after all its sessions met.
+fn outcome_at_end(
+    alloc: Global,
+    lock: WordLock<State>,
+    passes: Vec<Pass<State>>,
+    logs: &[Log],
+) -> Result<Outcome>
+    requires { All (IsPassOf lock) passes.items }
+{
+    let state = end(lock, passes).ok_or(AllocError)?;
+    outcome_of(alloc, &state, logs)
+}
+
 /// A soak of one state.
 fn soak_state<R: Threads + Wait + Sync + Clock>(
     rt: &R,
@@ -214,11 +244,8 @@ fn soak_state<R: Threads + Wait + Sync + Clock>(
     span: Span,
 ) -> Result<Outcome> {
     let (lock, passes) = WordLock::new(alloc, empty_state(alloc)?, SESSIONS)?;
-    let sessions = begin(alloc, &lock, passes)?;
-    let sessions = rounds(rt, alloc, &lock, sessions, seed, span)?;
-    let (passes, logs) = split(alloc, &lock, sessions)?;
-    let state = end(lock, passes).ok_or(AllocError)?;
-    outcome_of(alloc, &state, logs.as_slice())
+    let (passes, logs) = soak_sessions(rt, alloc, &lock, passes, seed, span)?;
+    outcome_at_end(alloc, lock, passes, logs.as_slice())
 }
 
 /// A soak of one state after another, until the time is over.
