@@ -1,6 +1,7 @@
 //! Each runs to its end alone; the ones with threads answer the same whatever the schedule.
 ghost use Rattle.std.specs.Prelude.{◌≡◌, ◌<◌, ◌≤◌, All, vec_len};
 ghost use Rattle.scene_lock.specs.Pass.{IsPassOf};
+ghost use Rattle.scene_session.specs.Session.{IsSame};
 
 use super::*;
 use scene_commands::Command;
@@ -18,64 +19,154 @@ use std::sync::Wait;
 use std::test::*;
 use std::thread::Threads;
 
-/// A lock over a state without entities.
-fn new_lock(rt: &impl Abort, alloc: Global, passes: u32) -> (WordLock<State>, Vec<Pass<State>>)
-    requires { (0 < passes) × (passes ≤ 64) }
+/// A lock over a state without entities, whose history may have so many entries.
+fn new_lock(
+    rt: &impl Abort,
+    alloc: Global,
+    passes: u32,
+    limit: u32,
+) -> (WordLock<State>, Vec<Pass<State>>)
+    requires passes { (0 < passes) × (passes ≤ 64) }
+    requires limit { (1 ≤ limit) × (limit ≤ 1048576) }
     ensures count { vec_len result.1 ≡ passes }
     ensures each { All (IsPassOf result.0) result.1.items }
 {
-    let state = empty_state(alloc, 1000).expect(rt, "a state");
+    let state = empty_state(alloc, limit).expect(rt, "a state");
     WordLock::new(alloc, state, passes).expect(rt, "a lock")
+}
+
+/// What is tried on a state.
+#[derive(Clone, Copy)]
+enum Trial {
+    /// Its history, which may have two entries, becomes full.
+    Fills,
+    /// Two sessions have shared it.
+    WasShared,
+    /// Each of so many sessions has entered so many frames of one spawn, in its order, and there is nothing else.
+    HasFrames { sessions: u32, frames: u32 },
+    /// Its history leads another state to the same.
+    Replays,
+}
+
+impl Trial {
+    fn run(self, rt: &impl Abort, alloc: Global, state: &mut State) {
+        match self {
+            Trial::Fills => history_fills(rt, state),
+            Trial::WasShared => was_shared(rt, state),
+            Trial::HasFrames { sessions, frames } => {
+                has_frames(rt, alloc, state, sessions, frames)
+            }
+            Trial::Replays => history_replays(rt, alloc, state),
+        }
+    }
+}
+
+/// Tries a state, and drops it, which is dear to prove.
+fn try_state(rt: &impl Abort, alloc: Global, state: State, trial: Trial) {
+    let mut state = state;
+    trial.run(rt, alloc, &mut state);
+}
+
+/// What a call came to.
+#[derive(Clone, Copy)]
+enum Told {
+    Done,
+    Undone,
+    Redone,
+    Refused,
+}
+
+/// Whether a reply tells just that.
+fn tells(reply: Result<Reply, Stopped>, told: Told) -> bool {
+    match (&reply, told) {
+        (Ok(Reply::Done(_)), Told::Done)
+        | (Ok(Reply::Undone), Told::Undone)
+        | (Ok(Reply::Redone), Told::Redone)
+        | (Ok(Reply::Refused(_)), Told::Refused) => true,
+        _ => false,
+    }
+}
+
+/// Whether an undo is stopped, and handed back, since there are two entries.
+fn undo_is_stopped(state: &mut State) -> bool {
+    match state.perform(0, Call::Undo) {
+        Ok(_) => false,
+        Err(stopped) => {
+            stopped.refusal.fault == Fault::HistoryFull(2) && matches!(stopped.call, Call::Undo)
+        }
+    }
+}
+
+fn history_fills(rt: &impl Abort, state: &mut State) {
+    assert!(rt; tells(state.perform(0, Call::Undo), Told::Refused));
+    assert!(rt; tells(state.perform(0, Call::Undo), Told::Refused));
+    assert!(rt; undo_is_stopped(state));
+    assert_eq!(rt; state.history().len(), 2);
 }
 
 #[test]
 fn a_full_history_stops_calls(rt: HostRuntime) -> Result<(), Fail> {
-    let alloc = rt.alloc();
-    let mut state = empty_state(alloc, 2)?;
-    assert!(rt; matches!(state.perform(0, Call::Undo), Ok(Reply::Refused(_))));
-    assert!(rt; matches!(state.perform(0, Call::Undo), Ok(Reply::Refused(_))));
-    match state.perform(0, Call::Undo) {
-        Ok(_) => assert!(rt; false),
-        Err(stopped) => {
-            assert!(rt; stopped.refusal.fault == Fault::HistoryFull(2));
-            assert!(rt; matches!(stopped.call, Call::Undo));
-        }
-    }
-    assert_eq!(rt; state.history().len(), 2);
+    let state = empty_state(rt.alloc(), 2).expect(&rt, "a state");
+    try_state(&rt, rt.alloc(), state, Trial::Fills);
     Ok(())
 }
 
-#[test]
-fn two_sessions_share_a_state(rt: HostRuntime) -> Result<(), Fail> {
-    let alloc = rt.alloc();
-    let schedule = empty_schedule(alloc)?;
-    let (lock, mut passes) = new_lock(&rt, alloc, 2);
-    let one = Session::new(&lock, passes.pop().expect(&rt, "a second pass"));
-    let zero = Session::new(&lock, passes.pop().expect(&rt, "a first pass"));
-    let (zero, listed) = submit_one(&rt, alloc, zero, 1);
+/// The first session submits a frame, the second undoes it, and they meet.
+fn submit_and_undo<'a, R: Threads + Wait + Abort + Sync>(
+    rt: &R,
+    alloc: Global,
+    zero: Session<'a>,
+    one: Session<'a>,
+) -> (Session<'a>, Session<'a>)
+    requires { one.lock ≡ zero.lock }
+    ensures { IsSame zero.entry result.0 }
+{
+    let (zero, listed) = submit_one(rt, alloc, zero, 1);
     assert!(rt; listed);
-    let (one, reply) = one.undo(&rt, alloc);
-    assert!(rt; matches!(reply, Ok(Reply::Undone)));
-    let (zero, one) = Session::meet(zero, one);
+    let (one, reply) = one.undo(rt, alloc);
+    assert!(rt; tells(reply, Told::Undone));
+    Session::meet(zero, one)
+}
 
-    // Alone inside, the calls that don't wait do their work.
-    let (zero, cursor) = zero.try_ask(alloc, &CursorNow);
-    let cursor = cursor.expect(&rt, "an answer");
+/// Alone inside, the calls that don't wait do their work.
+fn try_calls<'a>(rt: &impl Abort, alloc: Global, session: Session<'a>) -> Session<'a>
+    ensures { IsSame session.entry result }
+{
+    let schedule = empty_schedule(alloc).expect(rt, "a schedule");
+    let (session, cursor) = session.try_ask(alloc, &CursorNow);
+    let cursor = cursor.expect(rt, "an answer");
     assert_eq!(rt; (cursor.rewinds, cursor.tick), (1, 0));
-    let (zero, reply) = zero.try_submit(alloc, Vec::new(alloc));
-    assert!(rt; matches!(reply, Ok(Reply::Done(_))));
-    let (zero, reply) = zero.try_advance(alloc, schedule);
-    assert!(rt; matches!(reply, Ok(Reply::Done(_))));
-    let (zero, reply) = zero.try_undo(alloc);
-    assert!(rt; matches!(reply, Ok(Reply::Undone)));
-    let (zero, reply) = zero.try_redo(alloc);
-    assert!(rt; matches!(reply, Ok(Reply::Redone)));
+    let (session, reply) = session.try_submit(alloc, Vec::new(alloc));
+    assert!(rt; tells(reply, Told::Done));
+    let (session, reply) = session.try_advance(alloc, schedule);
+    assert!(rt; tells(reply, Told::Done));
+    let (session, reply) = session.try_undo(alloc);
+    assert!(rt; tells(reply, Told::Undone));
+    let (session, reply) = session.try_redo(alloc);
+    assert!(rt; tells(reply, Told::Redone));
+    session
+}
 
+/// Two sessions share a state. The pass of the first.
+fn share<R: Threads + Wait + Abort + Sync>(
+    rt: &R,
+    alloc: Global,
+    lock: &WordLock<State>,
+    passes: Vec<Pass<State>>,
+) -> Pass<State>
+    requires { All (IsPassOf lock.now) passes.items }
+    ensures { IsPassOf lock.now result }
+{
+    let mut passes = passes;
+    let one = Session::new(lock, passes.pop().expect(rt, "a second pass"));
+    let zero = Session::new(lock, passes.pop().expect(rt, "a first pass"));
+    let (zero, one) = submit_and_undo(rt, alloc, zero, one);
+    let zero = try_calls(rt, alloc, zero);
     let _over = one.into_pass();
-    let zero = zero.into_pass();
-    let state = lock
-        .finish(zero)
-        .expect(&rt, "the state, once all have ended");
+    zero.into_pass()
+}
+
+fn was_shared(rt: &impl Abort, state: &State) {
     let wanted = [0, 1, 0, 0, 0, 0];
     assert_eq!(rt; state.history().len(), wanted.len());
     for (entry, session) in state.history().iter().zip(wanted) {
@@ -85,6 +176,16 @@ fn two_sessions_share_a_state(rt: HostRuntime) -> Result<(), Fail> {
         (state.editor().rewinds(), state.editor().world().tick()),
         (2, 2)
     );
+}
+
+#[test]
+fn two_sessions_share_a_state(rt: HostRuntime) -> Result<(), Fail> {
+    let (lock, passes) = new_lock(&rt, rt.alloc(), 2, 1000);
+    let zero = share(&rt, rt.alloc(), &lock, passes);
+    let state = lock
+        .finish(zero)
+        .expect(&rt, "the state, once all have ended");
+    try_state(&rt, rt.alloc(), state, Trial::WasShared);
     Ok(())
 }
 
@@ -105,7 +206,7 @@ fn worked<R: Threads + Wait + Abort + Sync>(
 ) -> State
     requires { (0 < sessions) × (sessions ≤ 64) }
 {
-    let (lock, passes) = new_lock(rt, alloc, sessions);
+    let (lock, passes) = new_lock(rt, alloc, sessions, 1000);
     let ended = work_at_once(rt, alloc, &lock, passes, work).expect(rt, "threads");
     let (pass, listed) = meet_in_turn(&lock, ended).expect(rt, "a pass");
     assert!(rt; listed || work.turns);
@@ -113,7 +214,6 @@ fn worked<R: Threads + Wait + Abort + Sync>(
         .expect(rt, "the state, once all have ended")
 }
 
-/// Each of so many sessions has entered so many frames of one spawn, in its order, and there is nothing else.
 fn has_frames(rt: &impl Abort, alloc: Global, state: &State, sessions: u32, frames: u32) {
     let all = u64::from(sessions).saturating_mul(u64::from(frames));
     assert_eq!(rt; state.history().len() as u64, all);
@@ -128,25 +228,32 @@ fn has_frames(rt: &impl Abort, alloc: Global, state: &State, sessions: u32, fram
     }
 }
 
-#[test]
-fn two_sessions_submit_at_once(rt: HostRuntime) -> Result<(), Fail> {
+/// So many sessions at once submit so many frames each.
+fn submit_at_once<R: Threads + Wait + Abort + Sync>(
+    rt: &R,
+    alloc: Global,
+    sessions: u32,
+    frames: u32,
+)
+    requires { (0 < sessions) × (sessions ≤ 64) }
+{
     let work = Work {
-        frames: 50,
+        frames: i64::from(frames),
         turns: false,
     };
-    let state = worked(&rt, rt.alloc(), 2, work);
-    has_frames(&rt, rt.alloc(), &state, 2, 50);
+    let state = worked(rt, alloc, sessions, work);
+    try_state(rt, alloc, state, Trial::HasFrames { sessions, frames });
+}
+
+#[test]
+fn two_sessions_submit_at_once(rt: HostRuntime) -> Result<(), Fail> {
+    submit_at_once(&rt, rt.alloc(), 2, 50);
     Ok(())
 }
 
 #[test]
 fn eight_sessions_submit_at_once(rt: HostRuntime) -> Result<(), Fail> {
-    let work = Work {
-        frames: 100,
-        turns: false,
-    };
-    let state = worked(&rt, rt.alloc(), 8, work);
-    has_frames(&rt, rt.alloc(), &state, 8, 100);
+    submit_at_once(&rt, rt.alloc(), 8, 100);
     Ok(())
 }
 
@@ -158,44 +265,110 @@ fn replayed(rt: &impl Abort, alloc: Global, history: &[Entry]) -> (u32, String) 
     (same, text)
 }
 
+fn history_replays(rt: &impl Abort, alloc: Global, state: &State) {
+    assert_eq!(rt; state.history().len(), 120);
+    let (same, text) = replayed(rt, alloc, state.history());
+    assert_eq!(rt; same, 120);
+    let wanted = shown(alloc, state).expect(rt, "a text");
+    assert_eq!(rt; text, wanted);
+}
+
 #[test]
 fn a_history_played_again_leads_to_the_same(rt: HostRuntime) -> Result<(), Fail> {
-    let alloc = rt.alloc();
     let work = Work {
         frames: 10,
         turns: true,
     };
-    let state = worked(&rt, alloc, 3, work);
-    assert_eq!(rt; state.history().len(), 120);
-    let (same, text) = replayed(&rt, alloc, state.history());
-    assert_eq!(rt; same, 120);
-    let wanted = shown(alloc, &state).expect(&rt, "a text");
-    assert_eq!(rt; text, wanted);
+    let state = worked(&rt, rt.alloc(), 3, work);
+    try_state(&rt, rt.alloc(), state, Trial::Replays);
     Ok(())
 }
 
-#[test]
-fn eight_queries_are_inside_together(rt: HostRuntime) -> Result<(), Fail> {
-    let alloc = rt.alloc();
-    let (lock, passes) = new_lock(&rt, alloc, 8);
+/// What is tried through the passes of a lock.
+#[derive(Clone, Copy)]
+enum Inside {
+    /// Eight queries are inside together.
+    Together,
+    /// Calls that don't wait are tried beside a session that stays inside, by a change or by a query.
+    Beside(bool),
+    /// A session lists what came since.
+    Since,
+}
+
+impl Inside {
+    fn run<R: Threads + Wait + Abort + Sync>(
+        self,
+        rt: &R,
+        alloc: Global,
+        lock: &WordLock<State>,
+        passes: Vec<Pass<State>>,
+    )
+        requires { All (IsPassOf lock.now) passes.items }
+    {
+        match self {
+            Inside::Together => eight_meet(rt, alloc, lock, passes),
+            Inside::Beside(changes) => are_busy(rt, alloc, lock, passes, changes),
+            Inside::Since => lists_since(rt, alloc, lock, passes),
+        }
+    }
+}
+
+/// Tries a new lock, and drops it, which is dear to prove.
+fn try_lock<R: Threads + Wait + Abort + Sync>(
+    rt: &R,
+    alloc: Global,
+    passes: u32,
+    limit: u32,
+    inside: Inside,
+)
+    requires passes { (0 < passes) × (passes ≤ 64) }
+    requires limit { (1 ≤ limit) × (limit ≤ 1048576) }
+{
+    let (lock, passes) = new_lock(rt, alloc, passes, limit);
+    inside.run(rt, alloc, &lock, passes);
+}
+
+fn eight_meet<R: Threads + Wait + Abort + Sync>(
+    rt: &R,
+    alloc: Global,
+    lock: &WordLock<State>,
+    passes: Vec<Pass<State>>,
+)
+    requires { All (IsPassOf lock.now) passes.items }
+{
     let meeting = Meeting {
         inside: Gate::new(),
         wanted: 8,
     };
-    let came = ask_together(&rt, alloc, &lock, passes, &meeting).expect(&rt, "threads");
+    let came = ask_together(rt, alloc, lock, passes, &meeting).expect(rt, "threads");
     assert_eq!(rt; came.len(), 8);
     assert!(rt; came.iter().all(|came| *came));
+}
+
+#[test]
+fn eight_queries_are_inside_together(rt: HostRuntime) -> Result<(), Fail> {
+    try_lock(&rt, rt.alloc(), 8, 1000, Inside::Together);
     Ok(())
+}
+
+fn are_busy<R: Threads + Wait + Abort + Sync>(
+    rt: &R,
+    alloc: Global,
+    lock: &WordLock<State>,
+    passes: Vec<Pass<State>>,
+    changes: bool,
+)
+    requires { All (IsPassOf lock.now) passes.items }
+{
+    let got = try_beside(rt, alloc, lock, passes, &Stay::new(changes)).expect(rt, "threads");
+    assert_eq!(rt; got.len(), 2);
+    assert!(rt; got.iter().all(|got| *got), "by a change: {changes}");
 }
 
 #[test]
 fn a_call_that_does_not_wait_is_busy_beside_another(rt: HostRuntime) -> Result<(), Fail> {
-    let alloc = rt.alloc();
     for changes in [true, false] {
-        let (lock, passes) = WordLock::new(alloc, empty_state(alloc, 9)?, 2)?;
-        let got = try_beside(&rt, alloc, &lock, passes, &Stay::new(changes))?;
-        assert_eq!(rt; got.len(), 2);
-        assert!(rt; got.iter().all(|got| *got), "by a change: {changes}");
+        try_lock(&rt, rt.alloc(), 2, 9, Inside::Beside(changes));
     }
     Ok(())
 }
@@ -215,7 +388,7 @@ fn are_numbers(names: &Result<Vec<CellName>, Refusal>, indexes: &[u32]) -> bool 
 }
 
 /// How many entities a frame spawned, if it was done.
-fn spawned(reply: &Result<Reply, Stopped>) -> Option<usize> {
+fn spawned(reply: Result<Reply, Stopped>) -> Option<usize> {
     match reply {
         Ok(Reply::Done(spawned)) => Some(spawned.len()),
         _ => None,
@@ -232,7 +405,7 @@ fn spawn_twice<'a, R: Threads + Wait + Abort + Sync>(
     let (session, _) = submit_one(rt, alloc, session, 5);
     let (session, cursor) = session.ask(rt, alloc, &CursorNow);
     let (session, reply) = session.advance(rt, alloc, schedule, 2);
-    assert_eq!(rt; spawned(&reply), Some(0));
+    assert_eq!(rt; spawned(reply), Some(0));
     let (session, listed) = submit_one(rt, alloc, session, 6);
     assert!(rt; listed);
     (session, cursor)
@@ -251,17 +424,27 @@ fn list_since<'a, R: Threads + Wait + Abort + Sync>(
     assert!(rt; are_numbers(&added, &[1]));
     let (session, _) = session.undo(rt, alloc);
     let (session, reply) = session.redo(rt, alloc);
-    assert!(rt; matches!(reply, Ok(Reply::Redone)));
+    assert!(rt; tells(reply, Told::Redone));
     let (_, changed) = session.changed(rt, alloc, cursor, ALL);
     assert!(rt; matches!(changed, Err(refusal) if refusal.fault == Fault::Rewound(1)));
 }
 
+fn lists_since<R: Threads + Wait + Abort + Sync>(
+    rt: &R,
+    alloc: Global,
+    lock: &WordLock<State>,
+    passes: Vec<Pass<State>>,
+)
+    requires { All (IsPassOf lock.now) passes.items }
+{
+    let mut passes = passes;
+    let pass = passes.pop().expect(rt, "a pass");
+    let (session, cursor) = spawn_twice(rt, alloc, Session::new(lock, pass));
+    list_since(rt, alloc, session, cursor);
+}
+
 #[test]
 fn a_session_lists_what_came_since(rt: HostRuntime) -> Result<(), Fail> {
-    let alloc = rt.alloc();
-    let (lock, mut passes) = new_lock(&rt, alloc, 1);
-    let pass = passes.pop().expect(&rt, "a pass");
-    let (session, cursor) = spawn_twice(&rt, alloc, Session::new(&lock, pass));
-    list_since(&rt, alloc, session, cursor);
+    try_lock(&rt, rt.alloc(), 1, 1000, Inside::Since);
     Ok(())
 }
