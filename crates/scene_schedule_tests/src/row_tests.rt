@@ -22,13 +22,12 @@ fn empty_world(alloc: Global) -> Result<World, Refusal> {
     Ok(World::new(alloc, schema, 4096))
 }
 
-/// A world whose rows have the numbers from 0 up, one each.
-fn numbered(alloc: Global, count: i64) -> Result<World, Refusal> {
-    let mut world = empty_world(alloc)?;
+/// Spawns rows that have the numbers from 0 up, one each.
+fn spawn_numbers(alloc: Global, world: &mut World, count: i64) -> Result<(), Refusal> {
     for number in 0..count {
         let _entity = world.spawn(vec![in alloc; (NUMBER, Value::Int(number))]?)?;
     }
-    Ok(world)
+    Ok(())
 }
 
 /// The values that were written of a row.
@@ -90,9 +89,8 @@ fn first(index: u32) -> Entity {
     }
 }
 
-/// The place after two steps, by the speed 10 -2 0.
-fn moved_twice(alloc: Global) -> Result<bool, Refusal> {
-    let mut world = empty_world(alloc)?;
+/// Whether a place is right after two steps, by the speed 10 -2 0.
+fn moves_twice(alloc: Global, world: &mut World) -> Result<bool, Refusal> {
     let cells = vec![in alloc;
         (SPEED, Value::Vec3([10, -2, 0])),
         (PLACE, Value::Vec3([1, 2, 3])),
@@ -102,42 +100,30 @@ fn moved_twice(alloc: Global) -> Result<bool, Refusal> {
         to: PLACE,
         by: SPEED,
     };
-    let made = map_rows_alone(alloc, &world, Filter::all(), [step, step].as_slice())?;
+    let made = map_rows_alone(alloc, world, Filter::all(), [step, step].as_slice())?;
     Ok(made.len() == 1 && is_place(&made[0], [21, -2, 3]))
 }
 
-#[test]
-fn vectors_are_added(rt: HostRuntime) -> Result<(), Fail> {
-    assert!(rt; moved_twice(rt.alloc()) == Ok(true));
-    Ok(())
-}
-
 /// How many rows count up from 5 after 5 was added to numbers from 0, in many threads.
-fn raised(rt: &(impl Threads + Sync), alloc: Global, count: i64) -> Result<Option<usize>, Refusal> {
-    let world = numbered(alloc, count)?;
+fn raised<R: Threads + Sync>(
+    rt: &R,
+    alloc: Global,
+    world: &mut World,
+    count: i64,
+) -> Result<Option<usize>, Refusal> {
+    spawn_numbers(alloc, world, count)?;
     let step = RowStep::AddInt { to: NUMBER, by: 5 };
-    let made = map_rows(rt, alloc, &world, Filter::all(), [step].as_slice())?;
+    let made = map_rows(rt, alloc, world, Filter::all(), [step].as_slice())?;
     Ok(count_up(made.as_slice(), 5))
 }
 
-#[test]
-fn rows_of_a_small_table_are_changed(rt: HostRuntime) -> Result<(), Fail> {
-    assert!(rt; raised(&rt, rt.alloc(), 3) == Ok(Some(3)));
-    Ok(())
-}
-
-#[test]
-fn rows_of_a_parted_table_are_changed(rt: HostRuntime) -> Result<(), Fail> {
-    assert!(rt; raised(&rt, rt.alloc(), 3000) == Ok(Some(3000)));
-    Ok(())
-}
-
 /// The first of 3,000 rows with numbers from 0 whose second sum doesn't fit, in one thread and in many.
-fn faults(
-    rt: &(impl Threads + Sync),
+fn faults<R: Threads + Sync>(
+    rt: &R,
     alloc: Global,
+    world: &mut World,
 ) -> Result<[Option<(Entity, u32)>; 2], Refusal> {
-    let world = numbered(alloc, 3000)?;
+    spawn_numbers(alloc, world, 3000)?;
     let steps = [
         RowStep::AddInt { to: NUMBER, by: 0 },
         RowStep::AddInt {
@@ -145,17 +131,68 @@ fn faults(
             by: i64::MAX - 2499,
         },
     ];
-    let alone = map_rows_alone(alloc, &world, Filter::all(), steps.as_slice())?;
-    let parted = map_rows(rt, alloc, &world, Filter::all(), steps.as_slice())?;
+    let alone = map_rows_alone(alloc, world, Filter::all(), steps.as_slice())?;
+    let parted = map_rows(rt, alloc, world, Filter::all(), steps.as_slice())?;
     Ok([
         first_fault(alone.as_slice()),
         first_fault(parted.as_slice()),
     ])
 }
 
+/// What is tried on a world without entities.
+#[derive(Clone, Copy)]
+enum Trial {
+    /// Vectors are added.
+    Vectors,
+    /// 5 is added to so many numbers.
+    Raises(u32),
+    /// The first overflow is named.
+    Overflows,
+}
+
+impl Trial {
+    fn holds<R: Threads + Sync>(self, rt: &R, alloc: Global, world: &mut World) -> bool {
+        let want = Some((first(2500), 1));
+        match self {
+            Trial::Vectors => moves_twice(alloc, world) == Ok(true),
+            Trial::Raises(count) => raised(rt, alloc, world, i64::from(count))
+                == Ok(Some(count as usize)),
+            Trial::Overflows => faults(rt, alloc, world) == Ok([want, want]),
+        }
+    }
+}
+
+/// Whether it holds. The one function of these tests that drops a world, which is dear to prove.
+fn holds<R: Threads + Sync>(rt: &R, alloc: Global, trial: Trial) -> bool {
+    match empty_world(alloc) {
+        Ok(made) => {
+            let mut world = made;
+            trial.holds(rt, alloc, &mut world)
+        }
+        Err(_) => false,
+    }
+}
+
+#[test]
+fn vectors_are_added(rt: HostRuntime) -> Result<(), Fail> {
+    assert!(rt; holds(&rt, rt.alloc(), Trial::Vectors));
+    Ok(())
+}
+
+#[test]
+fn rows_of_a_small_table_are_changed(rt: HostRuntime) -> Result<(), Fail> {
+    assert!(rt; holds(&rt, rt.alloc(), Trial::Raises(3)));
+    Ok(())
+}
+
+#[test]
+fn rows_of_a_parted_table_are_changed(rt: HostRuntime) -> Result<(), Fail> {
+    assert!(rt; holds(&rt, rt.alloc(), Trial::Raises(3000)));
+    Ok(())
+}
+
 #[test]
 fn the_first_overflow_is_named(rt: HostRuntime) -> Result<(), Fail> {
-    let want = Some((first(2500), 1));
-    assert!(rt; faults(&rt, rt.alloc()) == Ok([want, want]));
+    assert!(rt; holds(&rt, rt.alloc(), Trial::Overflows));
     Ok(())
 }

@@ -4,6 +4,7 @@ use scene_kinds::{KindSet, Refusal, Schema, Shape, Text, Value};
 use scene_rules::{Filter, Phase, RowStep, Step, Steps, SystemRule};
 use scene_schedule::{Schedule, same_schema};
 use std::alloc::Global;
+use std::process::Abort;
 use std::test::*;
 
 // The kinds of the tests: two vectors and two numbers.
@@ -113,23 +114,39 @@ pub(super) fn schedule(alloc: Global, phases: &[&[System]]) -> Result<Schedule, 
     Schedule::new(alloc, &kinds(alloc)?, list)
 }
 
-#[test]
-fn a_schedule_is_for_its_schema(rt: HostRuntime) -> Result<(), Fail> {
-    let alloc = rt.alloc();
-    let one = schedule(alloc, &[&[needs(1 << L, &[Do::Zero(L)])], &[]])?;
-    let copy = one.try_clone()?;
-    assert_eq!(rt; copy.phases().len(), 2);
-    let first = copy.phases().first().expect(&rt, "a phase");
-    let system = first.systems().first().expect(&rt, "a system");
-    assert_eq!(rt; system.name.as_str(), "a");
-    assert!(rt; copy.is_for(one.schema()));
-    assert!(rt; copy.is_for(&kinds(alloc)?));
-
-    // A schedule without systems, too, is for its own kinds alone.
+/// The kinds, and one more.
+fn more_kinds(alloc: Global) -> Result<Schema, Refusal> {
     let mut more = kinds(alloc)?;
     let _kind = more.add(String::from_str(alloc, "M")?, Shape::Int)?;
-    assert!(rt; !copy.is_for(&more));
-    assert!(rt; !Schedule::new(alloc, &more, Vec::new(alloc))?.is_for(copy.schema()));
+    Ok(more)
+}
+
+/// A schedule is for its own kinds alone, and so is one without systems.
+fn is_for_its_own(rt: &impl Abort, alloc: Global, one: &Schedule) {
+    let same = kinds(alloc).expect(rt, "a schema");
+    assert!(rt; one.is_for(&same));
+    let more = more_kinds(alloc).expect(rt, "a schema");
+    assert!(rt; !one.is_for(&more));
+    let empty = Schedule::new(alloc, &more, Vec::new(alloc)).expect(rt, "a schedule");
+    assert!(rt; !empty.is_for(one.schema()));
+}
+
+/// A copy of a schedule has its phases and its kinds.
+fn copy_is_tried(rt: &impl Abort, copy: &Schedule, one: &Schedule) {
+    assert_eq!(rt; copy.phases().len(), 2);
+    let first = copy.phases().first().expect(rt, "a phase");
+    let system = first.systems().first().expect(rt, "a system");
+    assert_eq!(rt; system.name.as_str(), "a");
+    assert!(rt; copy.is_for(one.schema()));
+}
+
+#[test]
+fn a_schedule_is_for_its_schema(rt: HostRuntime) -> Result<(), Fail> {
+    let one = schedule(rt.alloc(), &[&[needs(1 << L, &[Do::Zero(L)])], &[]]);
+    let one = one.expect(&rt, "a schedule");
+    let copy = one.try_clone().expect(&rt, "memory");
+    copy_is_tried(&rt, &copy, &one);
+    is_for_its_own(&rt, rt.alloc(), &copy);
     Ok(())
 }
 

@@ -83,13 +83,6 @@ fn fill(alloc: Global, world: &mut World, number: i64, rest: i64) -> Result<(), 
     spawn_both(alloc, world, number, rest)
 }
 
-/// A world with these three rows.
-fn world(alloc: Global, number: i64, rest: i64) -> Result<World, Refusal> {
-    let mut world = World::new(alloc, kinds(alloc)?, 8);
-    fill(alloc, &mut world, number, rest)?;
-    Ok(world)
-}
-
 /// What the first phase makes on so many workers. A schedule of another world is refused, as is a phase that isn't there.
 fn on_workers<R: Threads + Sync, G: Gate + Sync>(
     rt: &R,
@@ -133,73 +126,62 @@ fn shown_alone(alloc: Global, world: &World, schedule: &Schedule) -> Result<Stri
     Ok(format!(in alloc; "{made:?}")?)
 }
 
-/// Two workers meet at the gate, and make what one thread makes.
-fn meet<R: Threads + Abort + Sync>(
+/// So many workers make what one thread makes.
+fn makes<R: Threads + Abort + Sync, G: Gate + Sync>(
     rt: &R,
     alloc: Global,
     world: &World,
     schedule: &Schedule,
-) -> Result<(), Fail> {
+    workers: usize,
+    gate: &G,
+) {
+    let shown = shown_on(rt, alloc, world, schedule, workers, gate).expect(rt, "a text");
+    let wanted = shown_alone(alloc, world, schedule).expect(rt, "a text");
+    assert_eq!(rt; shown, wanted, "{workers} workers");
+}
+
+/// Two workers meet at the gate, and make what one thread makes.
+fn meet<R: Threads + Abort + Sync>(rt: &R, alloc: Global, world: &World, schedule: &Schedule) {
     let gate = Meeting {
         came: AtomicU64::new(0),
         gave_up: AtomicU64::new(0),
     };
-    let shown = shown_on(rt, alloc, world, schedule, 2, &gate)?;
+    makes(rt, alloc, world, schedule, 2, &gate);
     assert_eq!(rt; gate.came.load(Ordering::SeqCst), 2);
     assert_eq!(rt; gate.gave_up.load(Ordering::SeqCst), 0);
-    assert_eq!(rt; shown, shown_alone(alloc, world, schedule)?);
-    Ok(())
 }
 
 /// Each number of workers makes what one thread makes.
-fn compare<R: Threads + Abort + Sync>(
+fn compare<R: Threads + Abort + Sync>(rt: &R, alloc: Global, world: &World, schedule: &Schedule) {
+    for workers in [1, 2, 3, 16] {
+        makes(rt, alloc, world, schedule, workers, &OpenGate);
+    }
+}
+
+/// Why one thread is refused, if it is.
+fn fault_alone(alloc: Global, world: &World, schedule: &Schedule) -> Option<Refusal> {
+    match alone(alloc, world, schedule) {
+        Ok(_) => None,
+        Err(refusal) => Some(refusal),
+    }
+}
+
+/// The same of so many workers.
+fn fault_on<R: Threads + Sync>(
     rt: &R,
     alloc: Global,
     world: &World,
     schedule: &Schedule,
-) -> Result<(), Fail> {
-    let wanted = shown_alone(alloc, world, schedule)?;
-    for workers in [1, 2, 3, 16] {
-        let shown = shown_on(rt, alloc, world, schedule, workers, &OpenGate)?;
-        assert_eq!(rt; shown, wanted, "{workers} workers");
+    workers: usize,
+) -> Option<Refusal> {
+    match on_workers(rt, alloc, world, schedule, workers, &OpenGate) {
+        Ok(_) => None,
+        Err(refusal) => Some(refusal),
     }
-    Ok(())
 }
 
 /// Each number of workers is refused as one thread is.
-fn refuse<R: Threads + Abort + Sync>(
-    rt: &R,
-    alloc: Global,
-    world: &World,
-    schedule: &Schedule,
-    wanted: Refusal,
-) -> Result<(), Fail> {
-    assert_eq!(rt; alone(alloc, world, schedule).err(), Some(wanted));
-    for workers in [1, 2, 3, 16] {
-        let made = on_workers(rt, alloc, world, schedule, workers, &OpenGate);
-        assert_eq!(rt; made.err(), Some(wanted), "{workers} workers");
-    }
-    Ok(())
-}
-
-#[test]
-fn two_workers_meet_at_the_gate(rt: HostRuntime) -> Result<(), Fail> {
-    let world = world(rt.alloc(), 5, 1)?;
-    let schedule = schedule(rt.alloc(), &[&[moving(), counting()]])?;
-    meet(&rt, rt.alloc(), &world, &schedule)
-}
-
-#[test]
-fn each_number_of_workers_makes_the_same(rt: HostRuntime) -> Result<(), Fail> {
-    let world = world(rt.alloc(), 5, 0)?;
-    let schedule = schedule(rt.alloc(), &[&[moving(), counting(), ending()]])?;
-    compare(&rt, rt.alloc(), &world, &schedule)
-}
-
-#[test]
-fn the_first_system_that_overflows_is_named(rt: HostRuntime) -> Result<(), Fail> {
-    let world = world(rt.alloc(), i64::MAX, i64::MAX)?;
-    let schedule = schedule(rt.alloc(), &[&[moving(), counting(), resting()]])?;
+fn refuse<R: Threads + Abort + Sync>(rt: &R, alloc: Global, world: &World, schedule: &Schedule) {
     let wanted = Refusal {
         fault: Fault::Overflow(Entity {
             index: 2,
@@ -211,5 +193,78 @@ fn the_first_system_that_overflows_is_named(rt: HostRuntime) -> Result<(), Fail>
             command: 0,
         }),
     };
-    refuse(&rt, rt.alloc(), &world, &schedule, wanted)
+    assert_eq!(rt; fault_alone(alloc, world, schedule), Some(wanted));
+    for workers in [1, 2, 3, 16] {
+        let fault = fault_on(rt, alloc, world, schedule, workers);
+        assert_eq!(rt; fault, Some(wanted), "{workers} workers");
+    }
+}
+
+/// What is tried on the three rows, whose second has a number, and whose third has that and a rest.
+#[derive(Clone, Copy)]
+enum Trial {
+    Meets,
+    Compares,
+    Refuses,
+}
+
+impl Trial {
+    fn run<R: Threads + Abort + Sync>(
+        self,
+        rt: &R,
+        alloc: Global,
+        world: &World,
+        schedule: &Schedule,
+    ) {
+        match self {
+            Trial::Meets => meet(rt, alloc, world, schedule),
+            Trial::Compares => compare(rt, alloc, world, schedule),
+            Trial::Refuses => refuse(rt, alloc, world, schedule),
+        }
+    }
+}
+
+/// Tries the phase of these systems on a world with three rows. No other function here drops a world, which is dear to prove.
+fn try_phase<R: Threads + Abort + Sync>(
+    rt: &R,
+    alloc: Global,
+    systems: &[System],
+    number: i64,
+    rest: i64,
+    trial: Trial,
+) {
+    let schedule = schedule(alloc, &[systems]).expect(rt, "a schedule");
+    let kinds = kinds(alloc).expect(rt, "a schema");
+    let mut world = World::new(alloc, kinds, 8);
+    assert!(rt; fill(alloc, &mut world, number, rest).is_ok());
+    trial.run(rt, alloc, &world, &schedule);
+}
+
+#[test]
+fn two_workers_meet_at_the_gate(rt: HostRuntime) -> Result<(), Fail> {
+    let systems = [moving(), counting()];
+    try_phase(&rt, rt.alloc(), systems.as_slice(), 5, 1, Trial::Meets);
+    Ok(())
+}
+
+#[test]
+fn each_number_of_workers_makes_the_same(rt: HostRuntime) -> Result<(), Fail> {
+    let systems = [moving(), counting(), ending()];
+    try_phase(&rt, rt.alloc(), systems.as_slice(), 5, 0, Trial::Compares);
+    Ok(())
+}
+
+#[test]
+fn the_first_system_that_overflows_is_named(rt: HostRuntime) -> Result<(), Fail> {
+    let systems = [moving(), counting(), resting()];
+    let most = i64::MAX;
+    try_phase(
+        &rt,
+        rt.alloc(),
+        systems.as_slice(),
+        most,
+        most,
+        Trial::Refuses,
+    );
+    Ok(())
 }

@@ -1,8 +1,12 @@
 //! Where each entity's row stands, after each step of moves that were worked out by hand.
+ghost use Rattle.std.specs.Prelude.{◌<◌};
+
+use crate::trials::{Trial, try_world};
 use scene_kinds::{Entity, KindSet, Refusal, Schema, Shape, Value};
 use scene_table::Home;
 use scene_world::World;
 use std::alloc::Global;
+use std::process::Abort;
 use std::test::Fail;
 
 /// The numbers of the kinds A and B, both Tags.
@@ -61,10 +65,11 @@ fn first(index: u32) -> Entity {
     }
 }
 
-fn empty_world(alloc: Global) -> Result<World, Fail> {
+fn empty_world(alloc: Global) -> Result<World, Refusal> {
     let mut schema = Schema::new(alloc);
-    let _a = schema.add(String::from_str(alloc, "A")?, Shape::Tag)?;
-    let _b = schema.add(String::from_str(alloc, "B")?, Shape::Tag)?;
+    for name in ["A", "B"] {
+        let _kind = schema.add(String::from_str(alloc, name)?, Shape::Tag)?;
+    }
     Ok(World::new(alloc, schema, 6))
 }
 
@@ -140,14 +145,25 @@ fn homes_are_places(world: &World) -> bool {
     KIND_SETS.iter().all(|mask| rows_have_homes(world, *mask))
 }
 
+/// The step of a number is done, and all rows are where they should be.
+fn step_is_tried(rt: &impl Abort, alloc: Global, world: &mut World, number: usize)
+    requires { number < 17 }
+{
+    let (step, rows) = STEPS[number];
+    assert!(rt; is_done(alloc, world, step), "step {number}");
+    assert!(rt; has_rows(world, JUST_A, rows), "step {number}");
+    assert!(rt; homes_are_places(world), "step {number}");
+}
+
+pub fn moves_are_tried(rt: &impl Abort, alloc: Global, world: &mut World) {
+    for number in 0..STEPS.len() {
+        step_is_tried(rt, alloc, world, number);
+    }
+}
+
 #[test]
 fn homes_are_places_of_rows_after_each_move(rt: HostRuntime) -> Result<(), Fail> {
-    let mut world = empty_world(rt.alloc())?;
-    for number in 0..STEPS.len() {
-        let (step, rows) = STEPS[number];
-        assert!(rt; is_done(rt.alloc(), &mut world, step), "step {number}");
-        assert!(rt; has_rows(&world, JUST_A, rows), "step {number}");
-        assert!(rt; homes_are_places(&world), "step {number}");
-    }
+    let world = empty_world(rt.alloc()).expect(&rt, "a world");
+    try_world(&rt, rt.alloc(), world, Trial::Moves);
     Ok(())
 }

@@ -14,6 +14,8 @@ mod run_tests;
 #[cfg(test)]
 mod tree_tests;
 #[cfg(test)]
+mod trials;
+#[cfg(test)]
 mod world_tests;
 
 pub use left::state_left;

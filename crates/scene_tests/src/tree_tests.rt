@@ -1,7 +1,9 @@
 //! Deep and wide trees: they are built and taken apart without recursion, and without walks over the whole forest.
+use crate::trials::{Trial, try_world};
 use scene_kinds::{Entity, Refusal, Schema};
 use scene_world::World;
 use std::alloc::Global;
+use std::process::Abort;
 use std::test::Fail;
 
 /// How many entities stand below the root.
@@ -47,18 +49,24 @@ fn children_come_and_go(alloc: Global, world: &mut World) -> Result<(), Refusal>
     world.despawn_recursive(root)
 }
 
+pub fn chain_is_tried(rt: &impl Abort, alloc: Global, world: &mut World) {
+    assert!(rt; chain_comes_and_goes(alloc, world).is_ok());
+    assert!(rt; is_taken_apart(world, BELOW));
+}
+
 #[test]
 fn a_deep_chain_is_taken_apart_from_its_end(rt: HostRuntime) -> Result<(), Fail> {
-    let mut world = empty_world(rt.alloc());
-    assert!(rt; chain_comes_and_goes(rt.alloc(), &mut world).is_ok());
-    assert!(rt; is_taken_apart(&world, BELOW));
+    try_world(&rt, rt.alloc(), empty_world(rt.alloc()), Trial::Chain);
     Ok(())
+}
+
+pub fn children_are_tried(rt: &impl Abort, alloc: Global, world: &mut World) {
+    assert!(rt; children_come_and_go(alloc, world).is_ok());
+    assert!(rt; is_taken_apart(world, 1));
 }
 
 #[test]
 fn a_wide_parent_is_taken_apart_from_its_first_child(rt: HostRuntime) -> Result<(), Fail> {
-    let mut world = empty_world(rt.alloc());
-    assert!(rt; children_come_and_go(rt.alloc(), &mut world).is_ok());
-    assert!(rt; is_taken_apart(&world, 1));
+    try_world(&rt, rt.alloc(), empty_world(rt.alloc()), Trial::Children);
     Ok(())
 }

@@ -1,8 +1,10 @@
 //! Calls of passes that no line of a script makes.
+use crate::trials::{Trial, try_world};
 use scene_kinds::{Refusal, Schema};
 use scene_pass::{Filter, matching};
 use scene_world::World;
 use std::alloc::Global;
+use std::process::Abort;
 use std::test::Fail;
 
 fn empty_world(alloc: Global) -> World {
@@ -17,9 +19,12 @@ fn both_match(alloc: Global, world: &mut World) -> Result<bool, Refusal> {
     Ok(found.as_slice() == [first, second].as_slice())
 }
 
+pub fn matches_are_tried(rt: &impl Abort, alloc: Global, world: &mut World) {
+    assert!(rt; both_match(alloc, world) == Ok(true));
+}
+
 #[test]
 fn entities_that_match_stand_in_the_order_of_rows(rt: HostRuntime) -> Result<(), Fail> {
-    let mut world = empty_world(rt.alloc());
-    assert!(rt; both_match(rt.alloc(), &mut world) == Ok(true));
+    try_world(&rt, rt.alloc(), empty_world(rt.alloc()), Trial::Matches);
     Ok(())
 }
