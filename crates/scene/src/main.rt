@@ -13,6 +13,7 @@ use crate::ending::Ending;
 use crate::stored::{compact_store, log_store, show_store, stored_shell};
 use scene_app::{AppFault, RunEnd, check_scene, print_scene, run_script};
 use scene_command_line::{Asked, ShellWords, mistake_in, read_words};
+use scene_hand::OnThreads;
 use scene_script::Limit;
 use scene_shell::{AnswerStyle, ShellSettings, run_shell};
 use scene_streams::{Sink, Source};
@@ -67,10 +68,17 @@ pub(crate) fn style_of(words: &ShellWords) -> AnswerStyle {
     }
 }
 
+/// Who performs the calls of a shell, by the words that ask for it.
+pub(crate) fn performer_of<'a, T: Threads + Sync>(
+    threads: &'a T,
+    words: &ShellWords,
+) -> OnThreads<&'a T> {
+    OnThreads::new(threads, words.workers as usize)
+}
+
 /// How a shell is to be, by the words that ask for it; nothing where its depth is out of range, which no words ask for.
 fn shell_settings(words: &ShellWords) -> Option<ShellSettings> {
     Some(ShellSettings {
-        workers: words.workers as usize,
         depth: Limit::new(words.depth)?,
         style: style_of(words),
     })
@@ -89,7 +97,7 @@ fn shell(rt: &HostRuntime, threads: &(impl Threads + Wait + Sync), words: ShellW
     };
     let (mut writer, mut errors) = (rt.stdout(), rt.stderr());
     match run_shell(
-        threads,
+        &performer_of(threads, &words),
         rt.alloc(),
         settings,
         &mut reader,

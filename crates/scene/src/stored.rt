@@ -1,8 +1,9 @@
 //! What the program does with a store (docs/SHELL.md, "A store").
 use crate::ending::Ending;
-use crate::{printed, style_of};
+use crate::{performer_of, printed, style_of};
 use scene_app::AppFault;
 use scene_command_line::ShellWords;
+use scene_hand::OnThreads;
 use scene_kept::{
     KeptLineFault, LogCounts, ShellOnFault, compacted, run_shell_on, show_lines, write_log,
 };
@@ -52,6 +53,11 @@ fn line_count(lines: &[u8]) -> usize {
     count
 }
 
+/// Who plays lines again: an advance has one worker.
+fn one_worker<T: Threads + Sync>(threads: &T) -> OnThreads<&T> {
+    OnThreads::new(threads, 1)
+}
+
 /// Fewer lines that lead to the same scene, of so many bytes at most; none where the lines are still in the setup.
 fn fewer_lines(
     rt: &HostRuntime,
@@ -59,7 +65,7 @@ fn fewer_lines(
     lines: &[u8],
     most: usize,
 ) -> Result<Option<Vec<u8>>, Ending> {
-    match compacted(threads, rt.alloc(), lines, most) {
+    match compacted(&one_worker(threads), rt.alloc(), lines, most) {
         Ok(fewer) => Ok(fewer),
         Err(fault) => Err(told(rt, &fault)),
     }
@@ -126,9 +132,8 @@ fn shell_behind(
         return Ending::Fault(AppFault::NoMemory);
     };
     let ended = run_shell_on(
-        threads,
+        &performer_of(threads, words),
         rt.alloc(),
-        words.workers as usize,
         style_of(words),
         lines,
         store,
@@ -187,7 +192,12 @@ pub fn show_store(rt: &HostRuntime, threads: &(impl Threads + Wait + Sync), path
         Err(fault) => return Ending::Store(fault),
     };
     let mut world = String::new(rt.alloc());
-    match show_lines(threads, rt.alloc(), lines.as_slice(), &mut world) {
+    match show_lines(
+        &one_worker(threads),
+        rt.alloc(),
+        lines.as_slice(),
+        &mut world,
+    ) {
         Ok(()) => printed(rt, world.as_str()),
         Err(fault) => told(rt, &fault),
     }
@@ -207,7 +217,12 @@ pub fn log_store(rt: &HostRuntime, threads: &(impl Threads + Wait + Sync), path:
         Ok(lines) => lines,
         Err(fault) => return Ending::Store(fault),
     };
-    match write_log(threads, rt.alloc(), lines.as_slice(), &mut rt.stdout()) {
+    match write_log(
+        &one_worker(threads),
+        rt.alloc(),
+        lines.as_slice(),
+        &mut rt.stdout(),
+    ) {
         Ok(counts) => tell_counts(rt, counts),
         Err(fault) => told(rt, &fault),
     }

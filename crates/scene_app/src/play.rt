@@ -8,16 +8,14 @@ ghost use Rattle.scene_app.specs.Reports.{no_bad_lines};
 ghost use Rattle.scene_app.specs.Steps.{LinePlayed, noted};
 
 use crate::report::Reports;
-use scene_hand::Hand;
+use scene_hand::{Hand, Performer};
 use scene_player::Player;
 use scene_script::first_line;
 use std::alloc::{AllocError, Global};
-use std::sync::Wait;
-use std::thread::Threads;
 
 /// Plays a line, and notes it where it is bad.
-fn play_line<T: Threads + Wait + Sync>(
-    rt: &T,
+fn play_line<P: Performer>(
+    performer: &P,
     player: &mut Player,
     number: usize,
     bytes: &[u8],
@@ -29,15 +27,15 @@ fn play_line<T: Threads + Wait + Sync>(
         (player_reply (player_of player.old) bytes.now)) }
     ensures few { OnOk result (reports.new.count ≤ reports.old.count + 1) }
 {
-    match player.line(rt, bytes, out) {
+    match player.line(performer, bytes, out) {
         Ok(bad) => reports.note(number, bad),
         Err(_) => Err(AllocError),
     }
 }
 
 /// Plays the lines of a script from its first.
-fn play_lines<T: Threads + Wait + Sync>(
-    rt: &T,
+fn play_lines<P: Performer>(
+    performer: &P,
     player: &mut Player,
     script: &[u8],
     out: &mut String,
@@ -54,7 +52,7 @@ fn play_lines<T: Threads + Wait + Sync>(
     let mut number = 1usize;
     'lines: while !rest.is_empty() {
         let (bytes, after) = first_line(rest);
-        play_line(rt, player, number, bytes, out, reports)?;
+        play_line(performer, player, number, bytes, out, reports)?;
         rest = after;
         number += 1;
     }
@@ -63,13 +61,11 @@ fn play_lines<T: Threads + Wait + Sync>(
 
 /// Plays a script from its first line, adds what it prints, and notes its bad lines (docs/SCRIPTS.md, "Lines").
 ///
-/// Want of memory ends it with an error, and then a part of the text may be there. Each line costs what it asks for. An
-/// advance has so many workers, on which nothing that is printed depends. It gives the sessions with their state, and the
-/// bad lines.
-pub(crate) fn play_script<T: Threads + Wait + Sync>(
-    rt: &T,
+/// Want of memory ends it with an error, and then a part of the text may be there. Each line costs what it asks for. It gives
+/// the sessions with their state, and the bad lines.
+pub(crate) fn play_script<P: Performer>(
+    performer: &P,
     alloc: Global,
-    workers: usize,
     script: &[u8],
     out: &mut String,
 ) -> Result<(Hand, Reports), AllocError>
@@ -80,7 +76,7 @@ pub(crate) fn play_script<T: Threads + Wait + Sync>(
     ensures few { IfOk result (λ p. p.1.count ≤ length script.now) }
 {
     let mut reports = Reports::new(alloc);
-    let mut player = Player::new(alloc, workers);
-    play_lines(rt, &mut player, script, out, &mut reports)?;
+    let mut player = Player::new(alloc);
+    play_lines(performer, &mut player, script, out, &mut reports)?;
     Ok((player.into_hand()?, reports))
 }

@@ -13,6 +13,7 @@ ghost use Rattle.scene_app.specs.declared.fault.AppFault.TheVariants.{NoMemory, 
 use crate::fault::AppFault;
 use crate::play::play_script;
 use crate::report::BadLineReport;
+use scene_hand::{OnThreads, Performer};
 use scene_lock::{Pass, WordLock};
 use scene_session::State;
 use scene_streams::{Sink, Source};
@@ -36,10 +37,9 @@ pub struct RunEnd {
 
 /// What a script's bytes print, its bad lines, and what it leaves.
 #[tactic(auto, using(crate::proofs::ReportLaws::noted_all))]
-fn played<T: Threads + Wait + Sync>(
-    rt: &T,
+fn played<P: Performer>(
+    performer: &P,
     alloc: Global,
-    workers: usize,
     script: &[u8],
 ) -> Result<(String, RunEnd), AppFault>
     requires { length script.now ≤ most_bytes }
@@ -50,8 +50,11 @@ fn played<T: Threads + Wait + Sync>(
     ensures memory { IfErr result (λ f. f ≡ NoMemory) }
 {
     let mut out = String::new(alloc);
-    let (hand, reports) = play_script(rt, alloc, workers, script, &mut out)?;
-    let (lock, passes) = hand.into_parts();
+    let (hand, reports) = play_script(performer, alloc, script, &mut out)?;
+    // A player's hand has a lock, unless the player was made to be alone.
+    let Some((lock, passes)) = hand.into_parts() else {
+        return Err(AppFault::NoMemory);
+    };
     let end = RunEnd {
         bad_lines: reports.count() as u32,
         reports: reports.into_first(),
@@ -100,7 +103,8 @@ pub fn run_script<T: Threads + Wait + Sync, R: Read, W: Write>(
     ensures unmarked { OnOk result (write_failed sink.new ≡ false) }
 {
     let script = source.read_all(alloc)?;
-    let (out, end) = played(rt, alloc, workers, script.as_slice())?;
+    let performer = OnThreads::new(rt, workers);
+    let (out, end) = played(&performer, alloc, script.as_slice())?;
     sink.write_all(out.as_bytes())?;
     Ok(end)
 }

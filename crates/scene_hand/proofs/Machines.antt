@@ -1,5 +1,5 @@
 -- The machine and the answers of a hand are those of its state.
-use Rattle.std.proofs.Common.{◌≡◌, ◌≢◌, ◌<◌, ◌+◌, ℕ, List, [], ◌∷◌, ◌++◌, map, length, Result, Ok, Err, IfOk, IfErr, nat_lt, if◌then◌else◌, true, false, Bool, refl, sym, ap, ◌∙◌, arith}
+use Rattle.std.proofs.Common.{◌≡◌, ◌≢◌, ◌<◌, ◌+◌, ℕ, List, [], ◌∷◌, ◌++◌, map, length, Result, Ok, Err, IfOk, IfErr, nat_lt, if◌then◌else◌, true, false, Bool, refl, sym, ap, subst, ◌∙◌, arith}
 use Rattle.std.proofs.lemmas.Bool.{lt-ltb}
 use Rattle.std.proofs.lemmas.List.{length-append, length-map, map-append}
 use Rattle.scene_kinds.specs.declared.fault.Fault.TheVariants.{HistoryFull, NoMemory}
@@ -99,3 +99,12 @@ module _ (o : Beginning) (h : List Entry) (n : ℕ) where
       t.1.0,
       t.1.1 ∙ ap (stopping_at o.limit) (sym (length-map h made)),
     )
+
+-- a call of a state that nobody shares
+pub alone_done : (before after : StateView) (n : ℕ) (c : Call) (r : Result Reply Stopped) → after.opening ≡ before.opening → IsLegal after.opening after.history
+    → IfOk r (λ d. HasEntered before.history n c d after.history) → IfOk r (λ d. told d ≡ answer_after before.opening before.history (asked c))
+    → IfOk r (λ d. performed (hand_of before n) (asked c) ≡ (hand_of after n, told d))
+alone_done before after n c (Ok d) same legal entered given =
+    subst (λ (o : Beginning). performed (hand_of before n) (asked c) ≡ (hand_of (record { opening = o; history = after.history }) n, told d)) (sym same)
+    (performed_done before.opening before.history n after.history c d entered given (subst (λ (o : Beginning). IsLegal o after.history) same legal))
+alone_done before after n c (Err x) same legal entered given = tt

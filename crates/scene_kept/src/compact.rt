@@ -5,11 +5,10 @@ ghost use Rattle.scene_kept.specs.AnswerText.{answer_text};
 use crate::asked::answer_behind;
 use crate::fault::KeptLineFault;
 use crate::play_again::{Note, Unnoted};
+use scene_hand::Performer;
 use scene_kinds::Schema;
 use scene_script::{Line, read_line};
 use std::alloc::{AllocError, Global};
-use std::sync::Wait;
-use std::thread::Threads;
 
 /// What a scene text doesn't hold, as the lines say it.
 #[derive(Drop)]
@@ -82,8 +81,8 @@ impl Note for Kept {
 }
 
 /// Whether lines lead to a scene of this text.
-fn leads_to<T: Threads + Wait + Sync>(
-    rt: &T,
+fn leads_to<P: Performer>(
+    performer: &P,
     alloc: Global,
     text: &[u8],
     scene: &[u8],
@@ -91,7 +90,7 @@ fn leads_to<T: Threads + Wait + Sync>(
     ensures { IfOk result (λ same. same ≡ true → answer_text (codes "dumpall") text.now ≡ scene.now) }
 {
     let mut again = String::new(alloc);
-    answer_behind(rt, alloc, &mut Unnoted, text, b"dumpall", &mut again)?;
+    answer_behind(performer, alloc, &mut Unnoted, text, b"dumpall", &mut again)?;
     Ok(again.as_bytes() == scene)
 }
 
@@ -102,8 +101,8 @@ fn leads_to<T: Threads + Wait + Sync>(
 /// It costs what the lines cost in a script, and `dumpall`; and where there are fewer lines, a load of them and `dumpall`
 /// again. Refused: `Bad` at a line that is bad, `Halted` and `NoMemory` for want of memory, and `TooLong` where the text
 /// of the scene would be.
-pub fn compacted<T: Threads + Wait + Sync>(
-    rt: &T,
+pub fn compacted<P: Performer>(
+    performer: &P,
     alloc: Global,
     text: &[u8],
     most: usize,
@@ -113,7 +112,7 @@ pub fn compacted<T: Threads + Wait + Sync>(
 {
     let mut kept = Kept::new(alloc);
     let mut scene = String::new(alloc);
-    if !answer_behind(rt, alloc, &mut kept, text, b"dumpall", &mut scene)? {
+    if !answer_behind(performer, alloc, &mut kept, text, b"dumpall", &mut scene)? {
         return Ok(None);
     }
     if scene.as_str().starts_with("fault") {
@@ -122,7 +121,7 @@ pub fn compacted<T: Threads + Wait + Sync>(
     let Ok(fewer) = kept.joined(alloc, scene.as_bytes()) else {
         return Err(KeptLineFault::NoMemory);
     };
-    if fewer.len() <= most && leads_to(rt, alloc, fewer.as_slice(), scene.as_bytes())? {
+    if fewer.len() <= most && leads_to(performer, alloc, fewer.as_slice(), scene.as_bytes())? {
         Ok(Some(fewer))
     } else {
         Ok(None)

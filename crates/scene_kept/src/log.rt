@@ -1,13 +1,12 @@
 //! What lines that are kept have done.
 use crate::fault::KeptLineFault;
+use scene_hand::Performer;
 use scene_player::{Answer, Halt, Player};
 use scene_script::{Line, SessionNumber, first_line, read_line};
 use scene_session::Reply;
 use std::alloc::{AllocError, Global};
 use std::fmt;
 use std::io::Write;
-use std::sync::Wait;
-use std::thread::Threads;
 
 /// How many calls came to what.
 #[derive(Clone, Copy, Debug, PartialEq, Eq)]
@@ -96,14 +95,14 @@ impl Log {
     }
 
     /// Plays a line, counts its answer, and puts it in the place of the one before.
-    fn play<T: Threads + Wait + Sync>(
+    fn play<P: Performer>(
         &mut self,
-        rt: &T,
+        performer: &P,
         player: &mut Player,
         line: &[u8],
     ) -> Result<(), Halt> {
         self.answer.clear();
-        let answer = player.play(rt, line)?;
+        let answer = player.play(performer, line)?;
         self.counts.count(&answer);
         match answer.write_text(self.alloc, player.schema(), &mut self.answer) {
             Ok(()) => Ok(()),
@@ -137,14 +136,14 @@ impl Log {
     }
 
     /// Plays a line, and says what it came to.
-    fn line<T: Threads + Wait + Sync>(
+    fn line<P: Performer>(
         &mut self,
-        rt: &T,
+        performer: &P,
         player: &mut Player,
         number: u64,
         line: &[u8],
     ) -> Result<(), KeptLineFault> {
-        if let Err(halt) = self.play(rt, player, line) {
+        if let Err(halt) = self.play(performer, player, line) {
             return Err(KeptLineFault::Halted(number, halt));
         }
         if self.write_entry(number, line).is_err() {
@@ -157,15 +156,15 @@ impl Log {
     }
 
     /// Plays a line, and writes what it came to.
-    fn write_line<T: Threads + Wait + Sync, W: Write>(
+    fn write_line<P: Performer, W: Write>(
         &mut self,
-        rt: &T,
+        performer: &P,
         player: &mut Player,
         number: u64,
         line: &[u8],
         writer: &mut W,
     ) -> Result<(), KeptLineFault> {
-        self.line(rt, player, number, line)?;
+        self.line(performer, player, number, line)?;
         match writer.write_all(self.entry.as_bytes()) {
             Ok(()) => Ok(()),
             Err(_) => Err(KeptLineFault::Unwritten),
@@ -174,8 +173,8 @@ impl Log {
 }
 
 /// Plays the lines of a text, and writes what they came to. It gives how many calls came to what.
-fn write_lines<T: Threads + Wait + Sync, W: Write>(
-    rt: &T,
+fn write_lines<P: Performer, W: Write>(
+    performer: &P,
     alloc: Global,
     player: &mut Player,
     text: &[u8],
@@ -189,7 +188,7 @@ fn write_lines<T: Threads + Wait + Sync, W: Write>(
         }
         let (line, more) = first_line(rest);
         rest = more;
-        match log.write_line(rt, player, number, line, writer) {
+        match log.write_line(performer, player, number, line, writer) {
             Ok(()) => {}
             Err(fault) => return Err(fault),
         }
@@ -201,12 +200,12 @@ fn write_lines<T: Threads + Wait + Sync, W: Write>(
 /// the first line of its answer. It gives how many calls came to what. It costs what the lines cost in a script.
 ///
 /// Refused: `Halted` for want of memory, and `Unwritten`. The entries of the lines before are written then.
-pub fn write_log<T: Threads + Wait + Sync, W: Write>(
-    rt: &T,
+pub fn write_log<P: Performer, W: Write>(
+    performer: &P,
     alloc: Global,
     text: &[u8],
     writer: &mut W,
 ) -> Result<LogCounts, KeptLineFault> {
-    let mut player = Player::new(alloc, 1);
-    write_lines(rt, alloc, &mut player, text, writer)
+    let mut player = Player::new(alloc);
+    write_lines(performer, alloc, &mut player, text, writer)
 }

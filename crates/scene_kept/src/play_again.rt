@@ -5,12 +5,11 @@ ghost use Rattle.scene_player.specs.Player.{player_of, player_reply};
 ghost use Rattle.scene_shell.specs.Shell.{player_after};
 
 use crate::fault::KeptLineFault;
+use scene_hand::Performer;
 use scene_kinds::Schema;
 use scene_player::{Halt, Player};
 use scene_script::first_line;
 use std::alloc::{AllocError, Global};
-use std::sync::Wait;
-use std::thread::Threads;
 
 /// What is told of each line before it is played.
 pub(crate) trait Note {
@@ -30,8 +29,8 @@ impl Note for Unnoted {
 
 /// Plays a line that was kept, which is given without its line break, and puts its answer in the place of the one
 /// before.
-fn play_kept_line<T: Threads + Wait + Sync>(
-    rt: &T,
+fn play_kept_line<P: Performer>(
+    performer: &P,
     player: &mut Player,
     number: u64,
     line: &[u8],
@@ -40,7 +39,7 @@ fn play_kept_line<T: Threads + Wait + Sync>(
     ensures { OnOk result (player_of player.new ≡ (player_reply (player_of player.old) line.now).player) }
 {
     answer.clear();
-    match player.line(rt, line, answer) {
+    match player.line(performer, line, answer) {
         Ok(None) => Ok(()),
         Ok(Some(reason)) => Err(KeptLineFault::Bad(number, reason)),
         Err(halt) => Err(KeptLineFault::Halted(number, halt)),
@@ -48,8 +47,8 @@ fn play_kept_line<T: Threads + Wait + Sync>(
 }
 
 /// Notes each line of a text, and plays it.
-pub(crate) fn play_noted<T: Threads + Wait + Sync, N: Note>(
-    rt: &T,
+pub(crate) fn play_noted<P: Performer, N: Note>(
+    performer: &P,
     alloc: Global,
     player: &mut Player,
     notes: &mut N,
@@ -68,7 +67,7 @@ pub(crate) fn play_noted<T: Threads + Wait + Sync, N: Note>(
         if notes.note(alloc, player.schema(), line).is_err() {
             return Err(KeptLineFault::Halted(number, Halt::Before));
         }
-        match play_kept_line(rt, player, number, line, &mut answer) {
+        match play_kept_line(performer, player, number, line, &mut answer) {
             Ok(()) => {}
             Err(fault) => return Err(fault),
         }
@@ -79,13 +78,13 @@ pub(crate) fn play_noted<T: Threads + Wait + Sync, N: Note>(
 /// Plays the lines of a text, whose answers aren't asked for. It costs what the lines cost in a script.
 ///
 /// Refused: `Bad` at a line that is bad, and `Halted` for want of memory. The lines before are played then.
-pub fn replay<T: Threads + Wait + Sync>(
-    rt: &T,
+pub fn replay<P: Performer>(
+    performer: &P,
     alloc: Global,
     player: &mut Player,
     text: &[u8],
 ) -> Result<(), KeptLineFault>
     ensures { OnOk result (player_of player.new ≡ player_after (player_of player.old) (lines text.now)) }
 {
-    play_noted(rt, alloc, player, &mut Unnoted, text)
+    play_noted(performer, alloc, player, &mut Unnoted, text)
 }

@@ -8,12 +8,11 @@ ghost use Rattle.scene_kept.specs.GoesOn.{GoesOn};
 
 use crate::fault::KeptLineFault;
 use crate::play_again::replay;
+use scene_hand::Performer;
 use scene_player::Player;
 use scene_shell::{AnswerStyle, Keep, KeptFault, run_kept_shell};
 use std::alloc::Global;
 use std::io::{BufReader, Read, Write};
-use std::sync::Wait;
-use std::thread::Threads;
 
 /// Why a shell on kept lines ended before its input did.
 #[derive(Drop)]
@@ -25,8 +24,8 @@ pub enum ShellOnFault<F: Drop> {
 }
 
 /// The same of a player before the lines.
-fn go_on<T: Threads + Wait + Sync, R: Read, W: Write, E: Write, K: Keep>(
-    rt: &T,
+fn go_on<P: Performer, R: Read, W: Write, E: Write, K: Keep>(
+    performer: &P,
     alloc: Global,
     player: &mut Player,
     style: AnswerStyle,
@@ -40,27 +39,28 @@ fn go_on<T: Threads + Wait + Sync, R: Read, W: Write, E: Write, K: Keep>(
         (W.contents writer.old) (W.contents writer.new) keeper.old keeper.new
         (player_after (player_of player.old) (lines text.items)) result) }
 {
-    let played = replay(rt, alloc, player, text.as_slice());
+    let played = replay(performer, alloc, player, text.as_slice());
     // The lines aren't held while the shell runs.
     drop(text);
     if let Err(fault) = played {
         return Err(ShellOnFault::Lines(fault));
     }
-    match run_kept_shell(rt, alloc, player, style, keeper, reader, writer, errors) {
+    match run_kept_shell(
+        performer, alloc, player, style, keeper, reader, writer, errors,
+    ) {
         Ok(bad_lines) => Ok(bad_lines),
         Err(fault) => Err(ShellOnFault::Shell(fault)),
     }
 }
 
-/// Plays lines that were kept, and then answers each line of a reader and keeps it, as `run_kept_shell` does, with so
-/// many workers for an advance, 1 to 16. It gives how many lines of the reader were bad.
+/// Plays lines that were kept, and then answers each line of a reader and keeps it, as `run_kept_shell` does. It gives how
+/// many lines of the reader were bad.
 ///
 /// It costs what the lines cost in a script, and then what the shell costs. Refused: `Lines` as `replay` is refused,
 /// where nothing is read, written or kept; and `Shell` as `run_kept_shell` is.
-pub fn run_shell_on<T: Threads + Wait + Sync, R: Read, W: Write, E: Write, K: Keep>(
-    rt: &T,
+pub fn run_shell_on<P: Performer, R: Read, W: Write, E: Write, K: Keep>(
+    performer: &P,
     alloc: Global,
-    workers: usize,
     style: AnswerStyle,
     text: Vec<u8>,
     keeper: &mut K,
@@ -72,9 +72,9 @@ pub fn run_shell_on<T: Threads + Wait + Sync, R: Read, W: Write, E: Write, K: Ke
         (W.contents writer.old) (W.contents writer.new) keeper.old keeper.new
         (player_after first_player (lines text.items)) result) }
 {
-    let mut player = Player::new(alloc, workers);
+    let mut player = Player::new(alloc);
     go_on(
-        rt,
+        performer,
         alloc,
         &mut player,
         style,

@@ -1,17 +1,16 @@
 -- A line of the setup, and one that ends it.
-use Rattle.std.proofs.Common.{◌≡◌, ℕ, List, Option, Some, None, Result, Ok, Err, IfOk, IfErr, refl, sym, ap, ◌∙◌, subst}
+use Rattle.std.proofs.Common.{◌≡◌, Option, Some, None, Result, Ok, Err, IfOk, IfErr, refl, sym, ap, ◌∙◌, subst}
 use Rattle.std.specs.Prelude.{MatchResult}
 use Rattle.scene_script.specs.declared.script_line.Line.{Line}
 use Rattle.scene_script.specs.declared.bad_line.BadLine.{BadLine}
-use Rattle.scene_script.specs.Script.{line_in}
 use Rattle.scene_player.specs.declared.answer.Answer.{Answer}
 use Rattle.scene_player.specs.declared.halt.Halt.{Halt}
 use Rattle.scene_player.specs.declared.halt.Halt.TheVariants.{Begun}
 use Rattle.scene_player.specs.declared.play_state.PlayState.{PlayState}
 use Rattle.scene_player.specs.declared.setup_line.SetupAnswer.TheVariants.{Given, Ends}
 use Rattle.scene_player.specs.Answer.{Says}
-use Rattle.scene_player.specs.Play.{SetupReply, SetupState, first_state, said_reply, setup_kinds, setup_said}
-use Rattle.scene_player.specs.Player.{HaltsSetup, Player, Setting, Playing, Tells, halted, player_reply, set_or_begun}
+use Rattle.scene_player.specs.Play.{SetupReply, SetupState, first_state, said_reply, setup_said}
+use Rattle.scene_player.specs.Player.{HaltsSetup, Player, Setting, Playing, Tells, halted, player_said, set_or_begun}
 use Rattle.scene_player.specs.Setup.{AnswersSetup}
 
 -- a line of a setup that was answered
@@ -20,12 +19,10 @@ given_by : (s t : SetupState) (said : Result Line BadLine) (answer : Answer) (o 
 given_by s t said answer None h = absurd h
 given_by s t said answer (Some r) h = (h.0, h.1, ap Setting h.2)
 
-pub given : (z : Player) (s t : SetupState) (bytes : List ℕ) (said : Result Line BadLine) (answer : Answer)
-    → z ≡ Setting s → said ≡ line_in (setup_kinds s) bytes → AnswersSetup s t said (setup_said s said) (Given answer)
-    → Tells answer (Setting t) (player_reply z bytes)
-given z s t bytes said answer is e h =
-    subst (λ (y : Player). Tells answer (Setting t) (player_reply y bytes)) (sym is)
-    (subst (λ (l : Result Line BadLine). Tells answer (Setting t) (set_or_begun s l (setup_said s l))) e (given_by s t said answer (setup_said s said) h))
+pub given : (z : Player) (s t : SetupState) (said : Result Line BadLine) (answer : Answer)
+    → z ≡ Setting s → AnswersSetup s t said (setup_said s said) (Given answer) → Tells answer (Setting t) (player_said z said)
+given z s t said answer is h =
+    subst (λ (y : Player). Tells answer (Setting t) (player_said y said)) (sym is) (given_by s t said answer (setup_said s said) h)
 
 -- a line that was handed back has no reply, and left the setup
 back : (s t : SetupState) (said : Result Line BadLine) (line : Line) (o : Option SetupReply)
@@ -38,33 +35,32 @@ setup_stays : (z : Player) (s t : SetupState) (said : Result Line BadLine) (line
 setup_stays z s t said line is h = ap Setting (back s t said line (setup_said s said) h).2 ∙ sym is
 
 -- its reply is that of what follows the setup
-begins : (z : Player) (s t : SetupState) (bytes : List ℕ) (said : Result Line BadLine) (line : Line) (answer : Answer) (state : PlayState)
-    → z ≡ Setting s → said ≡ line_in (setup_kinds s) bytes → AnswersSetup s t said (setup_said s said) (Ends line)
-    → Says answer state (said_reply (first_state t) (Ok line)) → Tells answer (Playing state) (player_reply z bytes)
-begins z s t bytes said line answer state is e h says =
+begins : (z : Player) (s t : SetupState) (said : Result Line BadLine) (line : Line) (answer : Answer) (state : PlayState)
+    → z ≡ Setting s → AnswersSetup s t said (setup_said s said) (Ends line)
+    → Says answer state (said_reply (first_state t) (Ok line)) → Tells answer (Playing state) (player_said z said)
+begins z s t said line answer state is h says =
     let b = back s t said line (setup_said s said) h in
     let same = ap (λ (w : SetupState). said_reply (first_state w) (Ok line)) b.2 ∙ ap (λ (q : Result Line BadLine). said_reply (first_state s) q) (sym b.1) in
     let told : Tells answer (Playing state) (set_or_begun s said None) = (says.0 ∙ ap (λ r. r.text) same, says.1 ∙ ap (λ r. r.bad) same, ap Playing (says.2 ∙ ap (λ r. r.state) same)) in
-    subst (λ (y : Player). Tells answer (Playing state) (player_reply y bytes)) (sym is)
-    (subst (λ (l : Result Line BadLine). Tells answer (Playing state) (set_or_begun s l (setup_said s l))) e
-    (subst (λ (o : Option SetupReply). Tells answer (Playing state) (set_or_begun s said o)) (sym b.0) told))
+    subst (λ (y : Player). Tells answer (Playing state) (player_said y said)) (sym is)
+    (subst (λ (o : Option SetupReply). Tells answer (Playing state) (set_or_begun s said o)) (sym b.0) told)
 
 -- a line that ends the setup, and is answered behind it or finds no memory there
-pub ends : {E : Type 0} (z : Player) (s t : SetupState) (bytes : List ℕ) (said : Result Line BadLine) (line : Line) (state : PlayState)
-    (answered : Result Answer E) (result : Result Answer Halt) → z ≡ Setting s → said ≡ line_in (setup_kinds s) bytes
+pub ends : {E : Type 0} (z : Player) (s t : SetupState) (said : Result Line BadLine) (line : Line) (state : PlayState)
+    (answered : Result Answer E) (result : Result Answer Halt) → z ≡ Setting s
     → AnswersSetup s t said (setup_said s said) (Ends line)
     → MatchResult answered (λ answer. result ≡ Ok answer) (λ _. result ≡ Err Begun)
     → MatchResult answered (λ answer. Says answer state (said_reply (first_state t) (Ok line))) (λ _. state ≡ first_state t)
-    → IfOk result (λ answer. Tells answer (Playing state) (player_reply z bytes))
-    × IfErr result (λ h. Playing state ≡ halted h z (player_reply z bytes).player)
-ends z s t bytes said line state (Ok answer) result is e h came says =
-    let Wanted : Result Answer Halt → Type 0 = λ r. IfOk r (λ a. Tells a (Playing state) (player_reply z bytes)) × IfErr r (λ x. Playing state ≡ halted x z (player_reply z bytes).player) in
-    subst Wanted (sym came) (begins z s t bytes said line answer state is e h says, tt)
-ends z s t bytes said line state (Err none) result is e h came first =
+    → IfOk result (λ answer. Tells answer (Playing state) (player_said z said))
+    × IfErr result (λ h. Playing state ≡ halted h z (player_said z said).player)
+ends z s t said line state (Ok answer) result is h came says =
+    let Wanted : Result Answer Halt → Type 0 = λ r. IfOk r (λ a. Tells a (Playing state) (player_said z said)) × IfErr r (λ x. Playing state ≡ halted x z (player_said z said).player) in
+    subst Wanted (sym came) (begins z s t said line answer state is h says, tt)
+ends z s t said line state (Err none) result is h came first =
     let b = back s t said line (setup_said s said) h in
-    let next = (player_reply z bytes).player in
+    let next = (player_said z said).player in
     let at : Playing state ≡ halted Begun z next = ap Playing (first ∙ ap first_state b.2) ∙ ap (λ (y : Player). halted Begun y next) (sym is) in
-    let Wanted : Result Answer Halt → Type 0 = λ r. IfOk r (λ a. Tells a (Playing state) (player_reply z bytes)) × IfErr r (λ x. Playing state ≡ halted x z next) in
+    let Wanted : Result Answer Halt → Type 0 = λ r. IfOk r (λ a. Tells a (Playing state) (player_said z said)) × IfErr r (λ x. Playing state ≡ halted x z next) in
     subst Wanted (sym came) (tt, at)
 
 -- a setup that a line would have ended, and for which no memory was found

@@ -62,10 +62,14 @@ abbrev pub set_or_begun : SetupState → Result Line BadLine → Option SetupRep
 set_or_begun s said (Some r) = record { text = r.text; bad = r.bad; player = Setting r.setup }
 set_or_begun s said None = played (said_reply (first_state s) said)
 
+-- the reply to what a line says, or why it is bad
+abbrev pub player_said : Player → Result Line BadLine → PlayerReply
+player_said (Setting s) said = set_or_begun s said (setup_said s said)
+player_said (Playing s) said = played (said_reply s said)
+
 -- the reply to a line, by its bytes
 abbrev pub player_reply : Player → List ℕ → PlayerReply
-player_reply (Setting s) bytes = set_or_begun s (line_in (setup_kinds s) bytes) (setup_said s (line_in (setup_kinds s) bytes))
-player_reply (Playing s) bytes = played (said_reply s (line_in s.schema bytes))
+player_reply p bytes = player_said p (line_in (player_kinds p) bytes)
 
 -- a text was added, and it, why the line is bad, and the player are those of a reply
 abbrev pub IsAnswered : (old new : List ℕ) → Player → Option BadLine → PlayerReply → Type 0

@@ -10,12 +10,11 @@ use crate::open_frame::OpenFrame;
 use crate::play_state::PlayState;
 use crate::state_line::answer_call_or_back;
 use scene_commands::Command;
+use scene_hand::Performer;
 use scene_queue::Queue;
 use scene_script::{BadLine, Line};
 use scene_session::Call;
 use std::alloc::{AllocError, Global};
-use std::sync::Wait;
-use std::thread::Threads;
 
 /// A command, which goes into the last queue.
 fn answer_queued(
@@ -66,10 +65,9 @@ fn queues_to_commit(frame: OpenFrame) -> Result<Vec<Queue>, OpenFrame>
 }
 
 /// `commit`. The frame is over, whatever the answer is.
-fn answer_commit<T: Threads + Wait + Sync>(
-    rt: &T,
+fn answer_commit<P: Performer>(
+    performer: &P,
     alloc: Global,
-    workers: usize,
     state: &mut PlayState,
     frame: OpenFrame,
 ) -> Result<Answer, AllocError>
@@ -84,7 +82,7 @@ fn answer_commit<T: Threads + Wait + Sync>(
         }
     };
     state.frame = None;
-    match answer_call_or_back(rt, alloc, workers, state, Call::Submit(queues)) {
+    match answer_call_or_back(performer, alloc, state, Call::Submit(queues)) {
         Ok(answer) => Ok(answer),
         Err(call) => {
             if let Call::Submit(queues) = call {
@@ -97,10 +95,9 @@ fn answer_commit<T: Threads + Wait + Sync>(
 
 /// Answers a line in a frame that was taken out of the state. The frame is there again where the line doesn't end it, and where no
 /// memory is found.
-pub(crate) fn answer_in_frame<T: Threads + Wait + Sync>(
-    rt: &T,
+pub(crate) fn answer_in_frame<P: Performer>(
+    performer: &P,
     alloc: Global,
-    workers: usize,
     state: &mut PlayState,
     frame: OpenFrame,
     line: Line,
@@ -111,7 +108,7 @@ pub(crate) fn answer_in_frame<T: Threads + Wait + Sync>(
     let answer = match line {
         Line::Do(command) => return answer_queued(state, frame, command),
         Line::Queue => return answer_queue(alloc, state, frame),
-        Line::Commit => return answer_commit(rt, alloc, workers, state, frame),
+        Line::Commit => return answer_commit(performer, alloc, state, frame),
         Line::Empty => Answer::Nothing,
         Line::Kind(..) | Line::Slots(_) | Line::Load(_) | Line::Calls(_) | Line::Depth(_) => {
             Answer::Bad(BadLine::SetupEnded)

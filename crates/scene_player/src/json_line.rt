@@ -13,10 +13,9 @@ use crate::json_question::StateJson;
 use crate::play_state::PlayState;
 use crate::player::{Player, Stage, said_in};
 use crate::setup::Setup;
+use scene_hand::Performer;
 use scene_script::{BadLine, Line};
 use std::alloc::{AllocError, Global};
-use std::sync::Wait;
-use std::thread::Threads;
 
 /// What a line asks of the state, where it asks for a text of it.
 fn question_of(said: &Result<Line, BadLine>) -> Option<StateJson>
@@ -32,8 +31,8 @@ fn question_of(said: &Result<Line, BadLine>) -> Option<StateJson>
 }
 
 /// Asks the state behind the setup, which stays as it is.
-fn ask_state<T: Wait>(
-    rt: &T,
+fn ask_state<P: Performer>(
+    performer: &P,
     alloc: Global,
     state: &mut PlayState,
     asked: StateJson,
@@ -41,13 +40,16 @@ fn ask_state<T: Wait>(
     ensures text { IfOk result (λ text. string_bytes text ≡ json_line (asked_json asked (whole_at state.old.hand))) }
     ensures same { state.new ≡ state.old }
 {
-    state.hand.ask(rt, alloc, &asked)
+    match performer.ask(alloc, &mut state.hand, &asked) {
+        Some(text) => text,
+        None => Err(AllocError),
+    }
 }
 
 /// Ends the setup by a line that asks the state that follows. The state is there also where no memory is found for
 /// the answer.
-fn begin_asked<T: Wait>(
-    rt: &T,
+fn begin_asked<P: Performer>(
+    performer: &P,
     alloc: Global,
     setup: &mut Setup,
     asked: StateJson,
@@ -58,7 +60,7 @@ fn begin_asked<T: Wait>(
     ensures halted { IfErr result (λ h. HaltsSetup h (setup_of setup.old) (setup_of setup.new)) }
 {
     let mut state = setup.begin(alloc)?;
-    let answered = ask_state(rt, alloc, &mut state, asked);
+    let answered = ask_state(performer, alloc, &mut state, asked);
     Ok((state, answered))
 }
 
@@ -75,17 +77,17 @@ impl Player {
     }
 
     /// Asks the state, and ends the setup where it hasn't ended.
-    fn ask<T: Wait>(&mut self, rt: &T, asked: StateJson) -> Result<String, Halt>
+    fn ask<P: Performer>(&mut self, performer: &P, asked: StateJson) -> Result<String, Halt>
         ensures text { IfOk result (λ text. string_bytes text ≡ json_line (asked_json asked (whole_at (hand_of (player_of self.old))))) }
         ensures begun { IfOk result (λ _. player_of self.new ≡ begun (player_of self.old)) }
         ensures halted { IfErr result (λ h. (next : State) → player_of self.new ≡ halted h (player_of self.old) next) }
     {
         match &mut self.stage {
-            Stage::Playing(state) => match ask_state(rt, self.alloc, state, asked) {
+            Stage::Playing(state) => match ask_state(performer, self.alloc, state, asked) {
                 Ok(text) => Ok(text),
                 Err(AllocError) => Err(Halt::Before),
             },
-            Stage::Setting(setup) => match begin_asked(rt, self.alloc, setup, asked) {
+            Stage::Setting(setup) => match begin_asked(performer, self.alloc, setup, asked) {
                 Err(halt) => Err(halt),
                 Ok((state, answered)) => {
                     self.stage = Stage::Playing(state);
@@ -99,9 +101,9 @@ impl Player {
     }
 
     /// Adds what the state is asked for.
-    fn show_json<T: Wait>(
+    fn show_json<P: Performer>(
         &mut self,
-        rt: &T,
+        performer: &P,
         asked: StateJson,
         out: &mut String,
     ) -> Result<Option<BadLine>, Halt>
@@ -111,7 +113,7 @@ impl Player {
             ++ json_line (asked_json asked (whole_at (hand_of (player_of self.old))))) }
         ensures halted { IfErr result (λ h. player_of self.new ≡ halted h (player_of self.old) (begun (player_of self.old))) }
     {
-        let text = self.ask(rt, asked)?;
+        let text = self.ask(performer, asked)?;
         match out.push_str(text.as_str()) {
             Ok(()) => Ok(None),
             Err(AllocError) => Err(Halt::After),
@@ -119,9 +121,9 @@ impl Player {
     }
 
     /// Plays a line, and adds its answer.
-    fn play_json<T: Threads + Wait + Sync>(
+    fn play_json<P: Performer>(
         &mut self,
-        rt: &T,
+        performer: &P,
         bytes: &[u8],
         out: &mut String,
     ) -> Result<Option<BadLine>, Halt>
@@ -131,7 +133,7 @@ impl Player {
         ensures halted { IfErr result (λ h. player_of self.new
             ≡ halted h (player_of self.old) (player_reply (player_of self.old) bytes.now).player) }
     {
-        let answer = self.play(rt, bytes)?;
+        let answer = self.play(performer, bytes)?;
         match answer.write_json(self.alloc, self.schema(), out) {
             Ok(()) => Ok(answer.into_bad_line()),
             Err(AllocError) => Err(Halt::After),
@@ -143,9 +145,9 @@ impl Player {
     /// `Answer`. It costs what `line` costs, and outside a frame one more reading of the line.
     ///
     /// Halted only for want of memory, as `line` is. A part of the answer may be added then.
-    pub fn line_json<T: Threads + Wait + Sync>(
+    pub fn line_json<P: Performer>(
         &mut self,
-        rt: &T,
+        performer: &P,
         bytes: &[u8],
         out: &mut String,
     ) -> Result<Option<BadLine>, Halt>
@@ -158,8 +160,8 @@ impl Player {
             return Err(Halt::Before);
         };
         match asked {
-            Some(asked) => self.show_json(rt, asked, out),
-            None => self.play_json(rt, bytes, out),
+            Some(asked) => self.show_json(performer, asked, out),
+            None => self.play_json(performer, bytes, out),
         }
     }
 }

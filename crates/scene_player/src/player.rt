@@ -1,10 +1,11 @@
 //! The player: the lines of a script one at a time.
-ghost use Rattle.std.specs.Prelude.{◌≡◌, ◌≢◌, Ok, Err, IfOk, IfErr, MatchResult, OnErr, string_bytes};
+ghost use Rattle.std.specs.Prelude.{◌≡◌, ◌≢◌, Ok, Err, IfOk, IfErr, IfSome, MatchResult, OnErr, OnOk, string_bytes};
+ghost use Rattle.scene_hand.specs.Hand.{Tells as IsOfHand};
 ghost use Rattle.scene_script.specs.Script.{line_in};
 ghost use Rattle.scene_player.specs.Answer.{Says};
 ghost use Rattle.scene_player.specs.Changes.{changes, frame_is_open};
 ghost use Rattle.scene_player.specs.Play.{first_state, said_reply};
-ghost use Rattle.scene_player.specs.Player.{HaltsSetup, IsAnswered, Tells, first_player, halted, hand_of, limited_player, player_kinds, player_of, player_reply};
+ghost use Rattle.scene_player.specs.Player.{HaltsSetup, IsAnswered, Player as Reached, Tells, begun, first_player, halted, hand_of, limited_player, player_kinds, player_of, player_reply, player_said};
 ghost use Rattle.scene_player.specs.Setup.{setup_of};
 ghost use Rattle.scene_player.specs.declared.halt.Halt.TheVariants.{After, Begun};
 
@@ -15,12 +16,11 @@ use crate::play_state::PlayState;
 use crate::setup::Setup;
 use crate::setup_line::{SetupAnswer, answer_setup};
 use crate::state_line::answer;
-use scene_hand::Hand;
+use scene_hand::{Hand, Performer};
 use scene_kinds::Schema;
 use scene_script::{BadLine, Limit, Line, LineError, read_line};
+use scene_session::State;
 use std::alloc::{AllocError, Global};
-use std::sync::Wait;
-use std::thread::Threads;
 
 /// Where a player is.
 #[derive(Drop)]
@@ -36,7 +36,6 @@ pub(crate) enum Stage {
 #[derive(Drop)]
 pub struct Player {
     pub(crate) alloc: Global,
-    workers: usize,
     pub(crate) stage: Stage,
 }
 
@@ -55,27 +54,11 @@ pub(crate) fn said_in(
     }
 }
 
-/// Answers a line behind the setup.
-fn go_on<T: Threads + Wait + Sync>(
-    rt: &T,
-    alloc: Global,
-    workers: usize,
-    state: &mut PlayState,
-    bytes: &[u8],
-) -> Result<Answer, AllocError>
-    ensures answer { IfOk result (λ answer. Says answer state.new (said_reply state.old (line_in state.old.schema bytes.now))) }
-    ensures same { OnErr result (state.new ≡ state.old) }
-{
-    let said = said_in(alloc, &state.schema, bytes)?;
-    answer(rt, alloc, workers, state, said)
-}
-
 /// Ends the setup by a line, and answers it in the state that follows. The state is there also where no memory is found for the
 /// line itself.
-fn begin<T: Threads + Wait + Sync>(
-    rt: &T,
+fn begin<P: Performer>(
+    performer: &P,
     alloc: Global,
-    workers: usize,
     setup: &mut Setup,
     line: Line,
 ) -> Result<(PlayState, Result<Answer, AllocError>), Halt>
@@ -84,7 +67,7 @@ fn begin<T: Threads + Wait + Sync>(
     ensures halted { IfErr result (λ h. HaltsSetup h (setup_of setup.old) (setup_of setup.new)) }
 {
     let mut state = setup.begin(alloc)?;
-    let answered = answer(rt, alloc, workers, &mut state, Ok(line));
+    let answered = answer(performer, alloc, &mut state, Ok(line));
     Ok((state, answered))
 }
 
@@ -99,23 +82,33 @@ fn after_begin(answered: Result<Answer, AllocError>) -> Result<Answer, Halt>
 }
 
 impl Player {
-    /// The player before its first line. An advance will have so many workers, 1 to 16, on which no answer depends; a number
-    /// below is taken as 1, and one above as 16. It takes no memory.
-    pub fn new(alloc: Global, workers: usize) -> Player
+    /// The player before its first line, whose sessions will have a lock. `OnThreads` performs its lines. It takes no memory.
+    pub fn new(alloc: Global) -> Player
         ensures { player_of result ≡ first_player }
     {
-        Player::with_depth(alloc, workers, Limit::most())
+        Player::with_depth(alloc, Limit::most())
     }
 
     /// The same of which so many frames can be undone, as if the line `depth` had said so. It takes no memory.
-    pub fn with_depth(alloc: Global, workers: usize, depth: Limit) -> Player
+    pub fn with_depth(alloc: Global, depth: Limit) -> Player
         ensures { player_of result ≡ limited_player depth }
     {
         let mut setup = Setup::new(alloc);
         setup.depth = depth;
         Player {
             alloc,
-            workers,
+            stage: Stage::Setting(setup),
+        }
+    }
+
+    /// The player before its first line, whose sessions will have no lock: `ThisThread` performs its lines. It takes no memory.
+    pub fn alone(alloc: Global) -> Player
+        ensures { player_of result ≡ first_player }
+    {
+        let mut setup = Setup::new(alloc);
+        setup.is_alone = true;
+        Player {
+            alloc,
             stage: Stage::Setting(setup),
         }
     }
@@ -155,51 +148,63 @@ impl Player {
         }
     }
 
+    /// Plays what a line says, or why it is bad, as `play` does with the line: for callers that make a `Line` themselves. No text
+    /// is read. `player_said` is its meaning, of which that of `play` is a case.
+    ///
+    /// Halted as `play` is.
+    pub fn play_said<P: Performer>(
+        &mut self,
+        performer: &P,
+        said: Result<Line, BadLine>,
+    ) -> Result<Answer, Halt>
+        ensures answer { IfOk result (λ answer. Tells answer (player_of self.new) (player_said (player_of self.old) said)) }
+        ensures halted { IfErr result (λ h. player_of self.new
+            ≡ halted h (player_of self.old) (player_said (player_of self.old) said).player) }
+        ensures undone { IfErr result (λ h. h ≢ After) }
+    {
+        match &mut self.stage {
+            Stage::Playing(state) => match answer(performer, self.alloc, state, said) {
+                Ok(answer) => Ok(answer),
+                Err(AllocError) => Err(Halt::Before),
+            },
+            Stage::Setting(setup) => match answer_setup(self.alloc, setup, said) {
+                Err(AllocError) => Err(Halt::Before),
+                Ok(SetupAnswer::Given(answer)) => Ok(answer),
+                Ok(SetupAnswer::Ends(line)) => match begin(performer, self.alloc, setup, line) {
+                    Err(halt) => Err(halt),
+                    Ok((state, answered)) => {
+                        self.stage = Stage::Playing(state);
+                        after_begin(answered)
+                    }
+                },
+            },
+        }
+    }
+
     /// Plays a line, which is given without its line break (docs/SCRIPTS.md, "Lines"). A bad line, and one that is refused, is
-    /// answered, and changes nothing. It costs what the line asks for, some thirty loads of a word, and the memory of a call.
+    /// answered, and changes nothing. It costs what the line asks for, over a lock some thirty loads of a word, and the memory of
+    /// a call.
     ///
     /// Halted only for want of memory: `Before` and `Begun`, where the line isn't done; `Lost`, where it would have ended the setup,
     /// whose kinds or scene are lost.
-    pub fn play<T: Threads + Wait + Sync>(&mut self, rt: &T, bytes: &[u8]) -> Result<Answer, Halt>
+    pub fn play<P: Performer>(&mut self, performer: &P, bytes: &[u8]) -> Result<Answer, Halt>
         ensures answer { IfOk result (λ answer. Tells answer (player_of self.new) (player_reply (player_of self.old) bytes.now)) }
         ensures halted { IfErr result (λ h. player_of self.new
             ≡ halted h (player_of self.old) (player_reply (player_of self.old) bytes.now).player) }
         ensures undone { IfErr result (λ h. h ≢ After) }
     {
-        match &mut self.stage {
-            Stage::Playing(state) => {
-                match go_on(rt, self.alloc, self.workers, state, bytes) {
-                    Ok(answer) => Ok(answer),
-                    Err(AllocError) => Err(Halt::Before),
-                }
-            }
-            Stage::Setting(setup) => {
-                let Ok(said) = said_in(self.alloc, setup.schema(), bytes) else {
-                    return Err(Halt::Before);
-                };
-                match answer_setup(self.alloc, setup, said) {
-                    Err(AllocError) => Err(Halt::Before),
-                    Ok(SetupAnswer::Given(answer)) => Ok(answer),
-                    Ok(SetupAnswer::Ends(line)) => {
-                        match begin(rt, self.alloc, self.workers, setup, line) {
-                            Err(halt) => Err(halt),
-                            Ok((state, answered)) => {
-                                self.stage = Stage::Playing(state);
-                                after_begin(answered)
-                            }
-                        }
-                    }
-                }
-            }
-        }
+        let Ok(said) = said_in(self.alloc, self.schema(), bytes) else {
+            return Err(Halt::Before);
+        };
+        self.play_said(performer, said)
     }
 
     /// Plays a line, and adds its answer as a script prints it. It gives why the line is bad, where it is.
     ///
     /// Halted only for want of memory, as `play` is, or `After`, where the line is done. A part of the answer may be added then.
-    pub fn line<T: Threads + Wait + Sync>(
+    pub fn line<P: Performer>(
         &mut self,
-        rt: &T,
+        performer: &P,
         bytes: &[u8],
         out: &mut String,
     ) -> Result<Option<BadLine>, Halt>
@@ -208,10 +213,40 @@ impl Player {
         ensures halted { IfErr result (λ h. player_of self.new
             ≡ halted h (player_of self.old) (player_reply (player_of self.old) bytes.now).player) }
     {
-        let answer = self.play(rt, bytes)?;
+        let answer = self.play(performer, bytes)?;
         match answer.write_text(self.alloc, self.schema(), out) {
             Ok(()) => Ok(answer.into_bad_line()),
             Err(AllocError) => Err(Halt::After),
+        }
+    }
+
+    /// Ends the setup, where it isn't over: what follows is as behind a line that ends it. It costs what that line costs.
+    ///
+    /// Halted only for want of memory: `Before`; `Lost`, where the kinds or the scene of the setup are lost.
+    pub fn end_setup(&mut self) -> Result<(), Halt>
+        ensures begun { OnOk result (player_of self.new ≡ begun (player_of self.old)) }
+        ensures halted { IfErr result (λ h. (next : Reached) → player_of self.new ≡ halted h (player_of self.old) next) }
+    {
+        match &mut self.stage {
+            Stage::Playing(_) => Ok(()),
+            Stage::Setting(setup) => match setup.begin(self.alloc) {
+                Err(halt) => Err(halt),
+                Ok(state) => {
+                    self.stage = Stage::Playing(state);
+                    Ok(())
+                }
+            },
+        }
+    }
+
+    /// The state behind the setup of a player that is alone: its editor can be read without a copy. `None` in the setup, and
+    /// where a lock is over the state. It takes no memory.
+    pub fn state(&self) -> Option<&State>
+        ensures { IfSome result (λ state. IsOfHand (hand_of (player_of self.now)) state.now) }
+    {
+        match &self.stage {
+            Stage::Setting(_) => None,
+            Stage::Playing(state) => state.hand.state(),
         }
     }
 

@@ -49,6 +49,8 @@ pub(crate) struct Setup {
     pub(crate) base: Base,
     pub(crate) calls: Limit,
     pub(crate) depth: Limit,
+    /// Whether the run begins with a state that has no lock.
+    pub(crate) is_alone: bool,
 }
 
 impl Setup {
@@ -60,6 +62,7 @@ impl Setup {
             base: Base::Declared(Schema::new(alloc), Limit::most()),
             calls: Limit::most(),
             depth: Limit::most(),
+            is_alone: false,
         }
     }
 
@@ -83,7 +86,11 @@ impl Setup {
             Base::Declared(Schema::new(alloc), Limit::most()),
         );
         let editor = base.into_editor(alloc, self.depth.get());
-        Hand::new(alloc, editor, self.calls.get())
+        let calls = self.calls.get();
+        if self.is_alone {
+            return Ok(Hand::alone(alloc, editor, calls));
+        }
+        Hand::new(alloc, editor, calls)
     }
 
     /// The state in which the run begins. It leaves a setup without kinds.

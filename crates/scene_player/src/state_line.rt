@@ -14,19 +14,17 @@ use crate::play_state::PlayState;
 use crate::question::{CallCount, EditorText, WorldText};
 use crate::systems_line::{answer_advance, answer_clear, answer_phase, answer_system};
 use scene_commands::Command;
+use scene_hand::Performer;
 use scene_pass::Filter;
 use scene_queue::Queue;
 use scene_script::{BadLine, Line, SessionNumber};
 use scene_session::{AddedSince, Call, ChangedSince, CursorNow};
 use std::alloc::{AllocError, Global};
-use std::sync::Wait;
-use std::thread::Threads;
 
 /// A call of the session whose turn it is; or the call, where no memory was found, and then the state is as it was.
-pub(crate) fn answer_call_or_back<T: Threads + Wait + Sync>(
-    rt: &T,
+pub(crate) fn answer_call_or_back<P: Performer>(
+    performer: &P,
     alloc: Global,
-    workers: usize,
     state: &mut PlayState,
     call: Call,
 ) -> Result<Answer, Call>
@@ -35,20 +33,14 @@ pub(crate) fn answer_call_or_back<T: Threads + Wait + Sync>(
     ensures back { IfErr result (λ back. back ≡ call) }
     ensures same { OnErr result (state.new ≡ state.old) }
 {
-    match state.hand.perform(rt, alloc, call, workers) {
-        Ok(reply) => Ok(Answer::Replied(reply)),
-        Err(stopped) => match refused(stopped.refusal) {
-            Ok(answer) => Ok(answer),
-            Err(AllocError) => Err(stopped.call),
-        },
-    }
+    let reply = performer.perform(alloc, &mut state.hand, call)?;
+    Ok(Answer::Replied(reply))
 }
 
 /// A call of the session whose turn it is.
-pub(crate) fn answer_call<T: Threads + Wait + Sync>(
-    rt: &T,
+pub(crate) fn answer_call<P: Performer>(
+    performer: &P,
     alloc: Global,
-    workers: usize,
     state: &mut PlayState,
     call: Call,
 ) -> Result<Answer, AllocError>
@@ -56,7 +48,7 @@ pub(crate) fn answer_call<T: Threads + Wait + Sync>(
     ensures answer { IfOk result (λ answer. Says answer state.new (call_reply state.old (asked call))) }
     ensures same { OnErr result (state.new ≡ state.old) }
 {
-    match answer_call_or_back(rt, alloc, workers, state, call) {
+    match answer_call_or_back(performer, alloc, state, call) {
         Ok(answer) => Ok(answer),
         Err(_) => Err(AllocError),
     }
@@ -76,10 +68,9 @@ fn lone_queue(alloc: Global, command: Command) -> Result<Vec<Queue>, AllocError>
 }
 
 /// A command where no frame is open.
-fn answer_command<T: Threads + Wait + Sync>(
-    rt: &T,
+fn answer_command<P: Performer>(
+    performer: &P,
     alloc: Global,
-    workers: usize,
     state: &mut PlayState,
     command: Command,
 ) -> Result<Answer, AllocError>
@@ -87,7 +78,7 @@ fn answer_command<T: Threads + Wait + Sync>(
     ensures same { OnErr result (state.new ≡ state.old) }
 {
     let queues = lone_queue(alloc, command)?;
-    answer_call(rt, alloc, workers, state, Call::Submit(queues))
+    answer_call(performer, alloc, state, Call::Submit(queues))
 }
 
 /// `begin`.
@@ -107,8 +98,8 @@ fn answer_as(state: &mut PlayState, session: SessionNumber) -> Answer
 }
 
 /// A text of the world.
-fn answer_world<T: Wait>(
-    rt: &T,
+fn answer_world<P: Performer>(
+    performer: &P,
     alloc: Global,
     state: &mut PlayState,
     asked: WorldText,
@@ -116,43 +107,63 @@ fn answer_world<T: Wait>(
     ensures answer { IfOk result (λ answer. Says answer state.new (query_reply state.old (asked_text asked (now state.old)))) }
     ensures same { OnErr result (state.new ≡ state.old) }
 {
-    let text = state.hand.ask(rt, alloc, &asked)?;
-    Ok(Answer::Text(text))
+    match performer.ask(alloc, &mut state.hand, &asked) {
+        Some(text) => Ok(Answer::Text(text?)),
+        None => Err(AllocError),
+    }
 }
 
 /// `dumpall`.
-fn answer_dumpall<T: Wait>(
-    rt: &T,
+fn answer_dumpall<P: Performer>(
+    performer: &P,
     alloc: Global,
     state: &mut PlayState,
 ) -> Result<Answer, AllocError>
     ensures answer { IfOk result (λ answer. Says answer state.new (lone_reply state.old DumpAll)) }
     ensures same { OnErr result (state.new ≡ state.old) }
 {
-    let text = state.hand.ask(rt, alloc, &EditorText)?;
-    Ok(Answer::Text(text))
+    match performer.ask(alloc, &mut state.hand, &EditorText) {
+        Some(text) => Ok(Answer::Text(text?)),
+        None => Err(AllocError),
+    }
 }
 
 /// `history`.
-fn answer_history<T: Wait>(rt: &T, alloc: Global, state: &mut PlayState) -> Answer
-    ensures { Says result state.new (lone_reply state.old History) }
+fn answer_history<P: Performer>(
+    performer: &P,
+    alloc: Global,
+    state: &mut PlayState,
+) -> Result<Answer, AllocError>
+    ensures answer { IfOk result (λ answer. Says answer state.new (lone_reply state.old History)) }
+    ensures same { OnErr result (state.new ≡ state.old) }
 {
-    let count = state.hand.ask(rt, alloc, &CallCount);
-    Answer::Counted(count)
+    match performer.ask(alloc, &mut state.hand, &CallCount) {
+        Some(count) => Ok(Answer::Counted(count)),
+        None => Err(AllocError),
+    }
 }
 
 /// `mark`.
-fn answer_mark<T: Wait>(rt: &T, alloc: Global, state: &mut PlayState) -> Answer
-    ensures { Says result state.new (lone_reply state.old Mark) }
+fn answer_mark<P: Performer>(
+    performer: &P,
+    alloc: Global,
+    state: &mut PlayState,
+) -> Result<Answer, AllocError>
+    ensures answer { IfOk result (λ answer. Says answer state.new (lone_reply state.old Mark)) }
+    ensures same { OnErr result (state.new ≡ state.old) }
 {
-    let cursor = state.hand.ask(rt, alloc, &CursorNow);
-    state.cursor = cursor;
-    Answer::Marked(cursor)
+    match performer.ask(alloc, &mut state.hand, &CursorNow) {
+        Some(cursor) => {
+            state.cursor = cursor;
+            Ok(Answer::Marked(cursor))
+        }
+        None => Err(AllocError),
+    }
 }
 
 /// `changed`.
-fn answer_changed<T: Wait>(
-    rt: &T,
+fn answer_changed<P: Performer>(
+    performer: &P,
     alloc: Global,
     state: &mut PlayState,
 ) -> Result<Answer, AllocError>
@@ -160,29 +171,34 @@ fn answer_changed<T: Wait>(
     ensures same { OnErr result (state.new ≡ state.old) }
 {
     let query = ChangedSince(state.cursor, Filter::all());
-    match state.hand.ask(rt, alloc, &query) {
-        Ok(cells) => Ok(Answer::Changed(cells)),
-        Err(refusal) => refused(refusal),
+    match performer.ask(alloc, &mut state.hand, &query) {
+        Some(Ok(cells)) => Ok(Answer::Changed(cells)),
+        Some(Err(refusal)) => refused(refusal),
+        None => Err(AllocError),
     }
 }
 
 /// `added`.
-fn answer_added<T: Wait>(rt: &T, alloc: Global, state: &mut PlayState) -> Result<Answer, AllocError>
+fn answer_added<P: Performer>(
+    performer: &P,
+    alloc: Global,
+    state: &mut PlayState,
+) -> Result<Answer, AllocError>
     ensures answer { IfOk result (λ answer. Says answer state.new (lone_reply state.old Added)) }
     ensures same { OnErr result (state.new ≡ state.old) }
 {
     let query = AddedSince(state.cursor, Filter::all());
-    match state.hand.ask(rt, alloc, &query) {
-        Ok(cells) => Ok(Answer::Added(cells)),
-        Err(refusal) => refused(refusal),
+    match performer.ask(alloc, &mut state.hand, &query) {
+        Some(Ok(cells)) => Ok(Answer::Added(cells)),
+        Some(Err(refusal)) => refused(refusal),
+        None => Err(AllocError),
     }
 }
 
 /// Answers a line behind the setup where no frame is open.
-fn answer_alone<T: Threads + Wait + Sync>(
-    rt: &T,
+fn answer_alone<P: Performer>(
+    performer: &P,
     alloc: Global,
-    workers: usize,
     state: &mut PlayState,
     line: Line,
 ) -> Result<Answer, AllocError>
@@ -195,31 +211,30 @@ fn answer_alone<T: Threads + Wait + Sync>(
             Ok(Answer::Bad(BadLine::SetupEnded))
         }
         Line::Queue | Line::Commit => Ok(Answer::Bad(BadLine::NoFrame)),
-        Line::Do(command) => answer_command(rt, alloc, workers, state, command),
+        Line::Do(command) => answer_command(performer, alloc, state, command),
         Line::Begin => Ok(answer_begin(alloc, state)),
-        Line::Undo => answer_call(rt, alloc, workers, state, Call::Undo),
-        Line::Redo => answer_call(rt, alloc, workers, state, Call::Redo),
-        Line::Show => answer_world(rt, alloc, state, WorldText::Show),
-        Line::Get(entity) => answer_world(rt, alloc, state, WorldText::Get(entity)),
-        Line::Mark => Ok(answer_mark(rt, alloc, state)),
-        Line::Changed => answer_changed(rt, alloc, state),
-        Line::Added => answer_added(rt, alloc, state),
+        Line::Undo => answer_call(performer, alloc, state, Call::Undo),
+        Line::Redo => answer_call(performer, alloc, state, Call::Redo),
+        Line::Show => answer_world(performer, alloc, state, WorldText::Show),
+        Line::Get(entity) => answer_world(performer, alloc, state, WorldText::Get(entity)),
+        Line::Mark => answer_mark(performer, alloc, state),
+        Line::Changed => answer_changed(performer, alloc, state),
+        Line::Added => answer_added(performer, alloc, state),
         Line::Phase => answer_phase(state),
         Line::System(rule) => answer_system(state, rule),
         Line::Clear => Ok(answer_clear(state)),
-        Line::Advance => answer_advance(rt, alloc, workers, state),
+        Line::Advance => answer_advance(performer, alloc, state),
         Line::As(session) => Ok(answer_as(state, session)),
-        Line::History => Ok(answer_history(rt, alloc, state)),
-        Line::Dump => answer_world(rt, alloc, state, WorldText::Dump),
-        Line::DumpAll => answer_dumpall(rt, alloc, state),
+        Line::History => answer_history(performer, alloc, state),
+        Line::Dump => answer_world(performer, alloc, state, WorldText::Dump),
+        Line::DumpAll => answer_dumpall(performer, alloc, state),
     }
 }
 
 /// Answers a line behind the setup.
-fn answer_line<T: Threads + Wait + Sync>(
-    rt: &T,
+fn answer_line<P: Performer>(
+    performer: &P,
     alloc: Global,
-    workers: usize,
     state: &mut PlayState,
     line: Line,
 ) -> Result<Answer, AllocError>
@@ -227,16 +242,15 @@ fn answer_line<T: Threads + Wait + Sync>(
     ensures same { OnErr result (state.new ≡ state.old) }
 {
     match state.frame.take() {
-        None => answer_alone(rt, alloc, workers, state, line),
-        Some(frame) => answer_in_frame(rt, alloc, workers, state, frame, line),
+        None => answer_alone(performer, alloc, state, line),
+        Some(frame) => answer_in_frame(performer, alloc, state, frame, line),
     }
 }
 
 /// Answers what a line behind the setup says. Where no memory is found, the state is as it was.
-pub(crate) fn answer<T: Threads + Wait + Sync>(
-    rt: &T,
+pub(crate) fn answer<P: Performer>(
+    performer: &P,
     alloc: Global,
-    workers: usize,
     state: &mut PlayState,
     said: Result<Line, BadLine>,
 ) -> Result<Answer, AllocError>
@@ -244,7 +258,7 @@ pub(crate) fn answer<T: Threads + Wait + Sync>(
     ensures same { OnErr result (state.new ≡ state.old) }
 {
     match said {
-        Ok(line) => answer_line(rt, alloc, workers, state, line),
+        Ok(line) => answer_line(performer, alloc, state, line),
         Err(reason) => Ok(Answer::Bad(reason)),
     }
 }

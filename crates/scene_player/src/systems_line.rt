@@ -7,11 +7,10 @@ ghost use Rattle.scene_player.specs.Play.{advance_reply, lone_reply};
 use crate::answer::{Answer, refused};
 use crate::play_state::PlayState;
 use crate::state_line::answer_call;
+use scene_hand::Performer;
 use scene_rules::SystemRule;
 use scene_session::Call;
 use std::alloc::{AllocError, Global};
-use std::sync::Wait;
-use std::thread::Threads;
 
 /// `phase`.
 pub(crate) fn answer_phase(state: &mut PlayState) -> Result<Answer, AllocError>
@@ -40,17 +39,16 @@ pub(crate) fn answer_clear(state: &mut PlayState) -> Answer
 }
 
 /// `advance`.
-pub(crate) fn answer_advance<T: Threads + Wait + Sync>(
-    rt: &T,
+pub(crate) fn answer_advance<P: Performer>(
+    performer: &P,
     alloc: Global,
-    workers: usize,
     state: &mut PlayState,
 ) -> Result<Answer, AllocError>
     ensures answer { IfOk result (λ answer. Says answer state.new (advance_reply state.old)) }
     ensures same { OnErr result (state.new ≡ state.old) }
 {
     match state.phases.schedule(&state.schema) {
-        Ok(schedule) => answer_call(rt, alloc, workers, state, Call::Advance(schedule)),
+        Ok(schedule) => answer_call(performer, alloc, state, Call::Advance(schedule)),
         Err(refusal) => refused(refusal),
     }
 }

@@ -11,16 +11,15 @@ use crate::streams::read_line;
 use crate::style::AnswerStyle;
 use crate::waiting::Waiting;
 use scene_app::AppFault;
+use scene_hand::Performer;
 use scene_player::Player;
 use std::alloc::Global;
 use std::io::{BufReader, Read, Write};
-use std::sync::Wait;
-use std::thread::Threads;
 
 /// Plays each line of a reader. Where no further line waits in the buffer, what is due is kept and the answers are
 /// sent.
-fn play_lines<T: Threads + Wait + Sync, R: Read, W: Write, E: Write, K: Keep>(
-    rt: &T,
+fn play_lines<P: Performer, R: Read, W: Write, E: Write, K: Keep>(
+    performer: &P,
     alloc: Global,
     player: &mut Player,
     style: AnswerStyle,
@@ -47,7 +46,7 @@ fn play_lines<T: Threads + Wait + Sync, R: Read, W: Write, E: Write, K: Keep>(
         if read.is_empty() {
             return Ok(bad_lines);
         }
-        match waiting.play(rt, player, style, number, read, errors) {
+        match waiting.play(performer, player, style, number, read, errors) {
             Ok(bad) => bad_lines += bad,
             Err(fault) => return Err(KeptFault::Ended(fault)),
         }
@@ -105,8 +104,8 @@ fn settle_last<W: Write, K: Keep>(
 ///
 /// Refused: `Ended` as `run_shell` is refused, where the first lines are answered and kept; and `Keep` where lines
 /// weren't kept, whose answers aren't written.
-pub fn run_kept_shell<T: Threads + Wait + Sync, R: Read, W: Write, E: Write, K: Keep>(
-    rt: &T,
+pub fn run_kept_shell<P: Performer, R: Read, W: Write, E: Write, K: Keep>(
+    performer: &P,
     alloc: Global,
     player: &mut Player,
     style: AnswerStyle,
@@ -120,7 +119,7 @@ pub fn run_kept_shell<T: Threads + Wait + Sync, R: Read, W: Write, E: Write, K: 
 {
     let mut waiting = Waiting::new(alloc);
     let played = play_lines(
-        rt,
+        performer,
         alloc,
         player,
         style,

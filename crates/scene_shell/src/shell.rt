@@ -11,18 +11,15 @@ use crate::kept_fault::KeptFault;
 use crate::kept_shell::run_kept_shell;
 use crate::style::AnswerStyle;
 use scene_app::AppFault;
+use scene_hand::Performer;
 use scene_player::Player;
 use scene_script::Limit;
 use std::alloc::Global;
 use std::io::{BufReader, Read, Write};
-use std::sync::Wait;
-use std::thread::Threads;
 
 /// How a shell is to be (docs/SHELL.md).
 #[derive(Drop)]
 pub struct ShellSettings {
-    /// How many threads work on an advance, 1 to 16.
-    pub workers: usize,
     /// Of how many frames a record is kept, as the line `depth` says it.
     pub depth: Limit,
     /// How its answers are written.
@@ -47,8 +44,8 @@ impl Keep for Nowhere {
 
 /// Answers each line of a reader by a player, as `run_shell` does, and keeps nothing.
 #[tactic(auto, using(crate::proofs::KeptLaws::ends))]
-fn run_unkept<T: Threads + Wait + Sync, R: Read, W: Write, E: Write>(
-    rt: &T,
+fn run_unkept<P: Performer, R: Read, W: Write, E: Write>(
+    performer: &P,
     alloc: Global,
     player: &mut Player,
     style: AnswerStyle,
@@ -65,7 +62,7 @@ fn run_unkept<T: Threads + Wait + Sync, R: Read, W: Write, E: Write>(
         HasAnswered style (player_of player.old) script (W.contents writer.old) (W.contents writer.new))) }
 {
     match run_kept_shell(
-        rt,
+        performer,
         alloc,
         player,
         style,
@@ -86,8 +83,8 @@ fn run_unkept<T: Threads + Wait + Sync, R: Read, W: Write, E: Write>(
 /// Refused: `ReadFault`, `WriteFault`, and `NoMemory`; then the stream of errors tells what became of the line. But for
 /// `WriteFault`, just the lines before are answered, each whole. A line costs what `scene run` costs for it, and where
 /// none waits behind it a call of the writer; the memory is the player's, a line's and 64 KiB of answers.
-pub fn run_shell<T: Threads + Wait + Sync, R: Read, W: Write, E: Write>(
-    rt: &T,
+pub fn run_shell<P: Performer, R: Read, W: Write, E: Write>(
+    performer: &P,
     alloc: Global,
     settings: ShellSettings,
     reader: &mut BufReader<R>,
@@ -103,11 +100,7 @@ pub fn run_shell<T: Threads + Wait + Sync, R: Read, W: Write, E: Write>(
         → IfSome (reader_remaining R.remaining reader.old) (λ script.
         HasAnswered settings.style (limited_player settings.depth) script (W.contents writer.old) (W.contents writer.new))) }
 {
-    let ShellSettings {
-        workers,
-        depth,
-        style,
-    } = settings;
-    let mut player = Player::with_depth(alloc, workers, depth);
-    run_unkept(rt, alloc, &mut player, style, reader, writer, errors)
+    let ShellSettings { depth, style } = settings;
+    let mut player = Player::with_depth(alloc, depth);
+    run_unkept(performer, alloc, &mut player, style, reader, writer, errors)
 }

@@ -11,12 +11,11 @@ use crate::kept_fault::KeptFault;
 use crate::streams::{send, tell_bad, tell_halt};
 use crate::style::AnswerStyle;
 use scene_app::AppFault;
+use scene_hand::Performer;
 use scene_player::{Halt, Player};
 use scene_script::{BadLine, first_line};
 use std::alloc::{AllocError, Global};
 use std::io::Write;
-use std::sync::Wait;
-use std::thread::Threads;
 
 /// How many bytes wait at most before they are kept and sent, but for those of one line.
 const MOST_WAITING: usize = 65_536;
@@ -57,8 +56,8 @@ fn push_ended(lines: &mut Vec<u8>, line: &[u8]) -> Result<(), AllocError>
 
 /// Plays a line, and puts its answer in the place of the one before. It gives why the line is bad, where it is.
 #[tactic(auto, using(crate::proofs::SaidLaws::is_json_answer))]
-fn answer_alone<T: Threads + Wait + Sync>(
-    rt: &T,
+fn answer_alone<P: Performer>(
+    performer: &P,
     player: &mut Player,
     is_json: bool,
     line: &[u8],
@@ -70,15 +69,15 @@ fn answer_alone<T: Threads + Wait + Sync>(
 {
     answer.clear();
     if is_json {
-        player.line_json(rt, line, answer)
+        player.line_json(performer, line, answer)
     } else {
-        player.line(rt, line, answer)
+        player.line(performer, line, answer)
     }
 }
 
 /// The same, as the answer is sent.
-fn answer_line<T: Threads + Wait + Sync>(
-    rt: &T,
+fn answer_line<P: Performer>(
+    performer: &P,
     player: &mut Player,
     style: AnswerStyle,
     line: &[u8],
@@ -88,7 +87,7 @@ fn answer_line<T: Threads + Wait + Sync>(
     ensures player { OnOk result (player_of player.new ≡ (player_reply (player_of player.old) line.now).player) }
     ensures bad { IfOk result (λ bad. bad ≡ (player_reply (player_of player.old) line.now).bad) }
 {
-    let bad = answer_alone(rt, player, style.is_json, line, answer)?;
+    let bad = answer_alone(performer, player, style.is_json, line, answer)?;
     if style.is_framed && answer.push('\n').is_err() {
         return Err(Halt::After);
     }
@@ -148,9 +147,9 @@ impl Waiting {
 
     /// Plays a line, which is given without its line break, and notes it and its answer.
     #[tactic(auto, using(crate::proofs::KeptLaws::noted_line))]
-    fn play_line<T: Threads + Wait + Sync>(
+    fn play_line<P: Performer>(
         &mut self,
-        rt: &T,
+        performer: &P,
         player: &mut Player,
         style: AnswerStyle,
         line: &[u8],
@@ -166,7 +165,7 @@ impl Waiting {
         let Ok(is_changed) = player.changes(line) else {
             return Err(Halt::Before);
         };
-        let bad = answer_line(rt, player, style, line, &mut self.answer)?;
+        let bad = answer_line(performer, player, style, line, &mut self.answer)?;
         let before = self.answers.len();
         if self
             .answers
@@ -186,9 +185,9 @@ impl Waiting {
 
     /// Plays a line, and notes it and its answer. It tells why the line is bad, and gives 1 for a bad line, 0 for any
     /// other.
-    pub(crate) fn play<T: Threads + Wait + Sync, E: Write>(
+    pub(crate) fn play<P: Performer, E: Write>(
         &mut self,
-        rt: &T,
+        performer: &P,
         player: &mut Player,
         style: AnswerStyle,
         number: u64,
@@ -205,7 +204,7 @@ impl Waiting {
         ensures unsaid { OnErr result (self.new.answers.items ≡ self.old.answers.items) }
     {
         let (bytes, _) = first_line(line);
-        match self.play_line(rt, player, style, bytes) {
+        match self.play_line(performer, player, style, bytes) {
             Ok(None) => Ok(0),
             Ok(Some(reason)) => {
                 tell_bad(errors, number, &reason);

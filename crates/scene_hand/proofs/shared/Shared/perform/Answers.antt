@@ -12,7 +12,7 @@ use Rattle.scene_hand.specs.Hand.{HandState, hand_of, performed}
 use Rattle.scene_hand.specs.Passes.{AreEight, first_seen}
 use Rattle.scene_hand.proofs.Machines.{only_done, only_full, only_stopped}
 use Rattle.scene_hand.proofs.Places.{are_all, after_long, first_of, put_back, taken, taken_session}
-use Rattle.scene_hand.proofs.hand.Hand.perform.Goals as goal
+use Rattle.scene_hand.proofs.shared.Shared.perform.Goals as goal
 
 abbrev P : Type 0
 P = PassView Entry Beginning

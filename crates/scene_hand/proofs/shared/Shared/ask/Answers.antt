@@ -6,7 +6,7 @@ use Rattle.scene_session.specs.declared.state.Beginning.{Beginning}
 use Rattle.scene_hand.specs.Hand.{hand_of}
 use Rattle.scene_hand.specs.Passes.{AreEight, first_seen}
 use Rattle.scene_hand.proofs.Places.{are_all, after_long, first_of, put_back, taken}
-use Rattle.scene_hand.proofs.hand.Hand.ask.Goals as goal
+use Rattle.scene_hand.proofs.shared.Shared.ask.Goals as goal
 
 abbrev P : Type 0
 P = PassView Entry Beginning

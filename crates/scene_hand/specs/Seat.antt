@@ -1,0 +1,8 @@
+-- A hand is what is in its seat.
+use Rattle.scene_hand.specs.Hand.{HandState}
+use Rattle.scene_hand.specs.declared.hand.Seat.{Seat}
+use Rattle.scene_hand.specs.declared.hand.Seat.TheVariants.{Shared, Alone}
+
+abbrev pub seated : Seat → HandState
+seated (Shared h) = h
+seated (Alone h) = h

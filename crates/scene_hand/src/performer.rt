@@ -1,0 +1,113 @@
+//! Who performs the calls of a hand, and asks its queries.
+ghost use Rattle.std.specs.Prelude.{◌≡◌, ◌≢◌, ◌≤◌, IfOk, IfErr, IfSome};
+ghost use Rattle.std.specs.Thread.{IsSync};
+ghost use Rattle.scene_kinds.specs.Answers.{refusal_of};
+ghost use Rattle.scene_kinds.specs.declared.fault.Fault.TheVariants.{NoMemory};
+ghost use Rattle.scene_session.specs.Calls.{Refused, asked, queue_count, told};
+ghost use Rattle.scene_session.specs.State.{StateView};
+ghost use Rattle.scene_hand.specs.Hand.{HandState, Tells, performed};
+ghost use Rattle.scene_hand.specs.Performed.{Came};
+
+use crate::hand::{Hand, Seat};
+use scene_kinds::Fault;
+use scene_session::{Call, Query, Reply, Stopped};
+use std::alloc::Global;
+use std::sync::Wait;
+use std::thread::Threads;
+
+/// Who performs calls: one that has threads to start, or the thread that asks for it alone. What a call comes to doesn't
+/// depend on it (docs/SESSIONS.md, "All in one hand").
+pub trait Performer {
+    /// By what it starts threads, if it does.
+    type Runtime: Sync;
+
+    /// Performs a call of the session whose turn it is. What the editor refuses is entered with the reply `Refused`, and leaves
+    /// the editor as it was; where there are as many calls as may be, the reply is `Refused` with `HistoryFull` and the limit, and
+    /// nothing is entered. It costs what the call costs, and over a lock some thirty loads of a word.
+    ///
+    /// Where no memory is found, nothing is entered and the call is handed back.
+    fn perform(&self, alloc: Global, hand: &mut Hand, call: Call) -> Result<Reply, Call>
+        requires few { queue_count call ≤ 4294967295 }
+        requires sync { IsSync Self.Runtime.row }
+        ensures done { IfOk result (λ reply. performed hand.old (asked call) ≡ (hand.new, told reply)) }
+        ensures back { IfErr result (λ back. (back ≡ call) × (hand.new ≡ hand.old)) };
+
+    /// Asks a query of the session whose turn it is: the answer is of the state with just these calls. It costs what the query
+    /// costs, and over a lock some thirty loads of a word; it takes no memory but what the query takes.
+    ///
+    /// `None` only from who can't reach the state.
+    fn ask<Q: Query>(&self, alloc: Global, hand: &mut Hand, query: &Q) -> Option<Q::Answer>
+        ensures same { hand.new ≡ hand.old }
+        ensures answer { IfSome result (λ a. (state : StateView) × Tells hand.old state × Q.answers query.now state a) };
+}
+
+/// Performs calls on this thread, and the systems of an advance on as many threads as there are workers, 1 to 16. A number below
+/// is taken as 1, and one above as 16.
+// It has the handle by value, which may be a reference: with a lifetime of its own no call could be proved that is given one.
+#[derive(Drop)]
+pub struct OnThreads<R> {
+    rt: R,
+    workers: usize,
+}
+
+impl<R: Threads + Sync> OnThreads<R> {
+    /// Who starts threads by this handle, or a reference to one, for so many workers.
+    pub fn new(rt: R, workers: usize) -> Self {
+        OnThreads { rt, workers }
+    }
+}
+
+/// Performs the calls of a hand without a lock on this thread, and starts none. A hand over a lock it can't reach, and answers
+/// as if no memory were found.
+#[derive(Clone, Copy)]
+pub struct ThisThread;
+
+/// The reply to a call, or the call where no memory was found.
+fn entered(done: Result<Reply, Stopped>) -> Result<Reply, Call>
+    ensures { Came done result }
+{
+    match done {
+        Ok(reply) => Ok(reply),
+        Err(stopped) => match stopped.refusal.fault {
+            Fault::NoMemory => Err(stopped.call),
+            _ => Ok(Reply::Refused(stopped.refusal)),
+        },
+    }
+}
+
+impl<R: Threads + Wait + Sync> Performer for OnThreads<R> {
+    type Runtime = R;
+
+    fn perform(&self, alloc: Global, hand: &mut Hand, call: Call) -> Result<Reply, Call> {
+        let done = match &mut hand.seat {
+            Seat::Shared(shared) => shared.perform(&self.rt, alloc, call, self.workers),
+            Seat::Alone(alone) => alone.perform_with(&self.rt, call, self.workers),
+        };
+        entered(done)
+    }
+
+    fn ask<Q: Query>(&self, alloc: Global, hand: &mut Hand, query: &Q) -> Option<Q::Answer> {
+        match &mut hand.seat {
+            Seat::Shared(shared) => Some(shared.ask(&self.rt, alloc, query)),
+            Seat::Alone(alone) => Some(alone.ask(alloc, query)),
+        }
+    }
+}
+
+impl Performer for ThisThread {
+    type Runtime = ();
+
+    fn perform(&self, _alloc: Global, hand: &mut Hand, call: Call) -> Result<Reply, Call> {
+        match &mut hand.seat {
+            Seat::Shared(_) => Err(call),
+            Seat::Alone(alone) => entered(alone.perform(call)),
+        }
+    }
+
+    fn ask<Q: Query>(&self, alloc: Global, hand: &mut Hand, query: &Q) -> Option<Q::Answer> {
+        match &hand.seat {
+            Seat::Shared(_) => None,
+            Seat::Alone(alone) => Some(alone.ask(alloc, query)),
+        }
+    }
+}

@@ -1,0 +1,117 @@
+//! A hand over a lock: the passes of all its sessions.
+ghost use Rattle.std.specs.Prelude.{◌≡◌, ◌≢◌, ◌≤◌, ◌<◌, length, IfOk, IfErr};
+ghost use Rattle.scene_kinds.specs.Answers.{refusal_of};
+ghost use Rattle.scene_kinds.specs.declared.fault.Fault.TheVariants.{NoMemory};
+ghost use Rattle.scene_session.specs.Calls.{Refused, asked, queue_count, told};
+ghost use Rattle.scene_session.specs.State.{StateView, stopping_at};
+ghost use Rattle.scene_session.specs.Whole.{whole_of};
+ghost use Rattle.scene_hand.specs.Hand.{Tells, opening_hand, performed, with_session};
+ghost use Rattle.scene_hand.specs.Passes.{AreOf};
+
+use scene_lock::{Pass, WordLock};
+use scene_session::{Call, Query, Reply, State, Stopped, ask_in_hand, perform_in_hand};
+use scene_undo::Editor;
+use std::alloc::{AllocError, Global};
+use std::marker::Model;
+use std::mem;
+use std::sync::Wait;
+use std::thread::Threads;
+
+/// How many sessions a hand has.
+const SESSIONS: u32 = 8;
+
+/// The passes of eight sessions with the lock over their state, and whose turn it is.
+#[derive(Drop)]
+pub(crate) struct Shared {
+    lock: WordLock<State>,
+    /// Each at the place that is its session.
+    passes: Vec<Pass<State>>,
+    session: u32,
+}
+
+impl Model for Shared {
+    ghost use Rattle.std.specs.Prelude.{◌<◌};
+    ghost use Rattle.scene_hand.specs.Codes.{hand_code};
+    ghost use Rattle.scene_hand.specs.Hand.{HandState, hand_of};
+    ghost use Rattle.scene_hand.specs.Passes.{AreEight, first_seen};
+
+    ghost Value = { HandState };
+
+    ghost coded = { hand_code };
+
+    ghost view = { λ h. hand_of (record { opening = h.lock.terms.opening; history = first_seen h.passes.items }) h.session };
+
+    ghost invariant = { λ h. AreEight h.lock (first_seen h.passes.items) h.passes.items × (h.session < 8) };
+}
+
+impl Shared {
+    /// The lock over a state of this editor, with no calls yet; it is the turn of session 0. The editor is dropped where no
+    /// memory is found.
+    pub(crate) fn new(alloc: Global, editor: Editor, limit: u32) -> Result<Shared, AllocError>
+        requires { (1 ≤ limit) × (limit ≤ 1048576) }
+        ensures { IfOk result (λ hand. hand ≡ opening_hand (whole_of editor) limit) }
+    {
+        let state = State::new(alloc, editor, limit);
+        let (lock, passes) = WordLock::new(alloc, state, SESSIONS)?;
+        Ok(Shared {
+            lock,
+            passes,
+            session: 0,
+        })
+    }
+
+    /// Gives the turn to a session.
+    pub(crate) fn turn_to(&mut self, session: u32)
+        requires { session < 8 }
+        ensures { self.new ≡ with_session self.old session }
+    {
+        self.session = session;
+    }
+
+    /// Performs a call of the session whose turn it is, through its pass.
+    pub(crate) fn perform<R: Threads + Wait + Sync>(
+        &mut self,
+        rt: &R,
+        alloc: Global,
+        call: Call,
+        workers: usize,
+    ) -> Result<Reply, Stopped>
+        requires { queue_count call ≤ 4294967295 }
+        ensures done { IfOk result (λ reply. performed self.old (asked call) ≡ (self.new, told reply)) }
+        ensures full { IfErr result (λ x. x.refusal ≢ refusal_of NoMemory → performed self.old (asked call) ≡ (self.new, Refused x.refusal)) }
+        ensures stopped { IfErr result (λ x. (self.new ≡ self.old) × (x.call ≡ call)
+            × (x.refusal ≡ stopping_at self.old.limit (length self.old.history))) }
+    {
+        let place = self.session as usize;
+        let mut others = mem::replace(&mut self.passes, Vec::new(alloc));
+        let pass = others.swap_remove(place);
+        let (mut passes, reply) = perform_in_hand(
+            rt, alloc, &self.lock, pass, others, call, workers,
+        );
+        passes.swap(place, 7);
+        self.passes = passes;
+        reply
+    }
+
+    /// Asks a query of the session whose turn it is, through its pass.
+    pub(crate) fn ask<Q: Query, R: Wait>(&mut self, rt: &R, alloc: Global, query: &Q) -> Q::Answer
+        ensures same { self.new ≡ self.old }
+        ensures answer { (state : StateView) × Tells self.old state × Q.answers query.now state result }
+    {
+        let place = self.session as usize;
+        let mut others = mem::replace(&mut self.passes, Vec::new(alloc));
+        let pass = others.swap_remove(place);
+        let (mut passes, answer) = ask_in_hand(rt, alloc, &self.lock, pass, others, query);
+        passes.swap(place, 7);
+        self.passes = passes;
+        answer
+    }
+
+    /// The lock, and the passes of its eight sessions, 0 first.
+    pub(crate) fn into_parts(self) -> (WordLock<State>, Vec<Pass<State>>)
+        ensures { AreOf result.0 result.1.items self }
+    {
+        let Shared { lock, passes, .. } = self;
+        (lock, passes)
+    }
+}
