@@ -1,0 +1,471 @@
+"""Scenes over the C library of Scene, by ctypes: `LibraryScene` has the calls of `scene.Calls`.
+
+    with LibraryScene(kinds={"Name": "Text"}, library="lib/libscene.so") as level:
+        cat = level.spawn(Name="a cat")
+
+`./scene library FOLDER` makes the library. Without a path, it is libscene.so in the folder that the variable
+SCENE_LIB_DIR names.
+"""
+from __future__ import annotations
+
+import ctypes
+import json
+import os
+import re
+import threading
+from ctypes import POINTER, byref, c_char_p, c_int64, c_size_t, c_uint32, c_void_p
+from pathlib import Path
+from typing import Any, Callable, Dict, List, Mapping, NamedTuple, Optional, Tuple, Union, overload
+
+from scene import BadLine, Calls, Entity, Given, Refused, Value, written
+
+DONE, NO_MEMORY, CLOSED, REFUSED, BAD, UNTOLD, LOST = range(7)
+SHAPES = ("Tag", "Int", "Vec3", "Text", "Link")
+TAG, INT, VEC3, TEXT, LINK = range(5)
+
+# The faults that a call without a text can be refused with (docs/MODEL.md, "Faults").
+FAULTS = {
+    1: "NoSuchEntity",
+    2: "HasChildren",
+    3: "NotPresent",
+    4: "WrongShape",
+    5: "NoSuchKind",
+    6: "DuplicateKind",
+    7: "SelfParent",
+    8: "Cycle",
+    9: "NoParent",
+    11: "EntitiesFull",
+    12: "BadLocal",
+    13: "TickFull",
+    15: "NothingToUndo",
+    16: "NothingToRedo",
+    17: "HistoryFull",
+    18: "Rewound",
+    20: "NoMemory",
+    24: "QueueFull",
+}
+NOT_PRESENT, NO_SUCH_KIND, HISTORY_FULL = 3, 5, 17
+
+# A kind that no scene has: there are at most 64.
+NO_KIND = 255
+
+
+class RawEntity(ctypes.Structure):
+    """`scene_entity`."""
+
+    _fields_ = [("index", c_uint32), ("generation", c_uint32)]
+
+
+class RawCell(ctypes.Structure):
+    """`scene_cell`."""
+
+    _fields_ = [("kind", c_uint32), ("shape", c_uint32), ("x", c_int64), ("y", c_int64), ("z", c_int64)]
+
+
+class RawName(ctypes.Structure):
+    """`scene_name`."""
+
+    _fields_ = [("entity", RawEntity), ("kind", c_uint32)]
+
+
+class RawRefusal(ctypes.Structure):
+    """`scene_refusal`."""
+
+    _fields_ = [(name, c_uint32) for name in ("fault", "has_place", "phase", "queue", "command")]
+
+
+# An entity that is never alive: a command about it is refused.
+NOBODY = RawEntity(2**32 - 1, 2**32 - 1)
+
+HANDLE = POINTER(c_void_p)
+# What the calls of scene.h take behind the scene, but for the three declared below. Nothing compares the two.
+TAKES: Dict[str, List[Any]] = {
+    "line": [c_char_p, c_size_t],
+    "save": [],
+    "load": [c_char_p, c_size_t],
+    "begin": [],
+    "commit": [],
+    "spawned": [c_size_t, POINTER(RawEntity)],
+    "undo": [],
+    "redo": [],
+    "with": [RawCell],
+    "with_text": [c_uint32, c_char_p, c_size_t],
+    "spawn": [],
+    "despawn": [RawEntity],
+    "despawn_all": [RawEntity],
+    "insert": [RawEntity, RawCell],
+    "insert_text": [RawEntity, c_uint32, c_char_p, c_size_t],
+    "remove": [RawEntity, c_uint32],
+    "set_parent": [RawEntity, RawEntity],
+    "remove_parent": [RawEntity],
+    "get": [RawEntity, c_uint32, POINTER(RawCell)],
+    "mark": [],
+    "changed": [],
+    "named": [c_size_t, POINTER(RawName)],
+    "refused": [POINTER(RawRefusal)],
+}
+
+
+def load_library(path: Union[str, Path, None] = None) -> ctypes.CDLL:
+    """The library at a path, with its calls declared."""
+    if path is None:
+        folder = os.environ.get("SCENE_LIB_DIR")
+        if folder is None:
+            raise FileNotFoundError("SCENE_LIB_DIR isn't set; it names the folder that `./scene library FOLDER` made")
+        path = Path(folder) / "libscene.so"
+    # A name without a folder would be looked for elsewhere.
+    library = ctypes.CDLL(str(Path(path).resolve()))
+    library.scene_open.argtypes, library.scene_open.restype = [HANDLE], c_uint32
+    library.scene_close.argtypes, library.scene_close.restype = [HANDLE], None
+    library.scene_answer.argtypes, library.scene_answer.restype = [HANDLE, c_void_p, c_size_t], c_size_t
+    for name, takes in TAKES.items():
+        call = getattr(library, f"scene_{name}")
+        call.argtypes, call.restype = [HANDLE, *takes], c_uint32
+    return library
+
+
+class Played(NamedTuple):
+    """What a line came to: the code of its call, and the bytes of its answer."""
+
+    code: int
+    answer: bytes
+
+
+class Lost(MemoryError):
+    """Memory was wanting, and the kinds or the scene that the setup had are lost."""
+
+
+class Untold(MemoryError):
+    """The call was done, and memory was wanting for the text of its answer."""
+
+
+class Library:
+    """One scene of a library by its calls: a lock lets one in at a time, since ctypes lets other threads run meanwhile.
+
+    A scene belongs to the thread that opened it (scene.h), and the lock doesn't change that: two threads have one each.
+    """
+
+    def __init__(self, path: Union[str, Path, None] = None) -> None:
+        self._library = load_library(path)
+        self._at = c_void_p(None)
+        # A call and the reading of its answer have to stay together, so those who do both hold it around both.
+        self.lock = threading.RLock()
+        if self._library.scene_open(byref(self._at)) != DONE:
+            raise MemoryError("no memory for a scene")
+
+    def call(self, name: str, *arguments: Any) -> int:
+        """The code of a call."""
+        with self.lock:
+            return int(getattr(self._library, f"scene_{name}")(byref(self._at), *arguments))
+
+    def answer(self) -> bytes:
+        """The text that the last call kept."""
+        with self.lock:
+            room = ctypes.create_string_buffer(256)
+            length = int(self._library.scene_answer(byref(self._at), room, len(room)))
+            if length > len(room):
+                room = ctypes.create_string_buffer(length)
+                self._library.scene_answer(byref(self._at), room, length)
+            return room.raw[:length]
+
+    def play(self, line: bytes) -> Played:
+        """Plays a line that is given as bytes without its line break."""
+        with self.lock:
+            code = self.call("line", line, len(line))
+            return Played(code, self.answer() if code in (DONE, REFUSED, BAD) else b"")
+
+    def close(self) -> None:
+        """Frees the scene. Once more is fine."""
+        with self.lock:
+            self._library.scene_close(byref(self._at))
+
+    def __del__(self) -> None:
+        # Where the library wasn't found there is nothing to close.
+        if hasattr(self, "lock"):
+            self.close()
+
+
+def number(text: str, least: int, most: int) -> int:
+    """A whole number as a line writes it: without a plus sign or leading zeros."""
+    if not re.fullmatch(r"0|-?[1-9][0-9]*", text) or not least <= int(text) <= most:
+        raise BadLine(text)
+    return int(text)
+
+
+def entity_of(text: str) -> RawEntity:
+    """The entity of a text."""
+    index, mark, generation = text.partition("v")
+    if not mark:
+        raise BadLine(text)
+    return RawEntity(number(index, 0, 2**32 - 1), number(generation, 0, 2**32 - 1))
+
+
+def target_of(text: str) -> RawEntity:
+    """What a command is about: an entity, or `+K` for the k-th spawn of the frame."""
+    if text.startswith("+"):
+        return RawEntity(number(text[1:], 0, 2**32 - 1), 0)
+    entity = entity_of(text)
+    # With generation 0 it would be a spawn; it is never alive, and so is this one.
+    return entity if entity.generation else NOBODY
+
+
+def shown(entity: RawEntity) -> Entity:
+    """The text of an entity."""
+    return Entity(f"{entity.index}v{entity.generation}")
+
+
+class LibraryScene(Calls):
+    """A scene in this process. `with` frees it."""
+
+    def __init__(self, kinds: Optional[Mapping[str, str]] = None, library: Union[str, Path, None] = None) -> None:
+        self._scene = Library(library)
+        # The kinds by name, each with its number and the number of its shape; and their names by number.
+        self._kinds: Dict[str, Tuple[int, int]] = {}
+        self._names: List[str] = []
+        self._in_frame = False
+        # Whether want of memory left components for a spawn that didn't come.
+        self._is_stuck = False
+        self._declare_all(kinds)
+
+    def close(self) -> int:
+        self._scene.close()
+        return 0
+
+    # ---- lines
+
+    def play(self, line: bytes) -> Played:
+        """Plays a line that is given as bytes without its line break, whatever it comes to."""
+        with self._scene.lock:
+            self._settle()
+            played = self._scene.play(line)
+            if played.code in (DONE, UNTOLD, REFUSED):
+                self._note(line, played.code)
+            elif played.code == LOST:
+                self._set_kinds([])
+            return played
+
+    def line(self, text: str) -> List[str]:
+        if "\n" in text:
+            raise ValueError("a line has no line break")
+        code, answer = self.play(text.encode())
+        self._came(code, text)
+        return self._lines(answer)
+
+    @staticmethod
+    def _lines(answer: bytes) -> List[str]:
+        """The lines of an answer. They tell each refusal, and the code not that of a `get`, a `dump` or a save."""
+        lines = answer.decode().split("\n")[:-1]
+        if lines and lines[0].startswith(("refused ", "fault ")):
+            raise Refused(lines[0])
+        return lines
+
+    def _note(self, line: bytes, code: int) -> None:
+        """Keeps what a good line said that this side has to know: the kinds, and whether a frame is open."""
+        command, _, rest = line.decode().lstrip(" ").partition(" ")
+        if command == "commit":
+            self._in_frame = False
+        elif code == REFUSED:
+            pass
+        elif command == "begin":
+            self._in_frame = True
+        elif command == "load":
+            self._set_kinds(json.loads(rest)["kinds"])
+        elif command == "kind":
+            name, shape = rest.split()
+            self._set_kinds([*((known, SHAPES[self._kinds[known][1]]) for known in self._names), (name, shape)])
+
+    def _set_kinds(self, kinds: List[Any]) -> None:
+        self._names = [name for name, _ in kinds]
+        self._kinds = {name: (at, SHAPES.index(shape)) for at, (name, shape) in enumerate(kinds)}
+
+    # ---- calls
+
+    def _came(self, code: int, what: str) -> None:
+        """Raises what a code says, if anything."""
+        if code in (DONE, REFUSED):
+            return
+        if code == BAD:
+            raise BadLine(what)
+        if code == CLOSED:
+            raise ValueError("the scene is closed")
+        if code == UNTOLD:
+            raise Untold(what)
+        if code == LOST:
+            self._set_kinds([])
+            raise Lost(what)
+        raise MemoryError(what)
+
+    def _settle(self) -> None:
+        """Lets go what was given for a spawn that didn't come: it goes with a spawn in a frame that is refused."""
+        if not self._is_stuck:
+            return
+        # The call is bad where a frame is open.
+        if self._scene.call("begin") not in (DONE, BAD):
+            raise MemoryError("begin")
+        self._scene.call("spawn")
+        if self._scene.call("despawn", NOBODY) != DONE:
+            raise MemoryError("despawn")
+        if not self._in_frame and self._scene.call("commit") != REFUSED:
+            raise MemoryError("commit")
+        self._is_stuck = False
+
+    def _call(self, name: str, *arguments: Any) -> None:
+        """Makes a call, and raises why it wasn't done."""
+        self._settle()
+        code = self._scene.call(name, *arguments)
+        if code == REFUSED:
+            raise self._refusal()
+        self._came(code, name)
+
+    def _refusal(self) -> Refused:
+        """Why the last call was refused, as a line tells it."""
+        raw = RawRefusal()
+        if self._scene.call("refused", byref(raw)) != DONE:
+            return Refused(self._scene.answer().decode().rstrip("\n"))
+        told = f"refused {raw.fault} {FAULTS.get(raw.fault, 'Unknown')}"
+        if raw.fault == HISTORY_FULL:
+            # Its field is the length of the history, which a call without a text doesn't tell.
+            told += self.line("history")[0][len("history") :]
+        if raw.has_place:
+            told += f" at {raw.phase}.{raw.queue}.{raw.command}"
+        return Refused(told)
+
+    def _component(self, name: str, value: Given) -> Tuple[int, Union[RawCell, bytes]]:
+        """A component as the library takes it: its kind, and its numbers or its text. It is read as a line's is."""
+        if name not in self._kinds:
+            raise BadLine(f"no kind is named {name}")
+        kind, shape = self._kinds[name]
+        text = written(value)
+        if (shape == TAG) != (value is True):
+            raise BadLine(f"{name}={text}")
+        if shape == TEXT:
+            return kind, text.encode()
+        numbers: List[int] = []
+        if shape == INT:
+            numbers = [number(text, -(2**63), 2**63 - 1)]
+        elif shape == VEC3:
+            numbers = [number(part, -(2**63), 2**63 - 1) for part in text.split(",")]
+            if len(numbers) != 3:
+                raise BadLine(f"{name}={text}")
+        elif shape == LINK:
+            linked = entity_of(text)
+            numbers = [linked.index, linked.generation]
+        return kind, RawCell(kind, shape, *numbers)
+
+    def _kind(self, name: str) -> int:
+        if name not in self._kinds:
+            raise BadLine(f"no kind is named {name}")
+        return self._kinds[name][0]
+
+    def spawn(self, **cells: Given) -> Optional[Entity]:
+        # All are read before the first one is given, so that none is left where one is bad.
+        components = [self._component(*one) for one in cells.items()]
+        with self._scene.lock:
+            try:
+                for kind, value in components:
+                    if isinstance(value, bytes):
+                        self._call("with_text", kind, value, len(value))
+                    else:
+                        self._call("with", value)
+            except MemoryError:
+                self._is_stuck = True
+                raise
+            self._call("spawn")
+            made = RawEntity()
+            return shown(made) if self._scene.call("spawned", 0, byref(made)) == DONE else None
+
+    def insert(self, entity: str, **cells: Given) -> None:
+        for one in cells.items():
+            target = target_of(entity)
+            kind, value = self._component(*one)
+            with self._scene.lock:
+                if isinstance(value, bytes):
+                    self._call("insert_text", target, kind, value, len(value))
+                else:
+                    self._call("insert", target, value)
+
+    def remove(self, entity: str, kind: str) -> None:
+        with self._scene.lock:
+            self._call("remove", target_of(entity), self._kind(kind))
+
+    def despawn(self, entity: str) -> None:
+        with self._scene.lock:
+            self._call("despawn_all", target_of(entity))
+
+    def set_parent(self, child: str, parent: Optional[str]) -> None:
+        with self._scene.lock:
+            if parent:
+                self._call("set_parent", target_of(child), target_of(parent))
+            else:
+                self._call("remove_parent", target_of(child))
+
+    def undo(self) -> None:
+        with self._scene.lock:
+            self._call("undo")
+
+    def redo(self) -> None:
+        with self._scene.lock:
+            self._call("redo")
+
+    @overload
+    def get(self, entity: str) -> str: ...
+
+    @overload
+    def get(self, entity: str, kind: str) -> Value: ...
+
+    def get(self, entity: str, kind: Optional[str] = None) -> Value:
+        if kind is None:
+            return super().get(entity)
+        named = entity_of(entity)
+        with self._scene.lock:
+            if self._in_frame:
+                # The library would answer, but no line does.
+                raise BadLine("get")
+            cell = RawCell()
+            try:
+                self._call("get", named, self._kinds.get(kind, (NO_KIND, TAG))[0], byref(cell))
+            except Refused as refused:
+                if refused.number != NO_SUCH_KIND:
+                    raise
+                raise Refused(f"refused {NOT_PRESENT} {FAULTS[NOT_PRESENT]}") from None
+            return self._value(cell)
+
+    def _value(self, cell: RawCell) -> Value:
+        """The value that the library gave."""
+        values: Dict[int, Callable[[], Value]] = {
+            TAG: lambda: True,
+            INT: lambda: int(cell.x),
+            VEC3: lambda: (int(cell.x), int(cell.y), int(cell.z)),
+            TEXT: lambda: self._scene.answer().decode(),
+            LINK: lambda: Entity(f"{cell.x}v{cell.y}"),
+        }
+        return values[cell.shape]()
+
+    def mark(self) -> None:
+        with self._scene.lock:
+            self._call("mark")
+
+    def changed(self) -> List[Tuple[Entity, str]]:
+        with self._scene.lock:
+            self._settle()
+            code = self._scene.call("changed")
+            if code == REFUSED:
+                # The line is refused as well, and tells the count of rewinds too.
+                return super().changed()
+            self._came(code, "changed")
+            cells: List[Tuple[Entity, str]] = []
+            name = RawName()
+            while self._scene.call("named", len(cells), byref(name)) == DONE:
+                cells.append((shown(name.entity), self._names[name.kind]))
+            return cells
+
+    def save(self) -> str:
+        with self._scene.lock:
+            self._call("save")
+            return self._lines(self._scene.answer())[0]
+
+    def load(self, text: str) -> None:
+        with self._scene.lock:
+            data = text.encode()
+            self._call("load", data, len(data))
+            self._set_kinds(json.loads(text)["kinds"])

@@ -1,0 +1,225 @@
+//! Kinds, their shapes, and the values of components.
+use crate::entity::Entity;
+use crate::raw;
+use std::error::Error;
+use std::fmt;
+use std::str::FromStr;
+
+/// What the values of a kind are.
+///
+/// ```
+/// use scene::Shape;
+///
+/// assert_eq!("Vec3".parse(), Ok(Shape::Vec3));
+/// assert_eq!(Shape::Vec3.to_string(), "Vec3");
+/// ```
+#[derive(Clone, Copy, Debug, PartialEq, Eq, Hash)]
+pub enum Shape {
+    /// No value: that the component is there says all.
+    Tag,
+    /// A whole number.
+    Int,
+    /// Three whole numbers.
+    Vec3,
+    /// A text.
+    Text,
+    /// An entity, which need not be alive.
+    Link,
+}
+
+impl fmt::Display for Shape {
+    fn fmt(&self, f: &mut fmt::Formatter<'_>) -> fmt::Result {
+        fmt::Debug::fmt(self, f)
+    }
+}
+
+/// A text names no shape.
+///
+/// ```
+/// use scene::{NoShape, Shape};
+///
+/// assert_eq!("int".parse::<Shape>(), Err(NoShape));
+/// ```
+#[derive(Clone, Copy, Debug, PartialEq, Eq)]
+pub struct NoShape;
+
+impl fmt::Display for NoShape {
+    fn fmt(&self, f: &mut fmt::Formatter<'_>) -> fmt::Result {
+        f.write_str("a shape is Tag, Int, Vec3, Text or Link")
+    }
+}
+
+impl Error for NoShape {}
+
+impl FromStr for Shape {
+    type Err = NoShape;
+
+    fn from_str(text: &str) -> Result<Shape, NoShape> {
+        match text {
+            "Tag" => Ok(Shape::Tag),
+            "Int" => Ok(Shape::Int),
+            "Vec3" => Ok(Shape::Vec3),
+            "Text" => Ok(Shape::Text),
+            "Link" => Ok(Shape::Link),
+            _ => Err(NoShape),
+        }
+    }
+}
+
+/// A kind of components of one scene, by its number. [`Scene::declare`](crate::Scene::declare) gives it, and
+/// [`Scene::kind`](crate::Scene::kind) finds it by its name. In another scene it names the kind of that number there,
+/// if any.
+///
+/// ```
+/// # use scene::{Error, Scene, Shape};
+/// let mut scene = Scene::new()?;
+/// let health = scene.declare("Health", Shape::Int)?;
+/// assert_eq!(scene.kind("Health"), Some(health));
+/// # Ok::<(), Error>(())
+/// ```
+#[derive(Clone, Copy, Debug, PartialEq, Eq, PartialOrd, Ord, Hash)]
+pub struct Kind(pub(crate) u8);
+
+impl Kind {
+    /// Its number: kinds are counted from 0, in the order in which they were declared.
+    ///
+    /// ```
+    /// # use scene::{Error, Scene, Shape};
+    /// # let mut scene = Scene::new()?;
+    /// scene.declare("Name", Shape::Text)?;
+    /// assert_eq!(scene.declare("Health", Shape::Int)?.number(), 1);
+    /// # Ok::<(), Error>(())
+    /// ```
+    #[must_use]
+    pub fn number(self) -> u8 {
+        self.0
+    }
+
+    /// A component of this kind, as a spawn takes it.
+    ///
+    /// ```
+    /// # use scene::{Error, Scene, Shape, Value};
+    /// # let mut scene = Scene::new()?;
+    /// let health = scene.declare("Health", Shape::Int)?;
+    /// assert_eq!(health.of(9), (health, Value::Int(9)));
+    /// scene.spawn(&[health.of(9)])?;
+    /// # Ok::<(), Error>(())
+    /// ```
+    #[must_use]
+    pub fn of(self, value: impl Into<Value>) -> (Kind, Value) {
+        (self, value.into())
+    }
+}
+
+/// The value of a component.
+///
+/// ```
+/// use scene::{Entity, Value};
+///
+/// let cat = Entity { index: 0, generation: 1 };
+/// assert_eq!(Value::from(()), Value::Tag);
+/// assert_eq!(Value::from(9), Value::Int(9));
+/// assert_eq!(Value::from([1, -2, 3]), Value::Vec3([1, -2, 3]));
+/// assert_eq!(Value::from("a cat"), Value::Text("a cat".to_owned()));
+/// assert_eq!(Value::from(cat), Value::Link(cat));
+/// ```
+#[derive(Clone, Debug, PartialEq, Eq, Hash)]
+pub enum Value {
+    /// No value.
+    Tag,
+    /// A whole number.
+    Int(i64),
+    /// Three whole numbers.
+    Vec3([i64; 3]),
+    /// A text, of any characters.
+    Text(String),
+    /// An entity, which need not be alive.
+    Link(Entity),
+}
+
+impl Value {
+    /// The shape of the kinds that it fits.
+    ///
+    /// ```
+    /// use scene::{Shape, Value};
+    ///
+    /// assert_eq!(Value::Int(9).shape(), Shape::Int);
+    /// ```
+    #[must_use]
+    pub fn shape(&self) -> Shape {
+        match self {
+            Value::Tag => Shape::Tag,
+            Value::Int(_) => Shape::Int,
+            Value::Vec3(_) => Shape::Vec3,
+            Value::Text(_) => Shape::Text,
+            Value::Link(_) => Shape::Link,
+        }
+    }
+}
+
+impl From<()> for Value {
+    fn from((): ()) -> Value {
+        Value::Tag
+    }
+}
+
+impl From<i64> for Value {
+    fn from(number: i64) -> Value {
+        Value::Int(number)
+    }
+}
+
+impl From<[i64; 3]> for Value {
+    fn from(numbers: [i64; 3]) -> Value {
+        Value::Vec3(numbers)
+    }
+}
+
+impl From<&str> for Value {
+    fn from(text: &str) -> Value {
+        Value::Text(text.to_owned())
+    }
+}
+
+impl From<String> for Value {
+    fn from(text: String) -> Value {
+        Value::Text(text)
+    }
+}
+
+impl From<Entity> for Value {
+    fn from(entity: Entity) -> Value {
+        Value::Link(entity)
+    }
+}
+
+/// A component as the library takes it.
+pub(crate) enum Sent<'a> {
+    Cell(raw::RawCell),
+    Text(&'a str),
+}
+
+impl Value {
+    pub(crate) fn sent(&self, kind: Kind) -> Sent<'_> {
+        let (shape, [x, y, z]) = match self {
+            Value::Text(text) => return Sent::Text(text),
+            Value::Tag => (raw::TAG, [0; 3]),
+            Value::Int(number) => (raw::INT, [*number, 0, 0]),
+            Value::Vec3(numbers) => (raw::VEC3, *numbers),
+            Value::Link(entity) => (raw::LINK, [entity.index.into(), entity.generation.into(), 0]),
+        };
+        Sent::Cell(raw::RawCell { kind: kind.0.into(), shape, x, y, z })
+    }
+
+    /// The value that the library gave; a text comes apart. The numbers of a link have 32 bits.
+    pub(crate) fn given(cell: raw::RawCell, text: impl FnOnce() -> String) -> Value {
+        match cell.shape {
+            raw::TAG => Value::Tag,
+            raw::INT => Value::Int(cell.x),
+            raw::VEC3 => Value::Vec3([cell.x, cell.y, cell.z]),
+            raw::TEXT => Value::Text(text()),
+            raw::LINK => Value::Link(Entity { index: cell.x as u32, generation: cell.y as u32 }),
+            other => unreachable!("scene.h has no shape {other}"),
+        }
+    }
+}

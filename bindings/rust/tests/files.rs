@@ -1,0 +1,97 @@
+//! Saving and loading.
+use scene::{Error, Scene, Shape, Value};
+
+/// A scene with a past and a future.
+fn edited() -> Scene {
+    let mut scene = Scene::new().unwrap();
+    let name = scene.declare("Name", Shape::Text).unwrap();
+    let health = scene.declare("Health", Shape::Int).unwrap();
+    let cat = scene.spawn(&[name.of("a \"cat\"\n"), health.of(9)]).unwrap();
+    let dog = scene.spawn(&[name.of("\u{1f415}")]).unwrap();
+    scene.set_parent(dog, cat).unwrap();
+    scene.insert(cat, health, 5).unwrap();
+    scene.undo().unwrap();
+    scene
+}
+
+#[test]
+fn a_loaded_scene_is_the_saved_one() {
+    let mut scene = edited();
+    let saved = scene.save().unwrap();
+    assert!(!saved.contains('\n'));
+    let mut other = Scene::load(&saved).unwrap();
+    assert_eq!(other.save().unwrap(), saved);
+    let kinds: Vec<_> = scene.kinds().collect();
+    assert_eq!(other.kinds().collect::<Vec<_>>(), kinds);
+    for step in [Scene::redo, Scene::undo, Scene::undo] {
+        step(&mut scene).unwrap();
+        step(&mut other).unwrap();
+        assert_eq!(other.line("show"), scene.line("show"));
+    }
+    let health = other.kind("Health").unwrap();
+    other.spawn(&[health.of(1)]).unwrap();
+}
+
+#[test]
+fn a_text_with_white_space_is_loaded() {
+    let mut scene = edited();
+    let saved = scene.save().unwrap();
+    let spaced = saved.replacen("\"kinds\":", "\r\n\t\"k\\u0069nds\" : ", 1) + "\n";
+    assert_ne!(spaced, saved);
+    let mut other = Scene::load(&spaced).unwrap();
+    assert_eq!(other.kind("Health"), scene.kind("Health"));
+    assert_eq!(other.save().unwrap(), saved);
+}
+
+#[test]
+fn a_text_of_a_world_alone_is_loaded() {
+    let mut scene = edited();
+    let dumped = scene.line("dump").unwrap();
+    let mut other = Scene::load(&dumped).unwrap();
+    assert_eq!(other.line("show"), scene.line("show"));
+    assert_eq!(other.undo().unwrap_err().refusal().unwrap().name, "NothingToUndo");
+}
+
+#[test]
+fn a_line_loads_too() {
+    let saved = edited().save().unwrap();
+    let mut scene = Scene::new().unwrap();
+    scene.declare("Other", Shape::Tag).unwrap();
+    assert_eq!(scene.line(&format!("load   {saved}")), Ok("ok".to_owned()));
+    assert_eq!((scene.kind("Other"), scene.kinds().count()), (None, 2));
+    assert_eq!(scene.declare("Late", Shape::Tag), Err(Error::Bad));
+    scene.line("depth 1").unwrap();
+    let name = scene.kind("Name").unwrap();
+    assert_eq!(scene.get("0v1".parse().unwrap(), name), Ok(Value::from("a \"cat\"\n")));
+    scene.undo().unwrap();
+    assert!(scene.undo().is_err());
+}
+
+#[test]
+fn what_is_no_scene_is_refused_by_a_file_fault() {
+    for (text, told) in [
+        ("", "fault 50 NotJson"),
+        ("{", "fault 50 NotJson"),
+        ("[]", "fault 52 BadField \"\""),
+        ("{\"scene\":3}", "fault 53 BadVersion 3"),
+        ("{\"scene\":1,\"x\":0}", "fault 51 UnknownKey \"x\""),
+    ] {
+        let error = Scene::load(text).unwrap_err();
+        assert_eq!(error.to_string(), told);
+        assert_eq!(error.refusal().unwrap().place, None);
+    }
+    let saved = edited().save().unwrap();
+    let spoilt = saved.replacen("\"generations\":[1,", "\"generations\":[0,", 1);
+    assert_ne!(spoilt, saved);
+    assert_eq!(Scene::load(&spoilt).unwrap_err().to_string(), "fault 40 BadWorld 2");
+}
+
+#[test]
+fn a_refused_load_leaves_the_setup() {
+    let mut scene = Scene::new().unwrap();
+    let health = scene.declare("Health", Shape::Int).unwrap();
+    assert!(scene.line("load {").is_err());
+    assert_eq!(scene.kind("Health"), Some(health));
+    scene.declare("Name", Shape::Text).unwrap();
+    scene.spawn(&[health.of(9)]).unwrap();
+}

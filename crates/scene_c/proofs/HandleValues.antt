@@ -1,0 +1,85 @@
+-- The machine value of a `Handle`: the pointer, and a heap handle of no bytes.
+use Rattle.std.proofs.Common.{◌≡◌, ℕ, List, [], ◌∷◌, ◌++◌, refl, subst}
+use seplogic.Ra.Ura.{Ura}
+use mir.Syntax.{impl, tnil, dnil}
+use mir.Raw.{raw as bare}
+use mir.Val.{Val, vptr, vstruct, of_list}
+use base.Fml.{Fml}
+use base.Fraction.{full_share}
+use base.Logic.{ent, guard, guard_i, never, fst∗, snd∗, via}
+use types.Logic.{Logic, sem}
+use types.Kit.{Item, Goal, Seq, Step, step, ‵, given, ◌$◌, move, drop, learn, use1, fsplit, fjoin, fpick, fpack, feq_i, feq_l}
+use contract.Monad.{fact_use}
+use denote.RattleType.{RattleType, Valss}
+use denote.Builtin.{RawPtr}
+use denote.Memory.{lone}
+use denote.RawPtr.{Ptr, block_ptr, null_ptr, ptr_val, in_a_block, lies_at, Testable}
+use denote.Steps.{nothing}
+use denote.Param.{layout}
+use denote.Struct.Struct.{within}
+use denote.Struct.Owning.{shape}
+use Rattle.std.proofs.alloc.Calls.{Al, handle_tells}
+use Rattle.std.proofs.cell.Inside.{Good}
+use Rattle.std.proofs.GlobalToken.{dealloc_token-Testable}
+use Rattle.std.specs.Box.Ownership.{box_owns}
+use Rattle.std.specs.declared.alloc.Global.{Global}
+use Rattle.std.specs.declared.option.Option.{Option}
+use Rattle.std.specs.declared.option.Option.TheVariants.{None, Some}
+use Rattle.std.specs.contracts.alloc.Global as heap
+use Rattle.std.proofs.alloc.Global.TheLaws as heap_laws
+use Rattle.std.specs.contracts.impls.GlobalAllocator.TheImpl.{ghosts}
+use Rattle.scene_desk.specs.contracts.desk.Desk as told
+use Rattle.scene_c.specs.Held.{held}
+use Rattle.scene_c.specs.contracts.handle.Handle as handle
+use Rattle.scene_c.proofs.Values.{both}
+
+abbrev pub Told : RattleType
+Told = told.the_row
+
+abbrev pub Z : RattleType
+Z = heap.the_row
+
+abbrev pub Handle : RattleType
+Handle = handle.the_row
+
+abbrev pub al : Al
+al = record { row = Z; laws = heap_laws.the_row_laws; g = ghosts; d = impl [] tnil dnil; drops = impl [] tnil dnil }
+
+abbrev pub boxed : Global → Ptr → Told.Denot → Fml
+boxed a = box_owns (ghosts.dealloc_token a) Told
+
+module _ {M : Type 1} {𝓤 : Ura M} (𝓛 : Logic 𝓤) where
+  pub tested : (a : Global) (p : Ptr) (x : Told.Denot) → ent 𝓤 (sem 𝓛 (boxed a p x)) (guard 𝓤 (Testable p) (sem 𝓛 (boxed a p x)))
+  tested a p x =
+      fact_use 𝓤 (Testable p) (via 𝓤 _ (snd∗ 𝓤 (sem 𝓛 (lies_at Told full_share p x)) (sem 𝓛 (ghosts.dealloc_token a (bare (lone Told.mir)) p))) (dealloc_token-Testable 𝓛 a (bare (lone Told.mir)) p))
+      (guard_i 𝓤 (Testable p) (sem 𝓛 (boxed a p x)))
+
+module _ {M : Type 1} {𝓤 : Ura M} {𝓛 : Logic 𝓤} {K : Type 0} {Γ : List (Item 𝓤)} {G : Goal 𝓤 𝓛.H} where
+  -- null and nothing, or a block, which may be compared with null
+  pub held_out : K → (a : Global) (p : Ptr) (v : Option Told.Denot) → (p ≡ null_ptr → v ≡ None → Seq K 𝓛 Γ G)
+      → ((b o : ℕ) (x : Told.Denot) → p ≡ block_ptr b o → v ≡ Some x → Testable (block_ptr b o) → Seq K 𝓛 (‵ (boxed a (block_ptr b o) x) ∷ Γ) G)
+      → Seq K 𝓛 (‵ (held a p v) ∷ Γ) G
+  held_out t a p None none one = feq_l t (λ e. none e refl)
+  held_out t a p (Some x) none one =
+      in_a_block t p (λ q. boxed a q x) (fst∗ 𝓤 (never 𝓤) (sem 𝓛 (ghosts.dealloc_token a (bare (lone Told.mir)) null_ptr))) (λ b o e.
+      use1 𝓛 (given (Testable (block_ptr b o)) (‵ (boxed a (block_ptr b o) x))) (tested 𝓛 a (block_ptr b o) x) $ learn t (λ w. one b o x e refl w))
+
+module _ {M : Type 1} {𝓤 : Ura M} {𝓛 : Logic 𝓤} {K : Type 0} {Γ : List (Item 𝓤)} {G : Goal 𝓤 𝓛.H} where
+  -- a handle, by what its value is
+  pub handle_out : K → (d : Handle.Denot) (vs : List Val)
+      → ((h : Val) → d.value ≡ None → vs ≡ both (ptr_val null_ptr) h ∷ [] → Good (layout Z) h → Seq K 𝓛 (‵ (Z.own_val d.alloc (h ∷ [])) ∷ Γ) G)
+      → ((b o : ℕ) (h : Val) (x : Told.Denot) → d.value ≡ Some x → vs ≡ both (vptr b o) h ∷ [] → Good (layout Z) h → Testable (block_ptr b o)
+      → Seq K 𝓛 (‵ (boxed d.alloc (block_ptr b o) x) ∷ ‵ (Z.own_val d.alloc (h ∷ [])) ∷ Γ) G)
+      → Seq K 𝓛 (‵ (Handle.own_val d vs) ∷ Γ) G
+  handle_out t d vs none one =
+      fsplit t $ fpick t (λ vss. fsplit t $ feq_l t (λ ev. fsplit t $ feq_l t (λ ep. fsplit t $ handle_tells al t d.alloc vss.1.0 (λ h ea fits. move t (1 ∷ []) $ drop t $ move t (1 ∷ []) $
+      let whole : vs ≡ both (ptr_val d.at) h ∷ [] = subst (λ (ws : List Val). vs ≡ vstruct (of_list (ptr_val d.at ∷ (ws ++ []))) ∷ []) ea (subst (λ (ps : List Val). vs ≡ vstruct (of_list (ps ++ (vss.1.0 ++ []))) ∷ []) ep ev) in
+      held_out t d.alloc d.at d.value
+      (λ e is. none h is (subst (λ (p : Ptr). vs ≡ both (ptr_val p) h ∷ []) e whole) fits)
+      (λ b o x e is w. one b o h x is (subst (λ (p : Ptr). vs ≡ both (ptr_val p) h ∷ []) e whole) fits w)))))
+
+  pub handle_in : K → (p : Ptr) (h : Val) (a : Global) (v : Option Told.Denot)
+      → Step K 𝓛 (‵ (Handle.own_val (record { at = p; alloc = a; value = v }) (both (ptr_val p) h ∷ [])) ∷ Γ) G (‵ (held a p v) ∷ ‵ (Z.own_val a (h ∷ [])) ∷ Γ) G
+  handle_in t p h a v = step (λ s. let w : Val = both (ptr_val p) h in
+      nothing t $ move t (2 ∷ 0 ∷ []) $ fjoin t $ feq_i t (List Val) (ptr_val p ∷ []) (ptr_val p ∷ []) refl $ fjoin t $ feq_i t (List Val) (w ∷ []) (w ∷ []) refl $ fjoin t $
+      fpack t (Valss (RawPtr ∷ Z ∷ [])) (within (shape handle.the_type) (p, (((a.memory.seal, tt), tt), tt)) (w ∷ [])) (ptr_val p ∷ [], (h ∷ [], tt)) $ fjoin t $ s)

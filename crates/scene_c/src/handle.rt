@@ -1,0 +1,92 @@
+//! A heap object as a pointer that C keeps.
+ghost use Rattle.std.specs.Prelude.{◌≡◌, Option, Some, None, option_map, IfOk};
+ghost use Rattle.scene_c.specs.Calls.{Opened};
+ghost use Rattle.scene_c.specs.Held.{held};
+ghost use Rattle.scene_desk.specs.declared.desk.Desk.{Desk as Told};
+
+use crate::loose::Loose;
+use scene_desk::Desk;
+use std::alloc::{AllocError, Global};
+use std::marker::Model;
+use std::ptr::null_mut;
+
+/// What C sees as one pointer: null, or that of a scene.
+#[repr(C)]
+pub struct Handle {
+    at: *mut (),
+    alloc: Global,
+    pub ghost value: { Option Told },
+}
+
+impl Model for Handle {
+    ghost also_owns = { λ h. held h.alloc h.at h.value };
+}
+
+impl Handle {
+    /// The handle of nothing.
+    pub(crate) fn closed(alloc: Global) -> Handle
+        ensures { result.value ≡ None }
+    {
+        Handle {
+            at: null_mut(),
+            alloc,
+        }
+    }
+
+    /// The handle of a scene, which it now owns.
+    pub(crate) fn of(desk: Loose<Desk, Global>) -> Handle
+        ensures { result.value ≡ Some desk.value }
+    {
+        let Loose { at, alloc } = desk;
+        Handle {
+            at: at as *mut (),
+            alloc,
+        }
+    }
+
+    /// The handle of a scene in a box.
+    pub(crate) fn of_box(desk: Box<Desk, Global>) -> Handle
+        ensures { result.value ≡ Some desk.value }
+    {
+        Handle::of(Loose::of(desk))
+    }
+
+    /// What the handle owns.
+    pub(crate) fn into_loose(self) -> Option<Loose<Desk, Global>>
+        ensures { option_map (λ l. l.value) result ≡ self.value }
+    {
+        let Handle { at, alloc } = self;
+        if at.is_null() {
+            None
+        } else {
+            Some(Loose {
+                at: at as *mut Desk,
+                alloc,
+            })
+        }
+    }
+}
+
+impl Drop for Handle {
+    fn drop(self) {
+        let _desk = into_desk(self);
+    }
+}
+
+/// The scene that a handle owns.
+pub(crate) fn into_desk(handle: Handle) -> Option<Box<Desk, Global>>
+    ensures { option_map (λ b. b.value) result ≡ handle.value }
+{
+    match handle.into_loose() {
+        Some(loose) => Some(loose.into_box()),
+        None => None,
+    }
+}
+
+/// The handle of a new scene.
+pub(crate) fn open_handle(alloc: Global) -> Result<Handle, AllocError>
+    ensures { IfOk result (λ h. Opened h.value) }
+{
+    let boxed = Box::new(alloc, Desk::new(alloc))?;
+    Ok(Handle::of_box(boxed))
+}

@@ -1,0 +1,96 @@
+//! Calls on the scene that a handle holds.
+ghost use Rattle.std.specs.Prelude.{◌≡◌, ℕ, List, None};
+ghost use Rattle.scene_player.specs.Player.{player_reply};
+ghost use Rattle.scene_c.specs.Calls.{Asks, Gives, Plays, Spawns, says, untold};
+ghost use Rattle.std.specs.Option.{option_map};
+
+use crate::handle::{Handle, into_desk};
+use crate::played::{give_at, line_at, say_at, spawn_at, tell_at};
+use crate::{BAD, CLOSED};
+use scene_kinds::Value;
+use scene_script::Line;
+use std::alloc::Global;
+use std::mem;
+
+/// Plays a line.
+pub(crate) fn line(alloc: Global, scene: &mut Handle, bytes: &[u8]) -> u32
+    ensures { Plays (λ p. player_reply p bytes.now) (λ r. r.text) scene.old.value scene.new.value result }
+{
+    let taken = mem::replace(scene, Handle::closed(alloc));
+    let Some(boxed) = into_desk(taken) else {
+        return CLOSED;
+    };
+    let mut boxed = boxed;
+    let code = line_at(alloc, &mut boxed, bytes);
+    *scene = Handle::of_box(boxed);
+    code
+}
+
+/// Plays a line that is a value, with a text of its answer.
+pub(crate) fn tell(alloc: Global, scene: &mut Handle, line: Line) -> u32
+    ensures { Plays (says line) (λ r. r.text) scene.old.value scene.new.value result }
+{
+    let taken = mem::replace(scene, Handle::closed(alloc));
+    let Some(boxed) = into_desk(taken) else {
+        return CLOSED;
+    };
+    let mut boxed = boxed;
+    let code = tell_at(alloc, &mut boxed, line);
+    *scene = Handle::of_box(boxed);
+    code
+}
+
+/// Plays a line that is a value.
+pub(crate) fn say(alloc: Global, scene: &mut Handle, line: Line) -> u32
+    ensures { Plays (says line) untold scene.old.value scene.new.value result }
+{
+    let taken = mem::replace(scene, Handle::closed(alloc));
+    let Some(boxed) = into_desk(taken) else {
+        return CLOSED;
+    };
+    let mut boxed = boxed;
+    let code = say_at(&mut boxed, line);
+    *scene = Handle::of_box(boxed);
+    code
+}
+
+/// Spawns with the components that were given for it.
+pub(crate) fn spawn(alloc: Global, scene: &mut Handle) -> u32
+    ensures { Spawns scene.old.value scene.new.value result }
+{
+    let taken = mem::replace(scene, Handle::closed(alloc));
+    let Some(boxed) = into_desk(taken) else {
+        return CLOSED;
+    };
+    let mut boxed = boxed;
+    let code = spawn_at(alloc, &mut boxed);
+    *scene = Handle::of_box(boxed);
+    code
+}
+
+/// Gives the next spawn a component, if there is one.
+pub(crate) fn give(alloc: Global, scene: &mut Handle, given: Option<(u8, Value)>) -> u32
+    ensures { Gives given scene.old.value scene.new.value result }
+{
+    let Some((kind, value)) = given else {
+        return BAD;
+    };
+    let taken = mem::replace(scene, Handle::closed(alloc));
+    let Some(boxed) = into_desk(taken) else {
+        return CLOSED;
+    };
+    let mut boxed = boxed;
+    let code = give_at(&mut boxed, kind, value);
+    *scene = Handle::of_box(boxed);
+    code
+}
+
+/// Plays the line that some arguments name, if they name one.
+pub(crate) fn ask(alloc: Global, scene: &mut Handle, line: Option<Line>) -> u32
+    ensures { Asks line scene.old.value scene.new.value result }
+{
+    match line {
+        Some(line) => say(alloc, scene, line),
+        None => BAD,
+    }
+}
