@@ -17,11 +17,11 @@ class Trouble(Exception):
 
 
 class CommandLine(argparse.ArgumentParser):
-    """The words of a command. A bad one is told as `scene` tells it; `help.txt` beside the tool is its help text."""
+    """The words of a command. A bad one is told as `scene` tells it; `help.txt` in the tool's folder is its help text."""
 
-    def __init__(self, command, takes):
+    def __init__(self, command, takes, folder=None):
         super().__init__(add_help=False, allow_abbrev=False)
-        self.command, self.takes = command, takes
+        self.command, self.takes, self.folder = command, takes, folder or command
         # for the tests, which name the program that is to play
         self.add_argument("--program", default=PROGRAM)
 
@@ -31,7 +31,7 @@ class CommandLine(argparse.ArgumentParser):
 
     def parsed(self, words):
         if words in (["--help"], ["-h"]):
-            print((TOP / "tools" / self.command / "help.txt").read_text(), end="")
+            print((TOP / "tools" / self.folder / "help.txt").read_text(), end="")
             sys.exit(0)
         return self.parse_args(words)
 

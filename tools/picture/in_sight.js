@@ -1,39 +1,74 @@
 // A list that draws only the lines in sight, and is used by keyboard as by mouse.
 
-const LINE_HEIGHT = 24;
-const LINES_AROUND = 6;
+import { adopt, putIn } from "./parts.js";
 
-class ListInSight {
-  // `fill` puts a line into its element; `fold` and `select` are told the line that is to be folded or was chosen.
-  constructor(box, { fill, fold, select }) {
-    Object.assign(this, { box, fill, fold, select, lines: [], active: 0 });
+export const LINE_HEIGHT = 24;
+const LINES_AROUND = 6;
+const ROLES = { tree: "treeitem", treegrid: "row", grid: "row" };
+
+// Where the line with a key is, which was at a place before.
+function placeNow(lines, key, place) {
+  return lines[place]?.key === key ? place : lines.findIndex((line) => line.key === key);
+}
+
+export class ListInSight {
+  // `fill` puts a line into its element; `fold` and `select` are told the line that is to be folded or was chosen, with
+  // the event and, for a click, what was clicked on.
+  // `press` is asked first about each key, and says whether it took it; `moved` is told which line is the active one.
+  constructor(box, { fill, fold, select, press = () => false, moved = () => {} }) {
+    Object.assign(this, { box, fill, fold, select, press, moved, lines: [], active: 0, drawn: new Map() });
+    Object.assign(this, { top: 0, height: box.clientHeight });
     this.sheet = document.createElement("div");
     this.sheet.className = "sheet";
     this.sheet.setAttribute("role", "presentation");
     box.append(this.sheet);
-    box.addEventListener("scroll", () => this.draw());
+    box.addEventListener("scroll", () => this.measure());
     box.addEventListener("keydown", (event) => this.pressed(event));
+    box.addEventListener("mousedown", (event) => this.hold(event));
     box.addEventListener("click", (event) => this.clicked(event));
-    new ResizeObserver(() => this.draw()).observe(box);
+    new ResizeObserver(() => this.measure()).observe(box);
   }
 
-  // Shows other lines. The active one stays active where a line with its key is still there.
+  // What is in sight is asked for only when it changes: a browser that is asked between changes lays out the page anew.
+  measure() {
+    this.top = this.box.scrollTop;
+    this.height = this.box.clientHeight;
+    this.draw();
+  }
+
+  scrollTo(top) {
+    this.box.scrollTop = top;
+    this.top = this.box.scrollTop;
+  }
+
+  // Shows other lines. The active one stays active where a line with its key is still there, and the first one in sight
+  // stays where it is seen.
   show(lines) {
-    const key = this.lines[this.active]?.key;
-    const place = lines.findIndex((line) => line.key === key);
+    const top = Math.floor(this.top / LINE_HEIGHT);
+    const [active, first] = [this.active, top].map((place) => placeNow(lines, this.lines[place]?.key, place));
     this.lines = lines;
-    this.active = place >= 0 ? place : Math.min(this.active, Math.max(0, lines.length - 1));
+    this.active = active >= 0 ? active : Math.min(this.active, Math.max(0, lines.length - 1));
     this.sheet.style.height = `${lines.length * LINE_HEIGHT}px`;
+    const most = Math.max(0, lines.length * LINE_HEIGHT - this.height);
+    if (top > 0 && first >= 0 && first !== top) this.scrollTo(this.top + (first - top) * LINE_HEIGHT);
+    else if (this.top > most) this.scrollTo(most);
     this.draw();
   }
 
   draw() {
     const { box, lines } = this;
-    const first = Math.max(0, Math.floor(box.scrollTop / LINE_HEIGHT) - LINES_AROUND);
-    const count = Math.ceil(box.clientHeight / LINE_HEIGHT) + 2 * LINES_AROUND;
-    this.sheet.replaceChildren(...lines.slice(first, first + count).map((line, at) => this.element(line, first + at)));
+    const first = Math.max(0, Math.floor(this.top / LINE_HEIGHT) - LINES_AROUND);
+    const count = Math.ceil(this.height / LINE_HEIGHT) + 2 * LINES_AROUND;
+    const before = this.drawn;
+    this.drawn = new Map(lines.slice(first, first + count).map((line, at) => {
+      const [fresh, old] = [this.element(line, first + at), before.get(line.key)];
+      if (old !== undefined) adopt(old, fresh);
+      return [line.key, old ?? fresh];
+    }));
+    putIn(this.sheet, [...this.drawn.values()]);
     const drawn = this.active >= first && this.active < first + count && lines.length > 0;
-    if (drawn) box.setAttribute("aria-activedescendant", `${box.id}-${this.active}`);
+    const current = this.sheet.querySelector(".active .current[id]")?.id ?? `${box.id}-${this.active}`;
+    if (drawn) box.setAttribute("aria-activedescendant", current);
     else box.removeAttribute("aria-activedescendant");
   }
 
@@ -43,7 +78,7 @@ class ListInSight {
     element.className = `line ${line.sort}`;
     element.dataset.place = place;
     element.style.top = `${place * LINE_HEIGHT}px`;
-    element.setAttribute("role", this.box.getAttribute("role") === "tree" ? "treeitem" : "option");
+    element.setAttribute("role", ROLES[this.box.getAttribute("role")] ?? "option");
     element.setAttribute("aria-setsize", this.lines.length);
     element.setAttribute("aria-posinset", place + 1);
     element.setAttribute("aria-selected", place === this.active);
@@ -58,10 +93,10 @@ class ListInSight {
   goTo(place) {
     if (this.lines.length === 0) return;
     this.active = Math.max(0, Math.min(place, this.lines.length - 1));
+    this.moved(this.lines[this.active]);
     const top = this.active * LINE_HEIGHT;
-    const { box } = this;
-    if (top < box.scrollTop) box.scrollTop = top;
-    else if (top + LINE_HEIGHT > box.scrollTop + box.clientHeight) box.scrollTop = top + LINE_HEIGHT - box.clientHeight;
+    if (top < this.top) this.scrollTo(top);
+    else if (top + LINE_HEIGHT > this.top + this.height) this.scrollTo(top + LINE_HEIGHT - this.height);
     this.draw();
   }
 
@@ -71,12 +106,13 @@ class ListInSight {
   }
 
   pressed(event) {
-    const page = Math.max(1, Math.floor(this.box.clientHeight / LINE_HEIGHT) - 1);
+    const page = Math.max(1, Math.floor(this.height / LINE_HEIGHT) - 1);
     const line = this.lines[this.active];
     const steps = { ArrowDown: 1, ArrowUp: -1, PageDown: page, PageUp: -page, Home: -Infinity, End: Infinity };
+    if (line !== undefined && this.press(event, line)) return void event.preventDefault();
     if (event.altKey || event.ctrlKey || event.metaKey || line === undefined) return;
     if (event.key in steps) this.goTo(this.active + steps[event.key]);
-    else if (event.key === "Enter" || event.key === " ") this.select(line);
+    else if (event.key === "Enter" || event.key === " ") this.select(line, event);
     else if (event.key === "ArrowRight" && line.isOpen === false) this.fold(line);
     else if (event.key === "ArrowLeft" && line.isOpen === true) this.fold(line);
     else if (event.key === "ArrowLeft" && line.level > 0) this.goTo(this.above(this.active));
@@ -92,13 +128,26 @@ class ListInSight {
     return at;
   }
 
+  lineOf(target) {
+    const element = target.closest("[data-place]");
+    return element === null ? undefined : this.lines[Number(element.dataset.place)];
+  }
+
+  hold(event) {
+    this.held = { key: this.lineOf(event.target)?.key, target: event.target, x: event.clientX, y: event.clientY };
+  }
+
+  // A click is where the button went down, though its line moves on under the mouse before the button goes up.
   clicked(event) {
-    const element = event.target.closest("[data-place]");
-    if (element === null) return;
-    const place = Number(element.dataset.place);
+    const { held } = this;
+    this.held = undefined;
+    const isHeld = held && Math.hypot(event.clientX - held.x, event.clientY - held.y) < LINE_HEIGHT;
+    const { key, target } = isHeld ? held : { key: this.lineOf(event.target)?.key, target: event.target };
+    const place = key === undefined ? -1 : this.lines.findIndex((line) => line.key === key);
+    if (place < 0) return;
     const line = this.lines[place];
     this.goTo(place);
-    if (event.target.closest(".fold") !== null) this.fold(line);
-    else this.select(line);
+    if (target.closest(".fold") !== null) this.fold(line);
+    else this.select(line, event, target);
   }
 }

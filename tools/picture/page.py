@@ -7,7 +7,9 @@ from html import escape
 from pathlib import Path
 
 HERE = Path(__file__).resolve().parent
-SCRIPTS = ("state.js", "words.js", "lines.js", "in_sight.js", "page.js")
+SCRIPTS = ("state.js", "words.js", "lines.js", "parts.js", "fills.js", "in_sight.js", "page.js")
+# What makes the scripts modules, for the editor (tools/editor). In one file they share their names without.
+MODULE_WORDS = re.compile(r"^import [^;]*;\n|^export ", re.MULTILINE)
 MOST_EXACT = 2**53 - 1
 TRIED = 10_000
 
@@ -15,7 +17,7 @@ TRIED = 10_000
 def page(scene):
     """The page of a scene of version 2."""
     style = (HERE / "page.css").read_text()
-    script = "\n".join((HERE / name).read_text() for name in SCRIPTS)
+    script = "\n".join(MODULE_WORDS.sub("", (HERE / name).read_text()) for name in SCRIPTS)
     parts = {"style": style, "script": script, "scene": data(scene)}
     parts.update(policy=policy(style, script), counts=escape(counts(scene)))
     return re.sub(r"<!--(\w+)-->", lambda mark: parts[mark[1]], (HERE / "page.html").read_text())

@@ -1,35 +1,35 @@
 // What is said of cells and of changes, and what a search finds. Nothing here draws: all of it is text.
 
 // A text stands as the program prints it, as a JSON string, so that no control character hides.
-function valueText(shape, value) {
+export function valueText(shape, value) {
   if (shape === "Tag") return "";
   if (shape === "Text") return JSON.stringify(value);
   return String(value);
 }
 
-function named(name, shape, value) {
+export function named(name, shape, value) {
   return shape === "Tag" ? name : `${name}=${valueText(shape, value)}`;
 }
 
-function cellText(kinds, kind, [value]) {
+export function cellText(kinds, kind, [value]) {
   const [name, shape] = kinds[kind];
   return named(name, shape, value);
 }
 
-function ticksText([added, changed]) {
+export function ticksText([added, changed]) {
   return `added at tick ${added}, changed at tick ${changed}`;
 }
 
-function cellsText(kinds, cells) {
+export function cellsText(kinds, cells) {
   return cells.map(([kind, ...cell]) => cellText(kinds, kind, cell)).join(" ");
 }
 
 // The cells of a row by ascending kind.
-function rowCells(row) {
+export function rowCells(row) {
   return row.table.kinds.map((kind) => [kind, ...row.cells.get(kind)]);
 }
 
-function resourceText(name, [shape, value]) {
+export function resourceText(name, [shape, value]) {
   return named(name, shape, value);
 }
 
@@ -60,14 +60,14 @@ const SAY = {
 };
 
 // What a delta of a frame did, as a line: its sort, the entity if it is of one, and words.
-function changeOf(kinds, delta) {
+export function changeOf(kinds, delta) {
   const [sort, text] = SAY[delta.op](kinds, delta);
   return { sort, entity: delta.entity, text };
 }
 
 // Which entities a frame changed, each with the sort of its change and the kinds that it wrote, and which resources.
 // Of several sorts the first of new, moved, changed is told.
-function marksOf(record) {
+export function marksOf(record) {
   const entities = new Map();
   const resources = new Set();
   const order = ["new", "moved", "changed"];
@@ -88,7 +88,7 @@ function marksOf(record) {
 }
 
 // The frames, as positions behind them, whose records name an entity.
-function framesOf(records, entity) {
+export function framesOf(records, entity) {
   const frames = [];
   records.forEach((record, at) => {
     if (record.deltas.some((delta) => delta.entity === entity)) frames.push(at + 1);
@@ -102,7 +102,7 @@ function searchText(kinds, row) {
 }
 
 // The entities that have each word of a search, or null for an empty one.
-function found(timeline, search) {
+export function found(timeline, search) {
   const words = search.toLowerCase().split(/\s+/).filter((word) => word !== "");
   if (words.length === 0) return null;
   const matched = new Set();
@@ -113,7 +113,7 @@ function found(timeline, search) {
   return matched;
 }
 
-function positionText({ position, now, records, state }) {
+export function positionText({ position, now, records, state }) {
   const where = position === now ? "now" : position < now ? "past" : "future";
   return `after frame ${position} of ${records.length}, tick ${state.tick} (${where})`;
 }

@@ -1,0 +1,95 @@
+"""What of a session's call goes to the shell, and in which order: its own lines, and those by which the hub knows what
+they did."""
+from typing import NamedTuple, Optional
+
+from commands import COMMANDS, words_of
+
+KEPT_FROM_TABS = {
+    "as": "each tab is a session of its own",
+    "mark": "the editor keeps the cursor",
+    "changed": "the editor keeps the cursor",
+    "added": "the editor keeps the cursor",
+}
+UNBALANCED = "the lines aren't balanced: each begin needs its commit, and nothing was done"
+CURSOR = ("changed", "added", "mark")
+FRAMES = COMMANDS | {"commit", "advance"}
+ASKING = ("", "get", "show", "history", "dump", "dumpall")
+
+
+class Sent(NamedTuple):
+    """A line that goes to the shell, and its place in the call, or None for one of the hub's own."""
+
+    line: str
+    place: Optional[int]
+
+
+def refusal(line, word):
+    """Why a line isn't sent, or None."""
+    if "\n" in line:
+        return "a line has no line break"
+    try:
+        line.encode()
+    except UnicodeEncodeError:
+        return "the line is no Unicode text"
+    return KEPT_FROM_TABS.get(word)
+
+
+def is_balanced(words):
+    """Whether each `begin` has its `commit`, and there is no other `commit`."""
+    is_open = False
+    for word in words:
+        if word == "begin" and is_open or word == "commit" and not is_open:
+            return False
+        is_open = (is_open or word == "begin") and word != "commit"
+    return not is_open
+
+
+def frame_words(lines):
+    """The first word of each line; of a `begin` or `commit` with more words, which is a bad line, all of them."""
+    for line in lines:
+        words = words_of(line)
+        yield " ".join(words) if words[:1] in (["begin"], ["commit"]) else words[0] if words else ""
+
+
+class Call:
+    """A call's lines: what is sent of them, and its answers. `turn` is a line to send before those that do more than
+    ask, if one is needed; it is kept in the store, as they are."""
+
+    def __init__(self, lines, turn=None, is_setup=False):
+        # The shell drops a carriage return at the end of a line, but for a space behind it.
+        lines = [f"{line} " if line.endswith("\r") else line for line in lines]
+        words = list(frame_words(lines))
+        self.answers = [refused(line, word) for line, word in zip(lines, words)]
+        self.sent = []
+        if self.answers and self.answers[0]:
+            self.answers = self.answers[:1] * len(lines)
+        elif not is_balanced(words):
+            self.answers = [bad(UNBALANCED)] * len(lines)
+        else:
+            own = [place for place, answer in enumerate(self.answers) if answer is None]
+            # in the setup the hub asks nothing, since that would end it
+            turns = turn is not None and any(words[place] not in ASKING for place in own)
+            self.send([Sent(turn, None)] if turns else [], own, lines, words, () if is_setup else CURSOR)
+
+    def send(self, sent, own, lines, words, cursor):
+        """Looks by the cursor behind frames, before an undo or a redo spoils it and at the end, and marks anew then."""
+        asks = [Sent(line, None) for line in cursor]
+        frames = False
+        for place in own:
+            if words[place] in ("undo", "redo"):
+                sent += asks * frames
+                frames = False
+            sent.append(Sent(lines[place], place))
+            if words[place] in ("undo", "redo"):
+                sent += asks[-1:]
+            frames = frames or words[place] in FRAMES
+        self.sent = sent + asks * frames
+
+
+def bad(reason):
+    return {"answer": "bad", "reason": reason}
+
+
+def refused(line, word):
+    reason = refusal(line, word)
+    return None if reason is None else bad(reason)

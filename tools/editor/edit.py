@@ -1,0 +1,95 @@
+#!/usr/bin/env -S python3 -B
+"""`scene edit`: serves the editor of a store to a browser on this machine."""
+import secrets
+import signal
+import subprocess
+import sys
+import threading
+from pathlib import Path
+
+sys.path.insert(0, str(Path(__file__).resolve().parent.parent))
+
+from hub import Hub  # noqa: E402
+from played_scene import PROGRAM, TOP, CommandLine, Trouble, ended  # noqa: E402
+from server import Server  # noqa: E402
+from stored import StoreFault, store_fault  # noqa: E402
+
+TOKEN_BYTES = 24  # which are 32 characters
+BUILT = TOP / "crates" / "scene" / "out" / "scene"
+UNBUILT = "the proved program isn't built, and the editor needs it; './scene build' builds it"
+
+
+def play_script(words):
+    """Plays the script of `--from` into a store, which has to be new."""
+    if words.store.exists():
+        raise Trouble(f"{words.store} isn't new, so no script is played into it")
+    try:
+        script = ended(Path(words.script).read_bytes())
+    except OSError as error:
+        raise Trouble(f"{words.script} can't be read: {error.strerror}") from None
+    command = [words.program, "shell", "--json", "--store", str(words.store)]
+    played = subprocess.run(command, input=script, capture_output=True, check=False)
+    for line in played.stderr.decode(errors="replace").split("\n"):
+        if line.startswith("scene: line "):
+            print(f"{line} ({words.script})", file=sys.stderr)
+    if played.returncode not in (0, 1):
+        raise store_fault(words.store, played.stderr)
+
+
+def serve(words):
+    """Serves until an interrupt."""
+    stop = threading.Event()
+    for number in (signal.SIGINT, signal.SIGTERM):
+        signal.signal(number, lambda *_: stop.set())
+    hub = Hub(words.program, words.store)
+    token = secrets.token_urlsafe(TOKEN_BYTES)
+    try:
+        server = Server(hub, token, words.port)
+    except OSError as error:
+        hub.close()
+        raise Trouble(f"port {words.port} can't be had: {error.strerror}") from None
+    thread = threading.Thread(target=server.serve_forever, kwargs={"poll_interval": 0.1}, daemon=True)
+    thread.start()
+    print(f"http://127.0.0.1:{server.server_port}/{token}/", flush=True)
+    stop.wait()
+    hub.close()
+    server.shutdown()
+    thread.join()
+    server.server_close()
+
+
+def edit(words):
+    """The exit status: 2 where nothing could be begun, 3 where the store is at fault."""
+    try:
+        if words.program == PROGRAM and not BUILT.exists():
+            raise Trouble(UNBUILT)
+        if words.script is not None:
+            play_script(words)
+        serve(words)
+    except StoreFault as fault:
+        line, _, said = str(fault).rpartition("\n")
+        print(*filter(None, (line, f"scene: edit: {said}")), sep="\n", file=sys.stderr)
+        return 3
+    except Trouble as trouble:
+        print(f"scene: edit: {trouble}", file=sys.stderr)
+        return 2
+    return 0
+
+
+def port_of(text):
+    if not text.isdigit() or int(text) > 65535:
+        raise ValueError(text)
+    return int(text)
+
+
+def main():
+    takes = "the name of a store's file, and no other word but --from SCRIPT, --port N and --help"
+    line = CommandLine("edit", takes, "editor")
+    line.add_argument("store", type=Path)
+    line.add_argument("--from", dest="script")
+    line.add_argument("--port", type=port_of, default=0)
+    return edit(line.parsed(sys.argv[1:]))
+
+
+if __name__ == "__main__":
+    sys.exit(main())

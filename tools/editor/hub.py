@@ -1,0 +1,238 @@
+"""Between tabs and the shell: one lock, one shell, and the model of its scene."""
+import sys
+import threading
+import time
+from collections import deque
+
+from calls import Call
+from events import Events, event_bytes
+from model import Model
+from played_scene import Trouble
+from sessions import Sessions
+from shell import Gone, Shell
+from stored import log_of, store_fault
+from texts import json_text
+
+MOST_BEGUN, SECONDS_BEGUN = 2, 10
+SECONDS_TO_CLOSE = 5
+READS = ("dumpall", "dump")
+
+
+def read_all(shell, model):
+    """Has a model read the whole scene, or the world alone where the text of all would be too long; and marks this
+    moment."""
+    for line in READS:
+        scene, _ = shell.ask([line, "mark"])
+        if scene["answer"] == "scene":
+            model.load(scene["text"])
+            return
+    raise Trouble("the world's text is too long for the editor")
+
+
+class Hub:
+    """What tabs ask, each call under the lock. What it answers is JSON text."""
+
+    def __init__(self, program, store):
+        self.program, self.store = program, store
+        self.lock, self.stopped = threading.Lock(), threading.Event()
+        self.events, self.sessions = Events(), Sessions()
+        self.begun = deque(maxlen=MOST_BEGUN)
+        self.model, self.shell, self.is_here = None, None, False
+        with self.lock:
+            self.begin()
+        self.keeper = threading.Thread(target=self.keep, daemon=True)
+        self.keeper.start()
+
+    # The shell
+
+    def begin(self):
+        """Begins a shell on the store, and reads what it has."""
+        model = Model()
+        log_of(self.program, self.store, model)
+        shell = Shell(self.program, self.store, self.shell_ended)
+        try:
+            # An empty line ends no setup, and tells whether the store could be opened.
+            shell.ask([""])
+            if not model.in_setup:
+                read_all(shell, model)
+            model.news = None
+        except (Gone, Trouble) as trouble:
+            shell.close()
+            if isinstance(trouble, Trouble):
+                raise
+            raise store_fault(self.store, b"".join(shell.told)) from None
+        self.model, self.shell, self.is_here = model, shell, True
+
+    def shell_ended(self, shell):
+        """The shell has ended by itself: another one is begun, twice at most within some seconds."""
+        if self.stopped.is_set() or shell is not self.shell:
+            # who ends it has the lock, and waits
+            return
+        with self.lock:
+            if shell is self.shell and not self.stopped.is_set():
+                self.begin_again(shell.end_words())
+
+    def is_gone(self, words):
+        self.shell, self.is_here = None, False
+        self.tell({"sort": "shell", "state": "gone", "words": words})
+        print(f"scene: edit: {words}", file=sys.stderr, flush=True)
+
+    def begin_again(self, words):
+        self.is_gone(words)
+        while self.may_begin():
+            self.begun.append(time.monotonic())
+            try:
+                self.begin()
+            except Trouble as trouble:
+                words = str(trouble).replace("\n", ": ")
+                continue
+            self.tell({"sort": "shell", "state": "here", "words": "the shell is here again"})
+            self.tell_whole("the shell ended and was begun again")
+            return
+        self.is_gone(f"{words}; it isn't begun again")
+
+    def may_begin(self):
+        return len(self.begun) < MOST_BEGUN or time.monotonic() - self.begun[0] > SECONDS_BEGUN
+
+    # Events
+
+    def tell(self, event):
+        self.events.add(json_text(event))
+
+    def tell_whole(self, words):
+        text = f'{{"sort":"whole","words":{json_text(words)},"scene":{self.whole(self.events.last + 1)}}}'
+        self.events.add(text)
+
+    def whole(self, sequence):
+        """All that a tab has to know, as JSON."""
+        model, world = self.model, self.model.world
+        return json_text({
+            "sequence": sequence,
+            "kinds": model.kinds if world is None else world.kinds,
+            "setup": model.in_setup,
+            "text": None if world is None else world.scene(),
+            "frames": [] if world is None else world.frames(),
+            "position": 0 if world is None else len(world.past),
+            "older": 0 if world is None else len(world.older),
+            "later": 0 if world is None else len(world.later),
+            "phases": model.phases,
+            "sessions": self.sessions.numbers(),
+            "shell": "here" if self.is_here else "gone",
+        })  # fmt: skip
+
+    def whole_event(self):
+        """All, for a stream whose cursor is too old, and the cursor of it."""
+        with self.lock:
+            last = self.events.last
+            text = f'{{"sort":"whole","words":"too much has happened since","scene":{self.whole(last)}}}'
+        return last, event_bytes(last, text)
+
+    # Sessions
+
+    def tell_sessions(self):
+        self.tell({"sort": "sessions", "sessions": self.sessions.numbers()})
+
+    def join(self, wanted):
+        with self.lock:
+            session = self.sessions.join(wanted)
+            if session is None:
+                return json_text({"refused": "seven tabs are open at most"})
+            self.tell_sessions()
+            return f'{{"session":{session},"scene":{self.whole(self.events.last)}}}'
+
+    def leave(self, session):
+        with self.lock:
+            if self.sessions.leave(session):
+                self.tell_sessions()
+
+    def seat(self, session):
+        """The place of a tab, which may have been away so long that it was free."""
+        if session not in self.sessions.seats:
+            self.sessions.take(session)
+            self.tell_sessions()
+        return self.sessions.seats[session]
+
+    def stream_opened(self, session):
+        with self.lock:
+            seat = self.seat(session)
+            seat.opened()
+            return seat
+
+    def stream_closed(self, seat):
+        with self.lock:
+            seat.closed()
+
+    def keep(self):
+        """Each second frees the sessions of tabs that are gone, and looks whether the shell has ended unheard."""
+        while not self.stopped.wait(1):
+            with self.lock:
+                if self.sessions.free_left():
+                    self.tell_sessions()
+                ended = self.shell is not None and self.shell.has_ended
+            if ended:
+                self.shell_ended(self.shell)
+
+    # Calls
+
+    def call(self, session, lines):
+        """Plays a session's lines as one, and answers them."""
+        with self.lock:
+            self.seat(session)
+            if not self.is_here:
+                return json_text({"gone": True})
+            needs_turn = session != self.model.turn and not self.model.in_setup
+            call = Call(lines, f"as {session}" if needs_turn else None, self.model.in_setup)
+            try:
+                self.play(call)
+            except Gone:
+                return json_text({"gone": True})
+            except Trouble as trouble:
+                shell = self.shell
+                self.is_gone(f"{trouble}; it isn't begun again")
+                shell.close()
+                return json_text({"gone": True})
+            return json_text({"answers": call.answers})
+
+    def play(self, call):
+        if not call.sent:
+            return
+        answers = self.shell.ask([sent.line for sent in call.sent])
+        for (line, place), answer in zip(call.sent, answers):
+            if place is None:
+                self.model.hear_own(line, answer)
+            else:
+                self.model.hear(line, answer)
+                call.answers[place] = answer
+        gets = self.model.to_get()
+        for line, answer in zip(gets, self.shell.ask(gets)):
+            self.model.hold_row(line, answer)
+        self.settle()
+
+    def settle(self):
+        """Tells what happened; where the model isn't what it has to be, all is read and told again."""
+        for event in self.model.take_events():
+            self.events.add(event)
+        words = self.model.difference or self.model.news
+        if words is None:
+            return
+        if self.model.difference:
+            print(f"scene: edit: {words}; all is read again", file=sys.stderr, flush=True)
+        if not self.model.in_setup:
+            read_all(self.shell, self.model)
+        self.model.news = None
+        self.tell_whole(words)
+
+    def close(self):
+        """Ends the shell and all streams."""
+        self.stopped.set()
+        has_lock = self.lock.acquire(timeout=SECONDS_TO_CLOSE)
+        self.events.close()
+        shell = self.shell
+        if shell is not None:
+            if not has_lock:
+                # A call waits for it: it hangs, and so wouldn't end by the end of its input.
+                shell.process.kill()
+            shell.close()
+        if has_lock:
+            self.lock.release()
+        self.keeper.join(SECONDS_TO_CLOSE)

@@ -1,0 +1,120 @@
+// The scene as the server has it: from a whole, and from the events after it. Nothing here draws.
+
+import { goTo, timelineOf } from "./state.js";
+import { framesOf } from "./words.js";
+
+const EMPTY = { tables: [], children: [], resources: [], generations: [], free: [], tick: 0, undo: [], redo: [] };
+const ALL = ["forest", "tables", "values", "frames", "phases", "sessions", "all"];
+const BY_DELTA = {
+  spawned: ["forest", "tables", "values"], despawned: ["forest", "tables", "values"], shifted: ["tables", "values"],
+  cellset: ["values"], linked: ["forest", "values"], resourceset: ["values"],
+};
+
+export class Mirror {
+  constructor() {
+    const nothing = { kinds: [], frames: [], phases: [], sessions: [], older: 0, later: 0 };
+    this.take({ ...nothing, setup: false, text: null, shell: "here" });
+  }
+
+  get state() { return this.timeline.state; }
+  get kinds() { return this.timeline.kinds; }
+  get records() { return this.timeline.records; }
+  get position() { return this.timeline.position; }
+
+  // A frame keeps its number when older ones are no longer held.
+  numberOf(position) { return position + this.older; }
+
+  take(whole) {
+    this.timeline = timelineOf(whole.text ?? { ...EMPTY, kinds: whole.kinds });
+    const { frames, phases, sessions, setup, shell, older = 0, later = 0 } = whole;
+    Object.assign(this, { frames, phases, sessions, isSetup: setup, shell, older, later, known: null });
+    return new Set(ALL);
+  }
+
+  // Makes the change that an event tells, and says which parts of the page it may have changed.
+  apply(event) {
+    switch (event.sort) {
+      case "frame": return this.frame(event);
+      case "undo": return this.step(-1);
+      case "redo": return this.redo(event);
+      case "phases": this.phases = event.phases; return new Set(["phases"]);
+      case "sessions": this.sessions = event.sessions; return new Set(["sessions"]);
+      case "shell": this.shell = event.state; return new Set(["sessions"]);
+      case "whole": return this.take(event.scene);
+      default: return new Set();
+    }
+  }
+
+  frame({ session, words, record, dropped }) {
+    const { timeline, frames } = this;
+    this.forget(timeline.position);
+    this.later = 0;
+    timeline.records.length = timeline.position;
+    frames.length = timeline.position;
+    timeline.records.push(record);
+    frames.push({ session, words });
+    const touched = this.step(1);
+    if (dropped > 0) this.drop(dropped);
+    return touched;
+  }
+
+  redo({ dropped }) {
+    const touched = this.step(1);
+    if (dropped > 0) this.drop(dropped);
+    return touched;
+  }
+
+  drop(count) {
+    this.timeline.records.splice(0, count);
+    this.frames.splice(0, count);
+    this.timeline.position -= count;
+    this.older += count;
+    this.known = null;
+  }
+
+  step(by) {
+    const { timeline } = this;
+    const record = timeline.records[Math.min(timeline.position, timeline.position + by)];
+    goTo(timeline, timeline.position + by);
+    const touched = new Set(["frames"]);
+    for (const { op } of record.deltas) for (const name of BY_DELTA[op]) touched.add(name);
+    return touched;
+  }
+
+  // The positions behind the frames that name an entity. Those of the one that was asked for last are kept, so that a
+  // new frame costs no walk over the old ones.
+  framesOf(entity) {
+    if (this.known?.entity !== entity) this.known = { entity, upTo: 0, found: [] };
+    const { known, records } = this;
+    known.found.push(...framesOf(records.slice(known.upTo), entity).map((at) => at + known.upTo));
+    known.upTo = records.length;
+    return known.found;
+  }
+
+  forget(position) {
+    const { known } = this;
+    if (known === null || known.upTo <= position) return;
+    known.found = known.found.filter((at) => at <= position);
+    known.upTo = position;
+  }
+
+  kindNamed(name) {
+    return this.kinds.findIndex((kind) => kind[0] === name);
+  }
+
+  shapeOf(name) {
+    return this.kinds[this.kindNamed(name)]?.[1];
+  }
+
+  isLive(entity) {
+    return this.state.rows.has(entity);
+  }
+
+  // The newest frame of the past that despawned an entity, as its position, or 0.
+  despawnedBy(entity) {
+    let at = this.position;
+    const despawns = (delta) => delta.op === "despawned" && delta.entity === entity;
+    while (at > 0 && !this.records[at - 1].deltas.some(despawns)) at -= 1;
+    return at;
+  }
+}

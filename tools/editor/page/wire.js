@@ -1,0 +1,90 @@
+// The page's speech with the server: it joins as a session, sends lines, and hears events.
+
+const AGAIN_AFTER = 1000;
+// A browser keeps six connections to a server, and each tab that listens has one. So one that isn't looked at stops.
+const STOP_HIDDEN_AFTER = 30000;
+
+export class Wire {
+  // `joined` gets the answer to a join, `heard` each event, and `lost` says in words what is wrong, or null.
+  constructor({ joined, heard, lost }) {
+    Object.assign(this, { joined, heard, lost, session: null, after: 0, events: null, last: Promise.resolve() });
+    addEventListener("pagehide", () => this.leave());
+    addEventListener("pageshow", (event) => event.persisted && this.join());
+    document.addEventListener("visibilitychange", () => this.looked());
+  }
+
+  async post(path, body) {
+    const answer = await fetch(path, { method: "POST", body: JSON.stringify(body) });
+    if (!answer.ok) throw new Error((await answer.text()).trim() || `status ${answer.status}`);
+    return answer.json();
+  }
+
+  // Joins, as the session that this tab was before where that is free.
+  async join() {
+    const before = sessionStorage.getItem("session");
+    try {
+      const answer = await this.post("join", before === null ? {} : { session: Number(before) });
+      if (answer.refused !== undefined) return void this.lost(`${answer.refused}. Close one, and load this again.`);
+      this.session = answer.session;
+      this.after = answer.scene.sequence;
+      sessionStorage.setItem("session", answer.session);
+      this.lost(null);
+      this.joined(answer);
+      this.listen();
+    } catch (fault) {
+      this.again(fault);
+    }
+  }
+
+  again(fault) {
+    this.lost(`The server doesn't answer (${fault.message}). Where it was ended, begin it again by ./scene edit.`);
+    setTimeout(() => this.join(), AGAIN_AFTER);
+  }
+
+  listen() {
+    this.events?.close();
+    const events = new EventSource(`events?session=${this.session}&after=${this.after}`);
+    this.events = events;
+    events.addEventListener("open", () => this.lost(null));
+    events.addEventListener("message", (message) => this.hear(Number(message.lastEventId), message.data));
+    events.addEventListener("error", () => {
+      if (this.events !== events) return;
+      this.lost("The connection to the server is lost. Trying again.");
+      if (events.readyState !== EventSource.CLOSED) return;
+      this.events = null;
+      setTimeout(() => this.join(), AGAIN_AFTER);
+    });
+  }
+
+  // An event that can't be followed is a fault, after which all is asked for again.
+  hear(id, data) {
+    if (id <= this.after) return;
+    this.after = id;
+    try {
+      this.heard(JSON.parse(data));
+    } catch (fault) {
+      setTimeout(() => this.join());
+      throw fault;
+    }
+  }
+
+  // The lines go as one, after those that were sent before.
+  call(lines) {
+    const answer = this.last.then(() => this.post("call", { session: this.session, lines }));
+    this.last = answer.catch(() => {});
+    return answer;
+  }
+
+  leave() {
+    if (this.events === null) return;
+    this.events.close();
+    this.events = null;
+    navigator.sendBeacon("leave", JSON.stringify({ session: this.session }));
+  }
+
+  looked() {
+    clearTimeout(this.hiding);
+    if (document.hidden) this.hiding = setTimeout(() => this.leave(), STOP_HIDDEN_AFTER);
+    else if (this.events === null && this.session !== null) this.join();
+  }
+}

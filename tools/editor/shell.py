@@ -1,0 +1,95 @@
+"""The program's shell as a process: lines go in, and each is answered by a line of JSON (docs/SHELL.md, "JSON")."""
+import json
+import subprocess
+import threading
+from collections import deque
+
+from played_scene import Trouble
+
+SECONDS_TO_END = 5
+LINES_TOLD = 20
+
+
+class Gone(Exception):
+    """That the shell has ended, so that what became of the lines isn't known."""
+
+
+class Shell:
+    """A shell on a store. Threads of its own read what it says, so that no pipe is ever full while lines are sent.
+
+    `on_end(shell)` is told, in one of these threads, that it has ended."""
+
+    def __init__(self, program, store, on_end):
+        words = [program, "shell", "--json", "--store", str(store)]
+        pipe = subprocess.PIPE
+        try:
+            # In a session of its own an interrupt of the terminal doesn't reach it: the editor ends it.
+            self.process = subprocess.Popen(words, stdin=pipe, stdout=pipe, stderr=pipe, start_new_session=True)
+        except OSError as error:
+            raise Trouble(f"{program} can't be run: {error.strerror}") from None
+        self.on_end, self.said, self.has_ended = on_end, deque(), False
+        self.news, self.told = threading.Condition(), deque(maxlen=LINES_TOLD)
+        self.teller = threading.Thread(target=self.hear_trouble, daemon=True)
+        self.reader = threading.Thread(target=self.hear, daemon=True)
+        self.teller.start()
+        self.reader.start()
+
+    def hear(self):
+        for line in self.process.stdout:
+            # what was cut off by its end is no answer
+            if line.endswith(b"\n"):
+                with self.news:
+                    self.said.append(line)
+                    self.news.notify()
+        self.teller.join()
+        self.process.wait()
+        with self.news:
+            self.has_ended = True
+            self.news.notify_all()
+        self.on_end(self)
+
+    def hear_trouble(self):
+        """Keeps the last lines of standard error, but for those that tell bad lines, which are answered too."""
+        for line in self.process.stderr:
+            if not line.startswith(b"scene: line "):
+                self.told.append(line)
+
+    def next_line(self):
+        with self.news:
+            while not self.said:
+                if self.has_ended:
+                    raise Gone
+                self.news.wait()
+            return self.said.popleft()
+
+    def ask(self, lines):
+        """The answers to lines, which go in one write."""
+        try:
+            self.process.stdin.write("".join(f"{line}\n" for line in lines).encode())
+            self.process.stdin.flush()
+            return [json.loads(self.next_line()) for _ in lines]
+        except (OSError, ValueError):
+            # what is no JSON no shell has said
+            self.process.kill()
+            raise Gone from None
+
+    def end_words(self):
+        """Why it has ended, in words."""
+        told = [line.decode(errors="replace").rstrip("\n") for line in self.told]
+        fault = next((line for line in told if line.startswith("scene: fault ")), told[-1] if told else "")
+        status = self.process.returncode
+        how = f"was killed by signal {-status}" if status < 0 else f"ended with status {status}"
+        return f"the shell {how}" + (f": {fault}" if fault else "")
+
+    def close(self):
+        """Ends it by the end of its input, or else by force."""
+        try:
+            self.process.stdin.close()
+        except OSError:
+            pass
+        try:
+            self.process.wait(SECONDS_TO_END)
+        except subprocess.TimeoutExpired:
+            self.process.kill()
+            self.process.wait()
+        self.reader.join(SECONDS_TO_END)

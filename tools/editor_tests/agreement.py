@@ -1,0 +1,72 @@
+"""Holds what the page shows to what the store has, worked out from `dumpall` apart from the page's scripts."""
+import json
+
+
+def value_text(shape, value):
+    if shape == "Text":
+        return json.dumps(value, ensure_ascii=False)
+    return ",".join(map(str, value)) if shape == "Vec3" else str(value)
+
+
+def cell_text(name, shape, value):
+    return name if shape == "Tag" else f"{name}={value_text(shape, value)}"
+
+
+def rows_of(scene):
+    """Of each entity its cells, as name, shape and value, by table and then by place."""
+    for table in sorted(scene["tables"], key=lambda table: sum(1 << kind for kind in table["kinds"])):
+        kinds = [scene["kinds"][kind] for kind in table["kinds"]]
+        for row in table["rows"]:
+            yield row["entity"], [(name, shape, cell[0]) for (name, shape), cell in zip(kinds, row["cells"])]
+
+
+def forest_of(scene):
+    """The entities in the order of the forest, each with its level and its cells as a line has them."""
+    texts = {entity: " ".join(cell_text(*cell) for cell in cells) for entity, cells in rows_of(scene)}
+    children = {each["parent"]: each["list"] for each in scene["children"]}
+    below = {child for each in children.values() for child in each}
+    left = [(root, 0) for root in sorted(set(texts) - below, key=lambda entity: int(entity.split("v")[0]))][::-1]
+    found = []
+    while left:
+        entity, level = left.pop()
+        found.append([entity, level, texts[entity]])
+        left += [(child, level + 1) for child in reversed(children.get(entity, []))]
+    return found
+
+
+def tables_of(scene):
+    """The rows of the tables, with the values that are written out: a Tag has none."""
+    return [
+        [entity, {name: value_text(shape, value) for name, shape, value in cells if shape != "Tag"}]
+        for entity, cells in rows_of(scene)
+    ]
+
+
+def assert_same(shown, wanted, what):
+    assert len(shown) == len(wanted), f"{what}: {len(shown)} lines are shown, and there are {len(wanted)}"
+    for at, (one, other) in enumerate(zip(shown, wanted)):
+        assert one == other, f"{what}, line {at}: the page shows {one}, and dumpall says {other}"
+
+
+def shown(person):
+    """All that a page shows of the scene, from the first line of each list to the last."""
+    return {
+        "forest": person.forest(),
+        "tables": [[entity, cells] for entity, cells in person.table_lines() if entity is not None],
+        "strip": person.lines("strip"),
+        "resources": " ".join(person.lines("resources")),
+    }
+
+
+def hold(seen, scene):
+    """What a page shows is the scene."""
+    assert_same(seen["forest"], forest_of(scene), "forest")
+    tags = {name for name, shape in scene["kinds"] if shape == "Tag"}
+    untagged = [[entity, {name: cells[name] for name in cells if name not in tags}] for entity, cells in seen["tables"]]
+    assert_same(untagged, tables_of(scene), "tables")
+    frames = len(scene["undo"]) + len(scene["redo"])
+    assert len(seen["strip"]) == frames + 1, f"the strip has {len(seen['strip'])} lines, and there are {frames} frames"
+    for resource in scene["resources"]:
+        shape, value = resource["cell"][:2]
+        text = "" if shape == "Tag" else value_text(shape, value)
+        assert resource["name"] in seen["resources"] and text in seen["resources"], f"{resource}: {seen['resources']}"

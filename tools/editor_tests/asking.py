@@ -1,0 +1,83 @@
+"""Asks the server of an editor as a page would, and as who may not ask."""
+import http.client
+import json
+from urllib.parse import urlsplit
+
+SECONDS = 60
+
+
+class Asker:
+    """A tab that speaks to the server of an address by HTTP."""
+
+    def __init__(self, address):
+        parts = urlsplit(address)
+        self.host, self.path = parts.netloc, parts.path
+        self.connection = http.client.HTTPConnection(self.host, timeout=SECONDS)
+        self.session, self.scene = None, None
+
+    def ask(self, method, name, body=None, headers=None, path=None):
+        """The status, the headers and the content of an answer."""
+        text = body if body is None or isinstance(body, bytes) else json.dumps(body).encode()
+        self.connection.request(method, (self.path if path is None else path) + name, text, headers or {})
+        answer = self.connection.getresponse()
+        return answer.status, answer.headers, answer.read()
+
+    def post(self, name, body):
+        status, _, content = self.ask("POST", name, body)
+        assert status == 200, (name, status, content)
+        return json.loads(content)
+
+    def join(self):
+        answer = self.post("join", {})
+        self.session, self.scene = answer.get("session"), answer.get("scene")
+        return answer
+
+    def call(self, *lines):
+        """The answers to lines, or None where the shell was gone."""
+        return self.post("call", {"session": self.session, "lines": list(lines)}).get("answers")
+
+    def told(self, *lines):
+        return [answer["answer"] for answer in self.call(*lines)]
+
+    def text(self):
+        """The scene, as the program prints it."""
+        return self.call("dumpall")[0]["text"]
+
+    def events(self, after=0, headers=None):
+        return Stream(self, after, headers)
+
+    def close(self):
+        self.connection.close()
+
+
+class Stream:
+    """A stream of events."""
+
+    def __init__(self, asker, after, headers=None):
+        self.connection = http.client.HTTPConnection(asker.host, timeout=SECONDS)
+        query = f"events?session={asker.session}&after={after}"
+        self.connection.request("GET", asker.path + query, headers=headers or {})
+        self.answer = self.connection.getresponse()
+        assert self.answer.status == 200, (self.answer.status, self.answer.read())
+
+    def next(self):
+        """The number and the data of the next event."""
+        parts = {}
+        while True:
+            line = self.answer.readline().decode()
+            assert line, "the stream has ended"
+            name, _, text = line.rstrip("\n").partition(": ")
+            parts[name] = text
+            if line == "\n" and "data" in parts:
+                return int(parts["id"]), json.loads(parts["data"])
+
+    def until(self, *sorts):
+        """The events up to the first of these sorts, which is the last."""
+        found = [self.next()[1]]
+        while found[-1]["sort"] not in sorts:
+            found.append(self.next()[1])
+        return found
+
+    def close(self):
+        self.answer.close()
+        self.connection.close()

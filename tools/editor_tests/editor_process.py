@@ -1,0 +1,75 @@
+"""The editor's server as a process of its own, and what a store holds after it has ended."""
+import json
+import os
+import select
+import signal
+import subprocess
+import sys
+import tempfile
+from pathlib import Path
+
+TOP = Path(__file__).resolve().parent.parent.parent
+EDIT = TOP / "tools" / "editor" / "edit.py"
+LEVELS = TOP / "examples" / "levels"
+SECONDS = 60
+
+
+class EditorProcess:
+    """`scene edit` over a store. `with` ends it, and holds it to a good end."""
+
+    def __init__(self, program, store, script=None):
+        words = [sys.executable, "-B", str(EDIT), str(store), "--program", str(program)]
+        words += ["--from", str(script)] if script else []
+        self.told = tempfile.TemporaryFile()
+        self.process = subprocess.Popen(words, stdout=subprocess.PIPE, stderr=self.told)
+        is_ready = select.select([self.process.stdout], [], [], SECONDS)[0]
+        self.address = self.process.stdout.readline().decode().strip() if is_ready else ""
+        if not self.address.startswith("http://127.0.0.1:"):
+            self.process.terminate()
+            raise AssertionError(f"the editor began with {self.address!r}: {self.errors()}")
+
+    def __enter__(self):
+        return self
+
+    def __exit__(self, kind, error, trace):
+        self.process.send_signal(signal.SIGTERM)
+        try:
+            status = self.process.wait(timeout=10)
+        except subprocess.TimeoutExpired:
+            self.process.kill()
+            status = self.process.wait()
+        self.process.stdout.close()
+        if error is None:
+            assert status == 0, f"the editor ended with status {status}: {self.errors()}"
+        elif self.errors():
+            print(f"the editor told: {self.errors()}", file=sys.stderr)
+        self.told.close()
+
+    def errors(self):
+        self.told.seek(0)
+        return self.told.read().decode(errors="replace")
+
+    def shells(self):
+        """The processes of the shell that the server has begun."""
+        found = []
+        for stat in Path("/proc").glob("[0-9]*/stat"):
+            try:
+                parent = int(stat.read_text().rpartition(")")[2].split()[1])
+                words = (stat.parent / "cmdline").read_bytes().split(b"\0")
+            except (OSError, ValueError, IndexError):
+                continue
+            if parent == self.process.pid and b"shell" in words:
+                found.append(int(stat.parent.name))
+        return found
+
+    def kill_shell(self):
+        shells = self.shells()
+        assert len(shells) == 1, f"the server has {len(shells)} shells"
+        os.kill(shells[0], signal.SIGKILL)
+
+
+def saved(program, store):
+    """The scene that a store holds, as `dumpall` prints it."""
+    words = [str(program), "shell", "--json", "--store", str(store)]
+    ended = subprocess.run(words, input=b"dumpall\n", capture_output=True, check=True)
+    return json.loads(ended.stdout)["text"]

@@ -1,0 +1,123 @@
+"""Tabs as sessions, and their streams of events: seven at most, slow ones, those that are gone, and those that come
+again."""
+import sys
+import time
+from pathlib import Path
+
+TOOLS = Path(__file__).resolve().parent.parent
+sys.path[:0] = [str(TOOLS / "editor"), str(TOOLS)]
+
+from asking import Asker  # noqa: E402
+from editor_process import EditorProcess  # noqa: E402
+from events import MOST_BYTES, MOST_EVENTS, Events  # noqa: E402
+
+SCRIPT = "kind Name Text\nkind Health Int\nspawn Name=cat Health=9\n"
+MANY, LINES = 20_000, 300
+SECONDS_TO_FREE = 8
+
+
+def try_seven(editor):
+    """Seven tabs have a session each; one that leaves, or whose stream is closed, makes room."""
+    tabs = [Asker(editor.address) for _ in range(8)]
+    assert [tab.join().get("session") for tab in tabs] == [1, 2, 3, 4, 5, 6, 7, None]
+    assert tabs[7].join() == {"refused": "seven tabs are open at most"}
+    streams = {number: tabs[number - 1].events() for number in (1, 2)}
+    tabs[3].post("leave", {"session": 4})
+    assert tabs[7].join()["session"] == 4
+    # a session that has a stream is another tab's, and one that hasn't is had again
+    assert tabs[7].post("join", {"session": 2}) == {"refused": "seven tabs are open at most"}
+    assert tabs[7].post("join", {"session": 7})["session"] == 7
+    streams[2].close()
+    told = wait_for_sessions(streams[1], [1, 3, 4, 5, 6, 7])
+    assert 3 < told < SECONDS_TO_FREE, f"a session was free after {told:.1f} s"
+    assert tabs[7].post("join", {"session": 2})["session"] == 2
+    for number in range(1, 8):
+        tabs[0].post("leave", {"session": number})
+    streams[1].close()
+
+
+def wait_for_sessions(stream, wanted):
+    since = time.monotonic()
+    while stream.until("sessions")[-1]["sessions"] != wanted:
+        pass
+    return time.monotonic() - since
+
+
+def try_cursors(editor):
+    """A stream goes on behind a cursor, also by `Last-Event-ID`; one that is too old, or of no event, gets all."""
+    tab = Asker(editor.address)
+    begun = tab.join()["scene"]["sequence"]
+    tab.call("insert 0v1 Health=1", "insert 0v1 Health=2", "undo", "redo")
+    for stream in (tab.events(begun), tab.events(0, {"Last-Event-ID": str(begun)})):
+        found = [stream.next() for _ in range(4)]
+        assert [number for number, _ in found] == [begun + more for more in range(1, 5)], found
+        assert [event["sort"] for _, event in found] == ["frame", "frame", "undo", "redo"]
+        stream.close()
+    stream = tab.events(10**9)
+    number, whole = stream.next()
+    assert whole["sort"] == "whole" and number == whole["scene"]["sequence"] == begun + 4, number
+    stream.close()
+
+
+def try_kept_events():
+    """The last events alone are kept, by number and by size, and the last one whatever its size is."""
+    events = Events()
+    for number in range(MOST_EVENTS + 5):
+        events.add(str(number))
+    assert events.after(4, 0) is None and events.after(events.last + 1, 0) is None
+    kept = events.after(5, 0)
+    assert len(kept) == MOST_EVENTS and kept[0] == b"id: 6\ndata: 5\n\n" and events.after(events.last, 0) == []
+    for _ in range(3):
+        events.add("x" * (MOST_BYTES // 2))
+    assert len(events.after(events.last - 1, 0)) == 1 and events.after(events.last - 2, 0) is None
+    events.add("x" * (2 * MOST_BYTES))
+    assert len(events.after(events.last - 1, 0)) == 1
+
+
+def try_slow(editor):
+    """A tab that never reads its events holds nobody up, nor does a large call stop in a pipe."""
+    slow, quick = Asker(editor.address), Asker(editor.address)
+    slow.join()
+    begun = quick.join()["scene"]["sequence"]
+    unread = slow.events()
+    long = "x" * 500
+    answers = quick.told("begin", *[f"spawn Name={long}"] * MANY, "commit")
+    assert answers == ["ok", *["queued"] * MANY, "done"]
+    assert quick.told(*["show"] * 3) == ["world"] * 3
+    assert quick.told(*["spawn Health=1"] * LINES) == ["done"] * LINES
+    stream = quick.events(begun)
+    records = [stream.until("frame")[-1]["record"] for _ in range(LINES + 1)]
+    assert len(records[0]["deltas"]) == MANY and records[-1]["after"] == records[0]["after"] + LINES
+    unread.close()
+    stream.close()
+
+
+def try_together(editor):
+    """Two tabs at once: a refusal is told to who asked alone, a frame to both, and each has its own name in it."""
+    tabs = [Asker(editor.address) for _ in range(2)]
+    for tab in tabs:
+        tab.join()
+    streams = [tab.events(tabs[1].scene["sequence"]) for tab in tabs]
+    assert tabs[0].told("insert 0v9 Health=1") == ["refused"]
+    assert tabs[1].told("insert 0v1 Health=4") == ["done"]
+    assert tabs[0].told("undo") == ["undone"]
+    for stream in streams:
+        events = [event for event in (stream.next()[1] for _ in range(2))]
+        assert [(event["sort"], event["session"]) for event in events] == [
+            ("frame", tabs[1].session), ("undo", tabs[0].session)
+        ], events  # fmt: skip
+        assert events[0]["words"] == ["Health of 0v1 is 4"]
+        stream.close()
+
+
+def try_tabs(program, room):
+    script = room / "tabs.scene"
+    script.write_text(SCRIPT)
+    try_kept_events()
+    for tried in (try_seven, try_cursors, try_slow, try_together):
+        with EditorProcess(program, room / f"{tried.__name__}.db", script) as editor:
+            try:
+                tried(editor)
+            except AssertionError as error:
+                raise AssertionError(f"{tried.__name__}: {error}") from None
+    return f"seven tabs had a session each, and calls of {MANY:,} lines and a tab that never read stopped nobody"
