@@ -77,6 +77,11 @@ pub(crate) fn play_script<P: Performer>(
 {
     let mut reports = Reports::new(alloc);
     let mut player = Player::new(alloc);
-    play_lines(performer, &mut player, script, out, &mut reports)?;
-    Ok((player.into_hand()?, reports))
+    match play_lines(performer, &mut player, script, out, &mut reports) {
+        Ok(()) => Ok((player.into_hand()?, reports)),
+        Err(AllocError) => {
+            player.close();
+            Err(AllocError)
+        }
+    }
 }

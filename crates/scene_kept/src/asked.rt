@@ -64,7 +64,9 @@ pub(crate) fn answer_behind<P: Performer, N: Note>(
     ensures { OnOk result (string_bytes answer.new ≡ string_bytes answer.old ++ answer_text question.now text.now) }
 {
     let mut player = Player::new(alloc);
-    play_and_ask(performer, alloc, &mut player, notes, text, question, answer)
+    let over = play_and_ask(performer, alloc, &mut player, notes, text, question, answer);
+    player.close();
+    over
 }
 
 /// Adds the text of the world that the lines of a text lead to, as `show` prints it. It costs what the lines cost in a

@@ -207,5 +207,7 @@ pub fn write_log<P: Performer, W: Write>(
     writer: &mut W,
 ) -> Result<LogCounts, KeptLineFault> {
     let mut player = Player::new(alloc);
-    write_lines(performer, alloc, &mut player, text, writer)
+    let written = write_lines(performer, alloc, &mut player, text, writer);
+    player.close();
+    written
 }

@@ -73,7 +73,7 @@ pub fn run_shell_on<P: Performer, R: Read, W: Write, E: Write, K: Keep>(
         (player_after first_player (lines text.items)) result) }
 {
     let mut player = Player::new(alloc);
-    go_on(
+    let ended = go_on(
         performer,
         alloc,
         &mut player,
@@ -83,5 +83,7 @@ pub fn run_shell_on<P: Performer, R: Read, W: Write, E: Write, K: Keep>(
         reader,
         writer,
         errors,
-    )
+    );
+    player.close();
+    ended
 }

@@ -90,7 +90,7 @@ impl Player {
             Stage::Setting(setup) => match begin_asked(performer, self.alloc, setup, asked) {
                 Err(halt) => Err(halt),
                 Ok((state, answered)) => {
-                    self.stage = Stage::Playing(state);
+                    self.go_to(state);
                     match answered {
                         Ok(text) => Ok(text),
                         Err(AllocError) => Err(Halt::Begun),

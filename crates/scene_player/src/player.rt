@@ -5,7 +5,7 @@ ghost use Rattle.scene_script.specs.Script.{line_in};
 ghost use Rattle.scene_player.specs.Answer.{Says};
 ghost use Rattle.scene_player.specs.Changes.{changes, frame_is_open};
 ghost use Rattle.scene_player.specs.Play.{first_state, said_reply};
-ghost use Rattle.scene_player.specs.Player.{HaltsSetup, IsAnswered, Player as Reached, Tells, begun, first_player, halted, hand_of, limited_player, player_kinds, player_of, player_reply, player_said};
+ghost use Rattle.scene_player.specs.Player.{HaltsSetup, IsAnswered, Player as Reached, Playing, Tells, begun, first_player, halted, hand_of, limited_player, player_kinds, player_of, player_reply, player_said};
 ghost use Rattle.scene_player.specs.Setup.{setup_of};
 ghost use Rattle.scene_player.specs.declared.halt.Halt.TheVariants.{After, Begun};
 
@@ -21,6 +21,7 @@ use scene_kinds::Schema;
 use scene_script::{BadLine, Limit, Line, LineError, read_line};
 use scene_session::State;
 use std::alloc::{AllocError, Global};
+use std::mem;
 
 /// Where a player is.
 #[derive(Drop)]
@@ -70,6 +71,9 @@ fn begin<P: Performer>(
     let answered = answer(performer, alloc, &mut state, Ok(line));
     Ok((state, answered))
 }
+
+/// Drops what a stage has. Only here: a drop of a whole scene is dear to check wherever it is, and a move isn't.
+fn leave(_stage: Stage) {}
 
 /// What a line that ended the setup came to.
 fn after_begin(answered: Result<Answer, AllocError>) -> Result<Answer, Halt>
@@ -173,7 +177,7 @@ impl Player {
                 Ok(SetupAnswer::Ends(line)) => match begin(performer, self.alloc, setup, line) {
                     Err(halt) => Err(halt),
                     Ok((state, answered)) => {
-                        self.stage = Stage::Playing(state);
+                        self.go_to(state);
                         after_begin(answered)
                     }
                 },
@@ -220,6 +224,13 @@ impl Player {
         }
     }
 
+    /// Goes to the state behind the setup.
+    pub(crate) fn go_to(&mut self, state: PlayState)
+        ensures { player_of self.new ≡ Playing state }
+    {
+        leave(mem::replace(&mut self.stage, Stage::Playing(state)));
+    }
+
     /// Ends the setup, where it isn't over: what follows is as behind a line that ends it. It costs what that line costs.
     ///
     /// Halted only for want of memory: `Before`; `Lost`, where the kinds or the scene of the setup are lost.
@@ -232,7 +243,7 @@ impl Player {
             Stage::Setting(setup) => match setup.begin(self.alloc) {
                 Err(halt) => Err(halt),
                 Ok(state) => {
-                    self.stage = Stage::Playing(state);
+                    self.go_to(state);
                     Ok(())
                 }
             },
@@ -248,6 +259,13 @@ impl Player {
             Stage::Setting(_) => None,
             Stage::Playing(state) => state.hand.state(),
         }
+    }
+
+    /// Drops the player, as the end of its owner would. Who says it has the drop checked here, where it is dear, and not once
+    /// more in a crate of its own.
+    pub fn close(self) {
+        let Player { stage, .. } = self;
+        leave(stage);
     }
 
     /// The sessions as the lines so far leave them. A frame that is still open is dropped.

@@ -102,5 +102,7 @@ pub fn run_shell<P: Performer, R: Read, W: Write, E: Write>(
 {
     let ShellSettings { depth, style } = settings;
     let mut player = Player::with_depth(alloc, depth);
-    run_unkept(performer, alloc, &mut player, style, reader, writer, errors)
+    let ended = run_unkept(performer, alloc, &mut player, style, reader, writer, errors);
+    player.close();
+    ended
 }

@@ -1,7 +1,7 @@
-use Rattle.std.proofs.Common.{ap, subst}
+use Rattle.std.proofs.Common.{◌≡◌, IfErr, IfOk, ap, subst, sym}
 use Rattle.scene_player.specs.declared.setup_line.SetupAnswer.{SetupAnswer}
 use Rattle.scene_player.specs.Play.{setup_said}
-use Rattle.scene_player.specs.Player.{player_of, player_said, stage_of}
+use Rattle.scene_player.specs.Player.{Player, Tells, halted, player_of, player_said, stage_of}
 use Rattle.scene_player.specs.Setup.{AnswersSetup, setup_of}
 use Rattle.scene_player.proofs.PlayerLaws.{ends, given, still_halted}
 use Rattle.scene_player.proofs.player.Player.play_said.Goals as goal
@@ -29,6 +29,7 @@ returns-in-Ok-begin-clause-answer g c =
     let s = setup_of c.in-Setting.setup in
     let t = setup_of c.answer_setup.new.setup in
     let said = c.args.said in
+    subst (λ (y : Player). IfOk c.after_begin.result (λ a. Tells a y (player_said z said))) (sym c.go_to.ensures)
     (ends z s t said c.in-Ok-Ends.line c.in-Ok-begin.state c.in-Ok-begin.answered c.after_begin.result (ap stage_of c.in-Setting.is)
     (subst (λ (a : SetupAnswer). AnswersSetup s t said (setup_said s said) a) c.in-Ok-Ends.field-0-is c.in-Ok-Ends.ensures.answer)
     c.after_begin.ensures c.in-Ok-begin.ensures.begun).0
@@ -39,6 +40,7 @@ returns-in-Ok-begin-clause-halted g c =
     let s = setup_of c.in-Setting.setup in
     let t = setup_of c.answer_setup.new.setup in
     let said = c.args.said in
+    subst (λ (y : Player). IfErr c.after_begin.result (λ h. y ≡ halted h z (player_said z said).player)) (sym c.go_to.ensures)
     (ends z s t said c.in-Ok-Ends.line c.in-Ok-begin.state c.in-Ok-begin.answered c.after_begin.result (ap stage_of c.in-Setting.is)
     (subst (λ (a : SetupAnswer). AnswersSetup s t said (setup_said s said) a) c.in-Ok-Ends.field-0-is c.in-Ok-Ends.ensures.answer)
     c.after_begin.ensures c.in-Ok-begin.ensures.begun).1
