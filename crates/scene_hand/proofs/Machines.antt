@@ -1,6 +1,6 @@
 -- The machine and the answers of a hand are those of its state.
-use Rattle.std.proofs.Common.{◌≡◌, ◌≢◌, ◌<◌, ◌+◌, ℕ, List, [], ◌∷◌, ◌++◌, map, length, Result, Ok, Err, IfOk, IfErr, nat_lt, if◌then◌else◌, true, false, Bool, refl, sym, ap, subst, ◌∙◌, arith}
-use Rattle.std.proofs.lemmas.Bool.{lt-ltb}
+use Rattle.std.proofs.Common.{◌≡◌, ◌≢◌, ◌<◌, ◌≤◌, ◌+◌, ℕ, List, [], ◌∷◌, ◌++◌, map, length, Result, Ok, Err, IfOk, IfErr, MatchResult, nat_lt, if◌then◌else◌, true, false, Bool, refl, sym, ap, subst, ◌∙◌, arith}
+use Rattle.std.proofs.lemmas.Bool.{lt-ltb, ltb-true}
 use Rattle.std.proofs.lemmas.List.{length-append, length-map, map-append}
 use Rattle.scene_kinds.specs.declared.fault.Fault.TheVariants.{HistoryFull, NoMemory}
 use Rattle.scene_kinds.specs.declared.refusal.Refusal.{Refusal}
@@ -13,7 +13,7 @@ use Rattle.scene_session.specs.declared.state.Beginning.{Beginning}
 use Rattle.scene_session.specs.Calls.{Answer, Asked, Refused, asked, told}
 use Rattle.scene_session.specs.History.{replay}
 use Rattle.scene_session.specs.Hand.{IsOnlyCall}
-use Rattle.scene_session.specs.State.{HasEntered, IsLegal, StateView, answer_after, replayed, stopping_at}
+use Rattle.scene_session.specs.State.{HasEntered, IsLegal, IsStopped, StateView, answer_after, replayed, stopping_at}
 use Rattle.scene_session.specs.Whole.{Whole, step, whole_of}
 use Rattle.scene_session.specs.Whole as whole
 use Rattle.scene_hand.specs.Hand.{HandState, entered, hand_of, machine_at, made, next, performed, whole_at, Tells}
@@ -37,6 +37,14 @@ machine_told h s is = ap (λ w. w.machine) (whole_told h s is)
 -- and the answer to a call
 answer_is : (o : Beginning) (h : List Entry) (n : ℕ) (a : Asked) → answer_after o h a ≡ (step (whole_at (hand_of (record { opening = o; history = h }) n)) a).1
 answer_is o h n a = ap (λ w. (step w a).1) (whole_is o h n)
+
+-- what is stopped for want of memory had room in the history
+pub had_room : (r : Refusal) (limit n : ℕ) → r ≡ stopping_at limit n → r.fault ≡ NoMemory → n < limit
+had_room r limit n is lack = by_room (nat_lt n limit) refl is
+  where
+    by_room : (b : Bool) → nat_lt n limit ≡ b → r ≡ (if b then refusal_of NoMemory else refusal_of (HistoryFull limit)) → n < limit
+    by_room true less same = ltb-true n limit less
+    by_room false more same = let full : r.fault ≡ HistoryFull limit = ap (λ (x : Refusal). x.fault) same in absurd (cc (lack, full))
 
 -- what is performed where a test says whether there is room
 abbrev performed_by : HandState → Asked → Bool → HandState × Answer
@@ -100,6 +108,21 @@ module _ (o : Beginning) (h : List Entry) (n : ℕ) where
       t.1.1 ∙ ap (stopping_at o.limit) (sym (length-map h made)),
     )
 
+    pub only_room : (r : Result Reply Stopped) → IsOnlyCall o n c h r after
+        → IfErr r (λ x. x.refusal.fault ≡ NoMemory → length H.history < H.limit)
+    only_room (Ok r) t = tt
+    only_room (Err x) t = had_room x.refusal o.limit (length (map made h)) (t.1.1 ∙ ap (stopping_at o.limit) (sym (length-map h made)))
+
+    -- what is entered had room, and takes it
+    pub only_where_room : (r : Result Reply Stopped) → IsOnlyCall o n c h r after → (room : ℕ) → room + length h ≡ o.limit → IfOk r (λ _. 1 ≤ room)
+    only_where_room (Ok r) t room left = let long = ap length t.0.1 ∙ length-append h (t.0.0 ∷ []) in let few = t.2.1 in omega (arith, long, few, left)
+    only_where_room (Err x) t room left = tt
+
+    pub only_takes_room : (r : Result Reply Stopped) → IsOnlyCall o n c h r after → (room next : ℕ) → room + length h ≡ o.limit
+        → MatchResult r (λ _. next + 1 ≡ room) (λ _. next ≡ room) → next + length after ≡ o.limit
+    only_takes_room (Ok r) t room next left less = let long = ap length t.0.1 ∙ length-append h (t.0.0 ∷ []) in omega (arith, long, left, less)
+    only_takes_room (Err x) t room next left same = let long = ap length t.0 in omega (arith, long, left, same)
+
 -- a call of a state that nobody shares
 pub alone_done : (before after : StateView) (n : ℕ) (c : Call) (r : Result Reply Stopped) → after.opening ≡ before.opening → IsLegal after.opening after.history
     → IfOk r (λ d. HasEntered before.history n c d after.history) → IfOk r (λ d. told d ≡ answer_after before.opening before.history (asked c))
@@ -108,3 +131,10 @@ alone_done before after n c (Ok d) same legal entered given =
     subst (λ (o : Beginning). performed (hand_of before n) (asked c) ≡ (hand_of (record { opening = o; history = after.history }) n, told d)) (sym same)
     (performed_done before.opening before.history n after.history c d entered given (subst (λ (o : Beginning). IsLegal o after.history) same legal))
 alone_done before after n c (Err x) same legal entered given = tt
+
+pub alone_room : (before after : StateView) (n : ℕ) (c : Call) (r : Result Reply Stopped)
+    → IfErr r (λ x. (after ≡ before) × IsStopped before.opening before.history c x)
+    → IfErr r (λ x. x.refusal.fault ≡ NoMemory → length (hand_of before n).history < before.opening.limit)
+alone_room before after n c (Ok d) t = tt
+alone_room before after n c (Err x) t = had_room x.refusal before.opening.limit (length (map made before.history))
+    (t.1.1 ∙ ap (stopping_at before.opening.limit) (sym (length-map before.history made)))

@@ -57,6 +57,7 @@ impl Alone {
         ensures full { IfErr result (λ x. x.refusal ≢ refusal_of NoMemory → performed self.old (asked call) ≡ (self.new, Refused x.refusal)) }
         ensures stopped { IfErr result (λ x. (self.new ≡ self.old) × (x.call ≡ call)
             × (x.refusal ≡ stopping_at self.old.limit (length self.old.history))) }
+        ensures room { IfErr result (λ x. x.refusal.fault ≡ NoMemory → length self.old.history < self.old.limit) }
     {
         self.state.perform(self.session, call)
     }
@@ -73,6 +74,7 @@ impl Alone {
         ensures full { IfErr result (λ x. x.refusal ≢ refusal_of NoMemory → performed self.old (asked call) ≡ (self.new, Refused x.refusal)) }
         ensures stopped { IfErr result (λ x. (self.new ≡ self.old) × (x.call ≡ call)
             × (x.refusal ≡ stopping_at self.old.limit (length self.old.history))) }
+        ensures room { IfErr result (λ x. x.refusal.fault ≡ NoMemory → length self.old.history < self.old.limit) }
     {
         self.state.perform_with(rt, self.session, call, workers)
     }

@@ -1,5 +1,5 @@
 //! Who performs the calls of a hand, and asks its queries.
-ghost use Rattle.std.specs.Prelude.{◌≡◌, ◌≢◌, ◌≤◌, IfOk, IfErr, IfSome};
+ghost use Rattle.std.specs.Prelude.{◌≡◌, ◌≢◌, ◌≤◌, ◌<◌, length, IfOk, IfErr, IfSome};
 ghost use Rattle.std.specs.Thread.{IsSync};
 ghost use Rattle.scene_kinds.specs.Answers.{refusal_of};
 ghost use Rattle.scene_kinds.specs.declared.fault.Fault.TheVariants.{NoMemory};
@@ -25,12 +25,12 @@ pub trait Performer {
     /// the editor as it was; where there are as many calls as may be, the reply is `Refused` with `HistoryFull` and the limit, and
     /// nothing is entered. It costs what the call costs, and over a lock some thirty loads of a word.
     ///
-    /// Where no memory is found, nothing is entered and the call is handed back.
+    /// Where no memory is found, nothing is entered and the call is handed back. It comes back only where there was room for it.
     fn perform(&self, alloc: Global, hand: &mut Hand, call: Call) -> Result<Reply, Call>
         requires few { queue_count call ≤ 4294967295 }
         requires sync { IsSync Self.Runtime.row }
         ensures done { IfOk result (λ reply. performed hand.old (asked call) ≡ (hand.new, told reply)) }
-        ensures back { IfErr result (λ back. (back ≡ call) × (hand.new ≡ hand.old)) };
+        ensures back { IfErr result (λ back. (back ≡ call) × (hand.new ≡ hand.old) × (length hand.old.history < hand.old.limit)) };
 
     /// Asks a query of the session whose turn it is: the answer is of the state with just these calls. It costs what the query
     /// costs, and over a lock some thirty loads of a word; it takes no memory but what the query takes.
@@ -98,10 +98,11 @@ impl Performer for ThisThread {
     type Runtime = ();
 
     fn perform(&self, _alloc: Global, hand: &mut Hand, call: Call) -> Result<Reply, Call> {
-        match &mut hand.seat {
-            Seat::Shared(_) => Err(call),
-            Seat::Alone(alone) => entered(alone.perform(call)),
-        }
+        let done = match &mut hand.seat {
+            Seat::Shared(shared) => Err(shared.turn_away(call)),
+            Seat::Alone(alone) => alone.perform(call),
+        };
+        entered(done)
     }
 
     fn ask<Q: Query>(&self, alloc: Global, hand: &mut Hand, query: &Q) -> Option<Q::Answer> {

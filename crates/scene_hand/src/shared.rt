@@ -1,5 +1,5 @@
 //! A hand over a lock: the passes of all its sessions.
-ghost use Rattle.std.specs.Prelude.{◌≡◌, ◌≢◌, ◌≤◌, ◌<◌, length, IfOk, IfErr};
+ghost use Rattle.std.specs.Prelude.{◌≡◌, ◌≢◌, ◌≤◌, ◌<◌, ◌+◌, length, IfOk, IfErr, MatchResult};
 ghost use Rattle.scene_kinds.specs.Answers.{refusal_of};
 ghost use Rattle.scene_kinds.specs.declared.fault.Fault.TheVariants.{NoMemory};
 ghost use Rattle.scene_session.specs.Calls.{Refused, asked, queue_count, told};
@@ -8,6 +8,7 @@ ghost use Rattle.scene_session.specs.Whole.{whole_of};
 ghost use Rattle.scene_hand.specs.Hand.{Tells, opening_hand, performed, with_session};
 ghost use Rattle.scene_hand.specs.Passes.{AreOf};
 
+use scene_kinds::{Fault, Refusal};
 use scene_lock::{Pass, WordLock};
 use scene_session::{Call, Query, Reply, State, Stopped, ask_in_hand, perform_in_hand};
 use scene_undo::Editor;
@@ -27,10 +28,14 @@ pub(crate) struct Shared {
     /// Each at the place that is its session.
     passes: Vec<Pass<State>>,
     session: u32,
+    /// How many calls there may be, and for how many more there is room. The state knows it too, but only who waits for the
+    /// lock sees it.
+    limit: u32,
+    room: u32,
 }
 
 impl Model for Shared {
-    ghost use Rattle.std.specs.Prelude.{◌<◌};
+    ghost use Rattle.std.specs.Prelude.{◌≡◌, ◌<◌, ◌+◌, length};
     ghost use Rattle.scene_hand.specs.Codes.{hand_code};
     ghost use Rattle.scene_hand.specs.Hand.{HandState, hand_of};
     ghost use Rattle.scene_hand.specs.Passes.{AreEight, first_seen};
@@ -41,7 +46,19 @@ impl Model for Shared {
 
     ghost view = { λ h. hand_of (record { opening = h.lock.terms.opening; history = first_seen h.passes.items }) h.session };
 
-    ghost invariant = { λ h. AreEight h.lock (first_seen h.passes.items) h.passes.items × (h.session < 8) };
+    ghost invariant = { λ h. AreEight h.lock (first_seen h.passes.items) h.passes.items × (h.session < 8)
+        × (h.limit ≡ h.lock.terms.opening.limit) × (h.room + length (first_seen h.passes.items) ≡ h.lock.terms.opening.limit) };
+}
+
+/// For how many calls more there is room after one that was tried.
+fn room_after(room: u32, reply: &Result<Reply, Stopped>) -> u32
+    requires { IfOk reply.now (λ _. 1 ≤ room) }
+    ensures { MatchResult reply.now (λ _. result + 1 ≡ room) (λ _. result ≡ room) }
+{
+    match reply {
+        Ok(_) => room - 1,
+        Err(_) => room,
+    }
 }
 
 impl Shared {
@@ -57,6 +74,8 @@ impl Shared {
             lock,
             passes,
             session: 0,
+            limit,
+            room: limit,
         })
     }
 
@@ -81,6 +100,7 @@ impl Shared {
         ensures full { IfErr result (λ x. x.refusal ≢ refusal_of NoMemory → performed self.old (asked call) ≡ (self.new, Refused x.refusal)) }
         ensures stopped { IfErr result (λ x. (self.new ≡ self.old) × (x.call ≡ call)
             × (x.refusal ≡ stopping_at self.old.limit (length self.old.history))) }
+        ensures room { IfErr result (λ x. x.refusal.fault ≡ NoMemory → length self.old.history < self.old.limit) }
     {
         let place = self.session as usize;
         let mut others = mem::replace(&mut self.passes, Vec::new(alloc));
@@ -90,7 +110,24 @@ impl Shared {
         );
         passes.swap(place, 7);
         self.passes = passes;
+        self.room = room_after(self.room, &reply);
         reply
+    }
+
+    /// Hands a call back that doesn't come to the state: since the history is full, or else as if no memory were found.
+    pub(crate) fn turn_away(&self, call: Call) -> Stopped
+        ensures stopped { (result.call ≡ call) × (result.refusal ≡ stopping_at self.now.limit (length self.now.history)) }
+        ensures room { result.refusal.fault ≡ NoMemory → length self.now.history < self.now.limit }
+    {
+        let fault = if self.room == 0 {
+            Fault::HistoryFull(self.limit)
+        } else {
+            Fault::NoMemory
+        };
+        Stopped {
+            refusal: Refusal::from(fault),
+            call,
+        }
     }
 
     /// Asks a query of the session whose turn it is, through its pass.

@@ -1,4 +1,4 @@
-use Rattle.std.proofs.Common.{sym, ap, subst, ◌∙◌, arith}
+use Rattle.std.proofs.Common.{◌≡◌, ◌+◌, List, length, sym, ap, subst, ◌∙◌, arith}
 use Rattle.std.specs.Global.{Vec}
 use Rattle.scene_lock.specs.Pass.{PassView}
 use Rattle.scene_session.specs.declared.entry.Entry.{Entry}
@@ -51,7 +51,12 @@ invariant_of-self g c =
     let given = only.1 in
     let back = put_back lock h ps eight s small pass others is left pass.seen (only.0) after.items given c.ask_in_hand-passes.ensures.each in
     let put = subst (AreEight lock pass.seen) (sym c.swap.ensures.items) back in
-    (subst (λ l. AreEight lock l c.swap.new.self.items) (sym (first_of lock pass.seen c.swap.new.self.items put)) put, small)
+    let seen = first_of lock pass.seen c.swap.new.self.items put in let same = (taken lock h ps eight s small pass others is left).1 in (
+      subst (λ l. AreEight lock l c.swap.new.self.items) (sym seen) put,
+      small,
+      c.self.invariant.2,
+      subst (λ (l : List Entry). c.self.inside.room + length l ≡ lock.terms.opening.limit) (sym (seen ∙ same)) c.self.invariant.3,
+    )
 
 pub returns-clause-same : goal.returns-clause-same
 returns-clause-same g c =

@@ -1,4 +1,4 @@
-use Rattle.std.proofs.Common.{◌≡◌, ◌≢◌, List, IfOk, IfErr, sym, subst, arith, length}
+use Rattle.std.proofs.Common.{◌≡◌, ◌≢◌, ◌<◌, ◌+◌, List, IfOk, IfErr, sym, subst, arith, length}
 use Rattle.std.specs.Global.{Vec}
 use Rattle.scene_kinds.specs.Answers.{refusal_of}
 use Rattle.scene_kinds.specs.declared.fault.Fault.TheVariants.{NoMemory}
@@ -10,7 +10,7 @@ use Rattle.scene_session.specs.Hand.{IsOnlyCall}
 use Rattle.scene_session.specs.State.{stopping_at}
 use Rattle.scene_hand.specs.Hand.{HandState, hand_of, performed}
 use Rattle.scene_hand.specs.Passes.{AreEight, first_seen}
-use Rattle.scene_hand.proofs.Machines.{only_done, only_full, only_stopped}
+use Rattle.scene_hand.proofs.Machines.{only_done, only_full, only_room, only_stopped, only_takes_room, only_where_room}
 use Rattle.scene_hand.proofs.Places.{are_all, after_long, first_of, put_back, taken, taken_session}
 use Rattle.scene_hand.proofs.shared.Shared.perform.Goals as goal
 
@@ -57,7 +57,16 @@ invariant_of-self g c =
     let given = only.2 in
     let back = put_back lock h ps eight s small pass others is left (only.0) (only.1) after.items given c.perform_in_hand-passes.ensures.each in
     let put = subst (AreEight lock (only.0)) (sym c.swap.ensures.items) back in
-    (subst (λ l. AreEight lock l c.swap.new.self.items) (sym (first_of lock (only.0) c.swap.new.self.items put)) put, small)
+    let seen = first_of lock (only.0) c.swap.new.self.items put in
+    let o = lock.terms.opening in let result = c.perform_in_hand-passes.result.1 in
+    let call = subst (λ n. IsOnlyCall o n c.args.call h result (only.0)) (taken_session lock h ps eight s small pass others is left)
+    (subst (λ l. IsOnlyCall o pass.session c.args.call l result (only.0)) (taken lock h ps eight s small pass others is left).1 only.3) in
+    let room = c.room_after-self-inside.result in let takes = only_takes_room o h s (only.0) c.args.call result call c.self.inside.room room c.self.invariant.3 c.room_after-self-inside.ensures in (
+      subst (λ l. AreEight lock l c.swap.new.self.items) (sym seen) put,
+      small,
+      c.self.invariant.2,
+      subst (λ (l : List Entry). room + length l ≡ o.limit) (sym seen) takes,
+    )
 
 pub returns-clause-done : goal.returns-clause-done
 returns-clause-done g c =
@@ -106,3 +115,28 @@ returns-clause-stopped g c =
     (subst (λ l. IsOnlyCall o pass.session c.args.call l result (only.0)) (taken lock h ps eight s small pass others is left).1 only.3) in
     subst (λ (b : HandState). IfErr result (λ x. (hand_of (record { opening = o; history = (first_seen c.swap.new.self.items) }) s ≡ b) × (x.call ≡ c.args.call) × (x.refusal ≡ stopping_at b.limit (length b.history)))) c.self.view_is
     (subst (λ (l : List Entry). IfErr result (λ x. (hand_of (record { opening = o; history = l }) s ≡ hand_of (record { opening = o; history = h }) s) × (x.call ≡ c.args.call) × (x.refusal ≡ stopping_at o.limit (length (hand_of (record { opening = o; history = h }) s).history)))) (sym seen) (only_stopped o h s (only.0) c.args.call result call))
+
+pub returns-clause-room : goal.returns-clause-room
+returns-clause-room g c =
+    let lock = c.self.inside.lock in let h = first_seen c.self.inside.passes.items in let s = c.self.inside.session in let small = c.self.invariant.1 in
+    let ps = c.replace-others.result.items in let pass = c.swap_remove-pass.result in let others = c.swap_remove-pass.new.self.items in
+    let eight = subst (λ (v : Vec P). AreEight lock h v.items) (sym c.replace-others.ensures.value) c.self.invariant.0 in
+    let is = c.swap_remove-pass.ensures.value in let left = c.swap_remove-pass.ensures.items in
+    let only = c.perform_in_hand-passes.ensures.only in let after = c.perform_in_hand-passes.result.0 in
+    let o = lock.terms.opening in let result = c.perform_in_hand-passes.result.1 in
+    let call = subst (λ n. IsOnlyCall o n c.args.call h result (only.0)) (taken_session lock h ps eight s small pass others is left)
+    (subst (λ l. IsOnlyCall o pass.session c.args.call l result (only.0)) (taken lock h ps eight s small pass others is left).1 only.3) in
+    subst (λ (b : HandState). IfErr result (λ x. x.refusal.fault ≡ NoMemory → length b.history < b.limit)) c.self.view_is
+    (only_room o h s (only.0) c.args.call result call)
+
+pub room_after-self-inside-requires : goal.room_after-self-inside-requires
+room_after-self-inside-requires g c =
+    let lock = c.self.inside.lock in let h = first_seen c.self.inside.passes.items in let s = c.self.inside.session in let small = c.self.invariant.1 in
+    let ps = c.replace-others.result.items in let pass = c.swap_remove-pass.result in let others = c.swap_remove-pass.new.self.items in
+    let eight = subst (λ (v : Vec P). AreEight lock h v.items) (sym c.replace-others.ensures.value) c.self.invariant.0 in
+    let is = c.swap_remove-pass.ensures.value in let left = c.swap_remove-pass.ensures.items in
+    let only = c.perform_in_hand-passes.ensures.only in let after = c.perform_in_hand-passes.result.0 in
+    let o = lock.terms.opening in let result = c.perform_in_hand-passes.result.1 in
+    let call = subst (λ n. IsOnlyCall o n c.args.call h result (only.0)) (taken_session lock h ps eight s small pass others is left)
+    (subst (λ l. IsOnlyCall o pass.session c.args.call l result (only.0)) (taken lock h ps eight s small pass others is left).1 only.3) in
+    only_where_room o h s (only.0) c.args.call result call c.self.inside.room c.self.invariant.3
