@@ -7,8 +7,8 @@
 # It prints nanoseconds of processor time of a call, by bench/calls.c with the library for C: of spawns in frames of one
 # and of ten, of undos and redos, of reads, and of writes in frames of ten. Each is the least of the runs, which take
 # turns. Where the program of crates/scene_session_bench is built, or SCENE_SESSION_BENCH names it, two columns have the
-# same work by its editor and its state, which enters calls as a scene of C does, and the last one how many times the
-# time of the state C takes.
+# same work by its editor and its state, which enters calls as a scene of C does, and the last two how many times the
+# time of each C takes.
 #
 # It needs python3, a C compiler, and what tools/library needs. bench/all.sh doesn't run it: there is no bound for it.
 set -euo pipefail
@@ -41,17 +41,19 @@ def once(words):
         sys.exit(f"{words}: status {status}")
     return 1e9 * (used.ru_utime + used.ru_stime)
 
-print(f"{'nanoseconds a call':26}{'C':>10}{'editor':>10}{'state':>10}{'factor':>8}", flush=True)
+BESIDE = ("editor", "state")
+titles = "".join(f"{by:>10}" for by in ("C", *BESIDE)) + "".join(f"{'/ ' + by:>10}" for by in BESIDE)
+print(f"{'nanoseconds a call':26}{titles}", flush=True)
 for work, name, each in WORKS:
     ways = {"C": [ours, work, count]}
     if beside and work in SHARED:
-        ways |= {by: [beside, work, by, count] for by in ("editor", "state")}
+        ways |= {by: [beside, work, by, count] for by in BESIDE}
     found = {by: [] for by in ways}
     for _ in range(runs):
         for by, words in ways.items():
             found[by].append(once(words))
     least = {by: min(times) / count / each for by, times in found.items()}
-    row = "".join(f"{least[by]:10.1f}" if by in least else f"{'-':>10}" for by in ("C", "editor", "state"))
-    factor = f"{least['C'] / least['state']:8.2f}" if "state" in least else f"{'-':>8}"
-    print(f"{name:26}{row}{factor}", flush=True)
+    row = "".join(f"{least[by]:10.1f}" if by in least else f"{'-':>10}" for by in ("C", *BESIDE))
+    factors = "".join(f"{least['C'] / least[by]:10.2f}" if by in least else f"{'-':>10}" for by in BESIDE)
+    print(f"{name:26}{row}{factors}", flush=True)
 P
