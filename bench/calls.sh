@@ -7,7 +7,7 @@
 # It prints nanoseconds of processor time of a call, by bench/calls.c with the library for C: of spawns in frames of one
 # and of ten, of undos and redos, of reads, and of writes in frames of ten. Each is the least of the runs, which take
 # turns. Where the program of crates/scene_session_bench is built, or SCENE_SESSION_BENCH names it, two columns have the
-# same work by its editor and its state, which enters calls as a scene of C does, and the last two how many times the
+# same work by its editor and its state, which keeps each call in its history, and the last two how many times the
 # time of each C takes.
 #
 # It needs python3, a C compiler, and what tools/library needs. bench/all.sh doesn't run it: there is no bound for it.

@@ -172,8 +172,8 @@ impl Desk {
         ensures { IfSome result (λ found. MatchResult found (λ c. component_of (world_of self.now) entity kind ≡ Ok (shown c))
             (λ r. component_of (world_of self.now) entity kind ≡ Err r)) }
     {
-        let state = self.player.state()?;
-        Some(state.editor().world().get(entity, kind))
+        let editor = self.player.editor()?;
+        Some(editor.world().get(entity, kind))
     }
 
     /// An entity that the frame made which was answered last, by its place from 0; `None` behind the last one.

@@ -49,5 +49,6 @@ pub use scene_streams::{Sink, Source};
 // Sessions: threads that share a scene, each through a pass of its own, and the queries that they ask.
 pub use scene_lock::{Pass, WordLock};
 pub use scene_session::{
-    AddedSince, Call, ChangedSince, CursorNow, Entry, Query, Reply, RowsOf, Session, State, Stopped,
+    AddedSince, Call, ChangedSince, CursorNow, EditorQuery, Entry, Query, Reply, RowsOf, Session,
+    State, Stopped,
 };

@@ -1,2 +1,3 @@
-pub mod Machines
+mod Bare
+mod Machines
 pub mod Places

@@ -1,5 +1,5 @@
--- The machine and the answers of a hand are those of its state.
-use Rattle.std.proofs.Common.{◌≡◌, ◌≢◌, ◌<◌, ◌≤◌, ◌+◌, ℕ, List, [], ◌∷◌, ◌++◌, map, length, Result, Ok, Err, IfOk, IfErr, MatchResult, nat_lt, if◌then◌else◌, true, false, Bool, refl, sym, ap, subst, ◌∙◌, arith}
+-- The machine and the answers of a hand over a lock are those of its state.
+use Rattle.std.proofs.Common.{◌≡◌, ◌≢◌, ◌<◌, ◌≤◌, ◌+◌, ℕ, List, [], ◌∷◌, ◌++◌, map, length, Result, Ok, Err, IfOk, IfErr, MatchResult, nat_lt, if◌then◌else◌, true, false, Bool, refl, sym, ap, ◌∙◌, arith}
 use Rattle.std.proofs.lemmas.Bool.{lt-ltb, ltb-true}
 use Rattle.std.proofs.lemmas.List.{length-append, length-map, map-append}
 use Rattle.scene_kinds.specs.declared.fault.Fault.TheVariants.{HistoryFull, NoMemory}
@@ -13,28 +13,20 @@ use Rattle.scene_session.specs.declared.state.Beginning.{Beginning}
 use Rattle.scene_session.specs.Calls.{Answer, Asked, Refused, asked, told}
 use Rattle.scene_session.specs.History.{replay}
 use Rattle.scene_session.specs.Hand.{IsOnlyCall}
-use Rattle.scene_session.specs.State.{HasEntered, IsLegal, IsStopped, StateView, answer_after, replayed, stopping_at}
+use Rattle.scene_session.specs.State.{HasEntered, IsLegal, answer_after, replayed, stopping_at}
 use Rattle.scene_session.specs.Whole.{Whole, step, whole_of}
 use Rattle.scene_session.specs.Whole as whole
-use Rattle.scene_hand.specs.Hand.{HandState, entered, hand_of, machine_at, made, next, performed, whole_at, Tells}
+use Rattle.scene_hand.specs.Hand.{HandState, entered, hand_of, made, next, performed, whole_at}
 
 -- the entries of a state lead where the calls lead that were made
 whole_replayed : (w : Whole) (es : List Entry) → replay whole.next w es ≡ replay next w (map made es)
 whole_replayed w [] = refl
 whole_replayed w (e ∷ es) = whole_replayed (whole.next w e) es
 
-whole_is : (o : Beginning) (h : List Entry) (n : ℕ) → replayed o h ≡ whole_at (hand_of (record { opening = o; history = h }) n)
+pub whole_is : (o : Beginning) (h : List Entry) (n : ℕ) → replayed o h ≡ whole_at (hand_of (record { opening = o; history = h }) n)
 whole_is o h n = whole_replayed (whole_of o.editor) h
 
--- the state that a hand tells is its whole
-pub whole_told : (h : HandState) (s : StateView) → Tells h s → replayed s.opening s.history ≡ whole_at h
-whole_told h s is = whole_is s.opening s.history h.session ∙ sym (ap whole_at is)
-
--- and so is the machine
-pub machine_told : (h : HandState) (s : StateView) → Tells h s → (replayed s.opening s.history).machine ≡ machine_at h
-machine_told h s is = ap (λ w. w.machine) (whole_told h s is)
-
--- and the answer to a call
+-- and so does the answer to a call
 answer_is : (o : Beginning) (h : List Entry) (n : ℕ) (a : Asked) → answer_after o h a ≡ (step (whole_at (hand_of (record { opening = o; history = h }) n)) a).1
 answer_is o h n a = ap (λ w. (step w a).1) (whole_is o h n)
 
@@ -122,19 +114,3 @@ module _ (o : Beginning) (h : List Entry) (n : ℕ) where
         → MatchResult r (λ _. next + 1 ≡ room) (λ _. next ≡ room) → next + length after ≡ o.limit
     only_takes_room (Ok r) t room next left less = let long = ap length t.0.1 ∙ length-append h (t.0.0 ∷ []) in omega (arith, long, left, less)
     only_takes_room (Err x) t room next left same = let long = ap length t.0 in omega (arith, long, left, same)
-
--- a call of a state that nobody shares
-pub alone_done : (before after : StateView) (n : ℕ) (c : Call) (r : Result Reply Stopped) → after.opening ≡ before.opening → IsLegal after.opening after.history
-    → IfOk r (λ d. HasEntered before.history n c d after.history) → IfOk r (λ d. told d ≡ answer_after before.opening before.history (asked c))
-    → IfOk r (λ d. performed (hand_of before n) (asked c) ≡ (hand_of after n, told d))
-alone_done before after n c (Ok d) same legal entered given =
-    subst (λ (o : Beginning). performed (hand_of before n) (asked c) ≡ (hand_of (record { opening = o; history = after.history }) n, told d)) (sym same)
-    (performed_done before.opening before.history n after.history c d entered given (subst (λ (o : Beginning). IsLegal o after.history) same legal))
-alone_done before after n c (Err x) same legal entered given = tt
-
-pub alone_room : (before after : StateView) (n : ℕ) (c : Call) (r : Result Reply Stopped)
-    → IfErr r (λ x. (after ≡ before) × IsStopped before.opening before.history c x)
-    → IfErr r (λ x. x.refusal.fault ≡ NoMemory → length (hand_of before n).history < before.opening.limit)
-alone_room before after n c (Ok d) t = tt
-alone_room before after n c (Err x) t = had_room x.refusal before.opening.limit (length (map made before.history))
-    (t.1.1 ∙ ap (stopping_at before.opening.limit) (sym (length-map before.history made)))

@@ -1,5 +1,5 @@
 -- What contracts see of a hand: the machine that its state began as, with its records, and the calls since, each with its answer.
-use Rattle.std.specs.Prelude.{◌≡◌, ◌++◌, ◌∷◌, [], ℕ, List, length, map, nat_lt, if◌then◌else◌}
+use Rattle.std.specs.Prelude.{◌++◌, ◌∷◌, [], ℕ, List, length, map, nat_lt, if◌then◌else◌}
 use Rattle.scene_kinds.specs.declared.fault.Fault.TheVariants.{HistoryFull}
 use Rattle.scene_kinds.specs.Answers.{refusal_of}
 use Rattle.scene_model.specs.World.{World}
@@ -60,7 +60,3 @@ made e = record { session = e.session; call = asked e.call; answer = told e.repl
 -- the hand of a state, where it is the turn of this session
 abbrev pub hand_of : StateView → ℕ → HandState
 hand_of s session = record { opening = whole_of s.opening.editor; limit = s.opening.limit; history = map made s.history; session = session }
-
--- a state that is the one in the hand
-abbrev pub Tells : HandState → StateView → Type 0
-Tells h s = h ≡ hand_of s h.session

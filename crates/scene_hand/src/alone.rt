@@ -1,45 +1,106 @@
-//! A hand without a lock: a state that no other thread can reach.
-ghost use Rattle.std.specs.Prelude.{◌≡◌, ◌≢◌, ◌≤◌, ◌<◌, length, IfOk, IfErr};
+//! A hand without a lock: an editor that no other thread can reach.
+ghost use Rattle.std.specs.Prelude.{◌≡◌, ◌≢◌, ◌≤◌, ◌<◌, ◌+◌, ◌++◌, ◌∷◌, [], length, IfOk, IfErr, MatchResult, Some, None};
 ghost use Rattle.scene_kinds.specs.Answers.{refusal_of};
-ghost use Rattle.scene_kinds.specs.declared.fault.Fault.TheVariants.{NoMemory};
+ghost use Rattle.scene_kinds.specs.declared.fault.Fault.TheVariants.{HistoryFull, NoMemory};
 ghost use Rattle.scene_session.specs.Calls.{Refused, asked, queue_count, told};
-ghost use Rattle.scene_session.specs.State.{StateView, stopping_at};
+ghost use Rattle.scene_session.specs.State.{stopping_at};
 ghost use Rattle.scene_session.specs.Whole.{whole_of};
-ghost use Rattle.scene_hand.specs.Hand.{Tells, opening_hand, performed, with_session};
+ghost use Rattle.scene_hand.specs.Hand.{opening_hand, performed, whole_at, with_session};
 
-use scene_session::{Call, Query, Reply, State, Stopped};
+use crate::log::Log;
+use scene_kinds::{Fault, Refusal};
+use scene_session::{Call, EditorQuery, Entry, Reply, Stopped, call_editor, call_editor_with};
 use scene_undo::Editor;
 use std::alloc::Global;
 use std::marker::Model;
+use std::snapshot::Snapshot;
 use std::thread::Threads;
 
-/// A state, and the session whose turn it is.
+/// An editor with the session whose turn it is, how many calls there may be, and for how many more there is room. Nobody can
+/// read the calls of such a hand, so it keeps none: clauses alone see them, and what the editor was before them.
 #[derive(Drop)]
 pub(crate) struct Alone {
-    state: State,
+    opening: Snapshot<Editor>,
+    log: Log,
+    editor: Editor,
     session: u32,
+    limit: u32,
+    room: u32,
 }
 
 impl Model for Alone {
+    ghost use Rattle.std.specs.Prelude.{◌≡◌, ◌+◌, length};
+    ghost use Rattle.scene_session.specs.History.{replay};
+    ghost use Rattle.scene_session.specs.Whole.{whole_of};
     ghost use Rattle.scene_hand.specs.Codes.{hand_code};
-    ghost use Rattle.scene_hand.specs.Hand.{HandState, hand_of};
+    ghost use Rattle.scene_hand.specs.Hand.{HandState, next};
 
     ghost Value = { HandState };
 
     ghost coded = { hand_code };
 
-    ghost view = { λ h. hand_of h.state h.session };
+    ghost view = { λ h. record { opening = whole_of h.opening.value; limit = h.limit; history = h.log.calls; session = h.session } };
+
+    ghost invariant = { λ h. (whole_of h.editor ≡ replay next (whole_of h.opening.value) h.log.calls)
+        × (h.room + length h.log.calls ≡ h.limit) };
+}
+
+/// Enters a call with its reply, which it gives. Where there is none, no memory was found: the call is handed back.
+fn enter(
+    log: &mut Log,
+    room: &mut u32,
+    session: u32,
+    call: Call,
+    reply: Option<Reply>,
+) -> Result<Reply, Stopped>
+    requires { 1 ≤ room.old }
+    ensures entered { IfOk result (λ r. (reply ≡ Some r)
+        × (log.new.calls ≡ log.old.calls ++ record { session = session; call = asked call; answer = told r } ∷ [])) }
+    ensures stopped { IfErr result (λ x. (reply ≡ None) × (log.new.calls ≡ log.old.calls) × (x.call ≡ call)
+        × (x.refusal ≡ refusal_of NoMemory)) }
+    ensures room { MatchResult result (λ _. room.new + 1 ≡ room.old) (λ _. room.new ≡ room.old) }
+{
+    match reply {
+        Some(reply) => {
+            let entry = Entry {
+                session,
+                call,
+                reply,
+            };
+            *log = log.and(&entry);
+            *room -= 1;
+            let Entry { reply, .. } = entry;
+            Ok(reply)
+        }
+        None => {
+            let refusal = Refusal::from(Fault::NoMemory);
+            Err(Stopped { refusal, call })
+        }
+    }
+}
+
+/// Hands back a call for which there is no room.
+fn turned_back(limit: u32, call: Call) -> Stopped
+    ensures { (result.call ≡ call) × (result.refusal ≡ refusal_of (HistoryFull limit)) }
+{
+    Stopped {
+        refusal: Refusal::from(Fault::HistoryFull(limit)),
+        call,
+    }
 }
 
 impl Alone {
-    /// A state of this editor, with no calls yet; it is the turn of session 0.
-    pub(crate) fn new(alloc: Global, editor: Editor, limit: u32) -> Alone
-        requires { (1 ≤ limit) × (limit ≤ 1048576) }
+    /// The hand of this editor, with no calls yet; it is the turn of session 0.
+    pub(crate) fn new(editor: Editor, limit: u32) -> Alone
         ensures { result ≡ opening_hand (whole_of editor) limit }
     {
         Alone {
-            state: State::new(alloc, editor, limit),
+            opening: Snapshot::of(&editor),
+            log: Log::new(),
+            editor,
             session: 0,
+            limit,
+            room: limit,
         }
     }
 
@@ -59,7 +120,11 @@ impl Alone {
             × (x.refusal ≡ stopping_at self.old.limit (length self.old.history))) }
         ensures room { IfErr result (λ x. x.refusal.fault ≡ NoMemory → length self.old.history < self.old.limit) }
     {
-        self.state.perform(self.session, call)
+        if self.room == 0 {
+            return Err(turned_back(self.limit, call));
+        }
+        let reply = call_editor(&mut self.editor, &call);
+        enter(&mut self.log, &mut self.room, self.session, call, reply)
     }
 
     /// The same, with the systems of an advance on as many threads as there are workers.
@@ -76,20 +141,31 @@ impl Alone {
             × (x.refusal ≡ stopping_at self.old.limit (length self.old.history))) }
         ensures room { IfErr result (λ x. x.refusal.fault ≡ NoMemory → length self.old.history < self.old.limit) }
     {
-        self.state.perform_with(rt, self.session, call, workers)
+        if self.room == 0 {
+            return Err(turned_back(self.limit, call));
+        }
+        let reply = call_editor_with(rt, &mut self.editor, &call, workers);
+        enter(&mut self.log, &mut self.room, self.session, call, reply)
     }
 
-    /// Asks a query of the state.
-    pub(crate) fn ask<Q: Query>(&self, alloc: Global, query: &Q) -> Q::Answer
-        ensures { (state : StateView) × Tells self.now state × Q.answers query.now state result }
+    /// Asks a question of the editor.
+    pub(crate) fn ask<Q: EditorQuery>(&self, alloc: Global, query: &Q) -> Q::Found
+        ensures { Q.finds query.now (whole_at self.now) result }
     {
-        query.answer(alloc, &self.state)
+        query.find(alloc, &self.editor)
     }
 
-    /// The state.
-    pub(crate) fn state(&self) -> &State
-        ensures { Tells self.now result.now }
+    /// The editor as it is after the calls.
+    pub(crate) fn editor(&self) -> &Editor
+        ensures { whole_of result.now ≡ whole_at self.now }
     {
-        &self.state
+        &self.editor
+    }
+
+    /// How many calls there were.
+    pub(crate) fn call_count(&self) -> u32
+        ensures { result ≡ length self.now.history }
+    {
+        self.limit - self.room
     }
 }

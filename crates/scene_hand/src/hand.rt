@@ -1,7 +1,7 @@
 //! The hand: all sessions of one state.
-ghost use Rattle.std.specs.Prelude.{◌≡◌, ◌≤◌, ◌<◌, IfOk, IfSome};
+ghost use Rattle.std.specs.Prelude.{◌≡◌, ◌≤◌, ◌<◌, length, IfOk, IfSome};
 ghost use Rattle.scene_session.specs.Whole.{whole_of};
-ghost use Rattle.scene_hand.specs.Hand.{Tells, opening_hand, with_session};
+ghost use Rattle.scene_hand.specs.Hand.{opening_hand, whole_at, with_session};
 ghost use Rattle.scene_hand.specs.Passes.{AreOf};
 
 use crate::alone::Alone;
@@ -12,16 +12,16 @@ use scene_undo::Editor;
 use std::alloc::{AllocError, Global};
 use std::marker::Model;
 
-/// Where the state of a hand is.
+/// Where the editor of a hand is.
 #[derive(Drop)]
 pub(crate) enum Seat {
-    /// Under a lock, whose passes are all here.
+    /// In a state under a lock, whose passes are all here.
     Shared(Shared),
     /// Here.
     Alone(Alone),
 }
 
-/// Eight sessions of one state in one hand: over a lock with all its passes, or over a state that has no lock, which no other
+/// Eight sessions of one state in one hand: over a lock with all its passes, or over an editor that has no lock, which no other
 /// thread can reach (docs/SESSIONS.md, "All in one hand"). A `Performer` performs its calls and asks its queries.
 ///
 /// Contracts see the machine that the state began as with its records, the greatest number of calls, the calls so far, and
@@ -58,13 +58,14 @@ impl Hand {
         })
     }
 
-    /// The same without a lock. `ThisThread` performs its calls. It takes no memory.
-    pub fn alone(alloc: Global, editor: Editor, limit: u32) -> Hand
+    /// The same without a lock. `ThisThread` performs its calls. It takes no memory, and its calls take none but what the editor
+    /// takes: it keeps their number alone, since nobody can read the calls of such a hand.
+    pub fn alone(editor: Editor, limit: u32) -> Hand
         requires { (1 ≤ limit) × (limit ≤ 1048576) }
         ensures { result ≡ opening_hand (whole_of editor) limit }
     {
         Hand {
-            seat: Seat::Alone(Alone::new(alloc, editor, limit)),
+            seat: Seat::Alone(Alone::new(editor, limit)),
         }
     }
 
@@ -79,13 +80,23 @@ impl Hand {
         }
     }
 
-    /// The state with just these calls, where there is no lock; `None` where there is one. It takes no memory.
-    pub fn state(&self) -> Option<&State>
-        ensures { IfSome result (λ state. Tells self.now state.now) }
+    /// How many calls there were. It takes no memory.
+    pub fn call_count(&self) -> u32
+        ensures { result ≡ length self.now.history }
+    {
+        match &self.seat {
+            Seat::Shared(shared) => shared.call_count(),
+            Seat::Alone(alone) => alone.call_count(),
+        }
+    }
+
+    /// The editor as it is after these calls, where there is no lock; `None` where there is one. It takes no memory.
+    pub fn editor(&self) -> Option<&Editor>
+        ensures { IfSome result (λ editor. whole_of editor.now ≡ whole_at self.now) }
     {
         match &self.seat {
             Seat::Shared(_) => None,
-            Seat::Alone(alone) => Some(alone.state()),
+            Seat::Alone(alone) => Some(alone.editor()),
         }
     }
 

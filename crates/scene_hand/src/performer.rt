@@ -4,13 +4,12 @@ ghost use Rattle.std.specs.Thread.{IsSync};
 ghost use Rattle.scene_kinds.specs.Answers.{refusal_of};
 ghost use Rattle.scene_kinds.specs.declared.fault.Fault.TheVariants.{NoMemory};
 ghost use Rattle.scene_session.specs.Calls.{Refused, asked, queue_count, told};
-ghost use Rattle.scene_session.specs.State.{StateView};
-ghost use Rattle.scene_hand.specs.Hand.{HandState, Tells, performed};
+ghost use Rattle.scene_hand.specs.Hand.{HandState, performed, whole_at};
 ghost use Rattle.scene_hand.specs.Performed.{Came};
 
 use crate::hand::{Hand, Seat};
 use scene_kinds::Fault;
-use scene_session::{Call, Query, Reply, Stopped};
+use scene_session::{Call, EditorQuery, Reply, Stopped};
 use std::alloc::Global;
 use std::sync::Wait;
 use std::thread::Threads;
@@ -32,13 +31,13 @@ pub trait Performer {
         ensures done { IfOk result (λ reply. performed hand.old (asked call) ≡ (hand.new, told reply)) }
         ensures back { IfErr result (λ back. (back ≡ call) × (hand.new ≡ hand.old) × (length hand.old.history < hand.old.limit)) };
 
-    /// Asks a query of the session whose turn it is: the answer is of the state with just these calls. It costs what the query
-    /// costs, and over a lock some thirty loads of a word; it takes no memory but what the query takes.
+    /// Asks a question of the editor, for the session whose turn it is: what is found is of the editor after just these calls. It
+    /// costs what the question costs, and over a lock some thirty loads of a word; it takes no memory but what the question takes.
     ///
-    /// `None` only from who can't reach the state.
-    fn ask<Q: Query>(&self, alloc: Global, hand: &mut Hand, query: &Q) -> Option<Q::Answer>
+    /// `None` only from who can't reach the editor.
+    fn ask<Q: EditorQuery>(&self, alloc: Global, hand: &mut Hand, query: &Q) -> Option<Q::Found>
         ensures same { hand.new ≡ hand.old }
-        ensures answer { IfSome result (λ a. (state : StateView) × Tells hand.old state × Q.answers query.now state a) };
+        ensures answer { IfSome result (λ a. Q.finds query.now (whole_at hand.old) a) };
 }
 
 /// Performs calls on this thread, and the systems of an advance on as many threads as there are workers, 1 to 16. A number below
@@ -86,7 +85,7 @@ impl<R: Threads + Wait + Sync> Performer for OnThreads<R> {
         entered(done)
     }
 
-    fn ask<Q: Query>(&self, alloc: Global, hand: &mut Hand, query: &Q) -> Option<Q::Answer> {
+    fn ask<Q: EditorQuery>(&self, alloc: Global, hand: &mut Hand, query: &Q) -> Option<Q::Found> {
         match &mut hand.seat {
             Seat::Shared(shared) => Some(shared.ask(&self.rt, alloc, query)),
             Seat::Alone(alone) => Some(alone.ask(alloc, query)),
@@ -105,7 +104,7 @@ impl Performer for ThisThread {
         entered(done)
     }
 
-    fn ask<Q: Query>(&self, alloc: Global, hand: &mut Hand, query: &Q) -> Option<Q::Answer> {
+    fn ask<Q: EditorQuery>(&self, alloc: Global, hand: &mut Hand, query: &Q) -> Option<Q::Found> {
         match &hand.seat {
             Seat::Shared(_) => None,
             Seat::Alone(alone) => Some(alone.ask(alloc, query)),

@@ -3,14 +3,14 @@ ghost use Rattle.std.specs.Prelude.{◌≡◌, ◌≢◌, ◌≤◌, ◌<◌, �
 ghost use Rattle.scene_kinds.specs.Answers.{refusal_of};
 ghost use Rattle.scene_kinds.specs.declared.fault.Fault.TheVariants.{NoMemory};
 ghost use Rattle.scene_session.specs.Calls.{Refused, asked, queue_count, told};
-ghost use Rattle.scene_session.specs.State.{StateView, stopping_at};
+ghost use Rattle.scene_session.specs.State.{stopping_at};
 ghost use Rattle.scene_session.specs.Whole.{whole_of};
-ghost use Rattle.scene_hand.specs.Hand.{Tells, opening_hand, performed, with_session};
+ghost use Rattle.scene_hand.specs.Hand.{opening_hand, performed, whole_at, with_session};
 ghost use Rattle.scene_hand.specs.Passes.{AreOf};
 
 use scene_kinds::{Fault, Refusal};
 use scene_lock::{Pass, WordLock};
-use scene_session::{Call, Query, Reply, State, Stopped, ask_in_hand, perform_in_hand};
+use scene_session::{Call, EditorQuery, Reply, State, Stopped, ask_in_hand, perform_in_hand};
 use scene_undo::Editor;
 use std::alloc::{AllocError, Global};
 use std::marker::Model;
@@ -130,10 +130,15 @@ impl Shared {
         }
     }
 
-    /// Asks a query of the session whose turn it is, through its pass.
-    pub(crate) fn ask<Q: Query, R: Wait>(&mut self, rt: &R, alloc: Global, query: &Q) -> Q::Answer
+    /// Asks a question of the editor, through the pass of the session whose turn it is.
+    pub(crate) fn ask<Q: EditorQuery, R: Wait>(
+        &mut self,
+        rt: &R,
+        alloc: Global,
+        query: &Q,
+    ) -> Q::Found
         ensures same { self.new ≡ self.old }
-        ensures answer { (state : StateView) × Tells self.old state × Q.answers query.now state result }
+        ensures answer { Q.finds query.now (whole_at self.old) result }
     {
         let place = self.session as usize;
         let mut others = mem::replace(&mut self.passes, Vec::new(alloc));
@@ -142,6 +147,13 @@ impl Shared {
         passes.swap(place, 7);
         self.passes = passes;
         answer
+    }
+
+    /// How many calls there were.
+    pub(crate) fn call_count(&self) -> u32
+        ensures { result ≡ length self.now.history }
+    {
+        self.limit - self.room
     }
 
     /// The lock, and the passes of its eight sessions, 0 first.

@@ -1,12 +1,11 @@
 -- The texts of answers as JSON.
-use Rattle.std.proofs.Common.{arith, ◌≡◌, ◌<◌, ◌≤◌, ◌+◌, ◌-◌, ℕ, List, [], ◌∷◌, ◌++◌, Result, Ok, Err, length, append_assoc, refl, ap, sym, ◌∙◌, subst}
+use Rattle.std.proofs.Common.{◌≡◌, ℕ, List, ◌++◌, Ok, Err, length, append_assoc, refl, ap, sym, ◌∙◌}
 use Rattle.std.specs.Prelude.{Bool, codes, decimal, nat_le, true, false, if◌then◌else◌}
 use Rattle.serde_json.proofs.OnLiterals.{serde_json_on_literals}
 use Rattle.serde_json.specs.Data.{Data, string}
 use Rattle.serde_json.specs.Written.{compact_text}
 use Rattle.scene_file.specs.Saving.{if_short}
 use Rattle.scene_forms.specs.Text.{entity_json, list_text}
-use Rattle.scene_forms.specs.declared.fault.FileFault.{FileFault}
 use Rattle.scene_forms.specs.declared.fault.FileFault.TheVariants.{TooLong}
 use Rattle.scene_kinds.specs.declared.entity.Entity.{Entity}
 use Rattle.scene_undo.specs.declared.cursor.Cursor.{Cursor}

@@ -1,14 +1,11 @@
 -- A line that asks the state for a text, as JSON.
 use Rattle.std.proofs.Common.{◌≡◌, ℕ, List, ◌++◌, Option, Some, None, Result, Ok, Err, IfOk, IfErr, OnOk, refl, sym, ap, ◌∙◌, subst}
 use Rattle.std.specs.Prelude.{is_some, if◌then◌else◌}
-use Rattle.scene_hand.specs.Hand.{HandState, Tells, whole_at}
-use Rattle.scene_hand.proofs.Machines.{whole_told}
+use Rattle.scene_hand.specs.Hand.{whole_at}
 use Rattle.scene_script.specs.declared.bad_line.BadLine.{BadLine}
 use Rattle.scene_script.specs.declared.script_line.Line.{Line}
 use Rattle.scene_script.specs.declared.script_line.Line.TheVariants.{Show, Get, Dump, DumpAll}
 use Rattle.scene_script.specs.Script.{line_in}
-use Rattle.scene_session.specs.State.{StateView, replayed}
-use Rattle.scene_session.specs.Whole.{Whole}
 use Rattle.scene_player.specs.declared.halt.Halt.{Halt}
 use Rattle.scene_player.specs.declared.json_question.StateJson.{StateJson}
 use Rattle.scene_player.specs.declared.play_state.PlayState.{PlayState}
@@ -18,17 +15,6 @@ use Rattle.scene_player.specs.JsonQuestion.{asked_json}
 use Rattle.scene_player.specs.OpenFrame.{Opened}
 use Rattle.scene_player.specs.Play.{SetupState, first_state, reply_within, said_reply, setup_kinds, setup_said}
 use Rattle.scene_player.specs.Player.{Player, Setting, Playing, begun, halted, hand_of, player_reply, set_or_begun}
-
--- what is asked of a state is told of the hand that it is
-asked_told : (h : HandState) (q : StateJson) (text : List ℕ)
-    → (s : StateView) × Tells h s × (text ≡ json_line (asked_json q (replayed s.opening s.history))) → text ≡ json_line (asked_json q (whole_at h))
-asked_told h q text t = t.2 ∙ ap (λ (w : Whole). json_line (asked_json q w)) (whole_told h t.0 t.1)
-
-pub asked_of : {A E : Type 0} (f : A → List ℕ) (h : HandState) (q : StateJson) (a : Result A E)
-    → (s : StateView) × Tells h s × IfOk a (λ x. f x ≡ json_line (asked_json q (replayed s.opening s.history)))
-    → IfOk a (λ x. f x ≡ json_line (asked_json q (whole_at h)))
-asked_of f h q (Ok x) t = asked_told h q (f x) t
-asked_of f h q (Err e) t = tt
 
 -- where no frame is open, a line that asks is no bad line, and leaves the state
 abbrev Leaves : PlayState → Result Line BadLine → Type 0

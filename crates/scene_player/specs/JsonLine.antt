@@ -1,5 +1,5 @@
 -- A line that is answered as JSON (docs/SHELL.md, "JSON").
-use Rattle.std.specs.Prelude.{◌≡◌, ℕ, List, ◌++◌, Option, Some, None, Result, Ok, Err, if◌then◌else◌}
+use Rattle.std.specs.Prelude.{◌≡◌, ℕ, List, ◌++◌, Option, Some, None, Result, Ok, if◌then◌else◌}
 use Rattle.scene_hand.specs.Hand.{whole_at}
 use Rattle.scene_script.specs.declared.bad_line.BadLine.{BadLine}
 use Rattle.scene_script.specs.declared.script_line.Line.{Line}

@@ -1,4 +1,4 @@
-//! What the lines of a script ask of the state as JSON.
+//! What the lines of a script ask of the editor as JSON.
 ghost use Rattle.std.specs.Prelude.{◌≡◌, ◌≢◌, ◌++◌, ◌∷◌, [], ℕ, List, OnOk, string_bytes};
 ghost use Rattle.serde_json.specs.Data.{Data};
 ghost use Rattle.serde_json.specs.Written.{compact_text};
@@ -9,13 +9,13 @@ ghost use Rattle.scene_player.specs.JsonQuestion.{asked_json, dump_json, dumpall
 
 use scene_file::{FileFault, save_editor_text, save_text};
 use scene_kinds::{Entity, Fault, Refusal};
-use scene_session::{Query, State};
+use scene_session::EditorQuery;
 use scene_show_json::{write_file_fault, write_refused, write_row, write_world};
 use scene_undo::Editor;
 use scene_world::World;
 use std::alloc::{AllocError, Global};
 
-/// A text of the state now, as a line of JSON.
+/// A text of the editor now, as a line of JSON.
 #[derive(Clone, Copy)]
 pub(crate) enum StateJson {
     /// The world.
@@ -112,19 +112,18 @@ fn write_asked(
     }
 }
 
-impl Query for StateJson {
-    type Answer = Result<String, AllocError>;
+impl EditorQuery for StateJson {
+    type Found = Result<String, AllocError>;
 
     ghost use Rattle.std.specs.Prelude.{◌≡◌, IfOk, string_bytes};
-    ghost use Rattle.scene_session.specs.State.{replayed};
     ghost use Rattle.scene_player.specs.JsonAnswer.{json_line};
     ghost use Rattle.scene_player.specs.JsonQuestion.{asked_json};
 
-    ghost answers = { λ q s a. IfOk a (λ text. string_bytes text ≡ json_line (asked_json q (replayed s.opening s.history))) };
+    ghost finds = { λ q w a. IfOk a (λ text. string_bytes text ≡ json_line (asked_json q w)) };
 
-    fn answer(&self, alloc: Global, state: &State) -> Result<String, AllocError> {
+    fn find(&self, alloc: Global, editor: &Editor) -> Result<String, AllocError> {
         let mut text = String::new(alloc);
-        write_asked(alloc, &mut text, state.editor(), *self)?;
+        write_asked(alloc, &mut text, editor, *self)?;
         text.push_str("\n")?;
         Ok(text)
     }

@@ -1,7 +1,8 @@
 //! The player: the lines of a script one at a time.
 ghost use Rattle.std.specs.Prelude.{◌≡◌, ◌≢◌, Ok, Err, IfOk, IfErr, IfSome, MatchResult, OnErr, OnOk, string_bytes};
-ghost use Rattle.scene_hand.specs.Hand.{Tells as IsOfHand};
+ghost use Rattle.scene_hand.specs.Hand.{whole_at};
 ghost use Rattle.scene_script.specs.Script.{line_in};
+ghost use Rattle.scene_session.specs.Whole.{whole_of};
 ghost use Rattle.scene_player.specs.Answer.{Says};
 ghost use Rattle.scene_player.specs.Changes.{changes, frame_is_open};
 ghost use Rattle.scene_player.specs.Play.{first_state, said_reply};
@@ -19,7 +20,7 @@ use crate::state_line::answer;
 use scene_hand::{Hand, Performer};
 use scene_kinds::Schema;
 use scene_script::{BadLine, Limit, Line, LineError, read_line};
-use scene_session::State;
+use scene_undo::Editor;
 use std::alloc::{AllocError, Global};
 use std::mem;
 
@@ -152,6 +153,34 @@ impl Player {
         }
     }
 
+    /// Plays what a line says to the setup, which it may end. It is here since a function pays at entry for the room of its locals:
+    /// a line behind the setup needs none of these.
+    fn set_said<P: Performer>(
+        &mut self,
+        performer: &P,
+        said: Result<Line, BadLine>,
+    ) -> Result<Answer, Halt>
+        ensures answer { IfOk result (λ answer. Tells answer (player_of self.new) (player_said (player_of self.old) said)) }
+        ensures halted { IfErr result (λ h. player_of self.new
+            ≡ halted h (player_of self.old) (player_said (player_of self.old) said).player) }
+        ensures undone { IfErr result (λ h. h ≢ After) }
+    {
+        let Stage::Setting(setup) = &mut self.stage else {
+            return Err(Halt::Before);
+        };
+        match answer_setup(self.alloc, setup, said) {
+            Err(AllocError) => Err(Halt::Before),
+            Ok(SetupAnswer::Given(answer)) => Ok(answer),
+            Ok(SetupAnswer::Ends(line)) => match begin(performer, self.alloc, setup, line) {
+                Err(halt) => Err(halt),
+                Ok((state, answered)) => {
+                    self.go_to(state);
+                    after_begin(answered)
+                }
+            },
+        }
+    }
+
     /// Plays what a line says, or why it is bad, as `play` does with the line: for callers that make a `Line` themselves. No text
     /// is read. `player_said` is its meaning, of which that of `play` is a case.
     ///
@@ -171,17 +200,7 @@ impl Player {
                 Ok(answer) => Ok(answer),
                 Err(AllocError) => Err(Halt::Before),
             },
-            Stage::Setting(setup) => match answer_setup(self.alloc, setup, said) {
-                Err(AllocError) => Err(Halt::Before),
-                Ok(SetupAnswer::Given(answer)) => Ok(answer),
-                Ok(SetupAnswer::Ends(line)) => match begin(performer, self.alloc, setup, line) {
-                    Err(halt) => Err(halt),
-                    Ok((state, answered)) => {
-                        self.go_to(state);
-                        after_begin(answered)
-                    }
-                },
-            },
+            Stage::Setting(_) => self.set_said(performer, said),
         }
     }
 
@@ -250,14 +269,14 @@ impl Player {
         }
     }
 
-    /// The state behind the setup of a player that is alone: its editor can be read without a copy. `None` in the setup, and
-    /// where a lock is over the state. It takes no memory.
-    pub fn state(&self) -> Option<&State>
-        ensures { IfSome result (λ state. IsOfHand (hand_of (player_of self.now)) state.now) }
+    /// The editor behind the setup of a player that is alone, to read without a copy. `None` in the setup, and where a lock is
+    /// over the editor. It takes no memory.
+    pub fn editor(&self) -> Option<&Editor>
+        ensures { IfSome result (λ editor. whole_of editor.now ≡ whole_at (hand_of (player_of self.now))) }
     {
         match &self.stage {
             Stage::Setting(_) => None,
-            Stage::Playing(state) => state.hand.state(),
+            Stage::Playing(state) => state.hand.editor(),
         }
     }
 

@@ -1,4 +1,4 @@
-//! What the lines of a script ask of the state.
+//! What the lines of a script ask of the editor.
 ghost use Rattle.std.specs.Prelude.{◌≡◌, ◌++◌, OnOk, string_bytes};
 ghost use Rattle.scene_session.specs.Whole.{whole_of};
 ghost use Rattle.scene_player.specs.Play.{dump_text, dumpall_text, get_text};
@@ -8,27 +8,11 @@ use crate::answer::write_refused;
 use crate::file_fault_text::answer_file_fault;
 use scene_file::{save_editor_text, save_text};
 use scene_kinds::{Entity, Fault, Refusal};
-use scene_session::{Query, State};
+use scene_session::EditorQuery;
 use scene_show::{write_row, write_show};
 use scene_undo::Editor;
 use scene_world::World;
 use std::alloc::{AllocError, Global};
-
-/// How many calls there were.
-#[derive(Clone, Copy)]
-pub(crate) struct CallCount;
-
-impl Query for CallCount {
-    type Answer = usize;
-
-    ghost use Rattle.std.specs.Prelude.{◌≡◌, length};
-
-    ghost answers = { λ q s count. count ≡ length s.history };
-
-    fn answer(&self, _alloc: Global, state: &State) -> usize {
-        state.history().len()
-    }
-}
 
 /// A text of the world now.
 #[derive(Clone, Copy)]
@@ -101,34 +85,32 @@ fn write_dumpall(alloc: Global, out: &mut String, editor: &Editor) -> Result<(),
     }
 }
 
-impl Query for EditorText {
-    type Answer = Result<String, AllocError>;
+impl EditorQuery for EditorText {
+    type Found = Result<String, AllocError>;
 
     ghost use Rattle.std.specs.Prelude.{◌≡◌, IfOk, string_bytes};
-    ghost use Rattle.scene_session.specs.State.{replayed};
     ghost use Rattle.scene_player.specs.Play.{dumpall_text};
 
-    ghost answers = { λ q s a. IfOk a (λ text. string_bytes text ≡ dumpall_text (replayed s.opening s.history)) };
+    ghost finds = { λ q w a. IfOk a (λ text. string_bytes text ≡ dumpall_text w) };
 
-    fn answer(&self, alloc: Global, state: &State) -> Result<String, AllocError> {
+    fn find(&self, alloc: Global, editor: &Editor) -> Result<String, AllocError> {
         let mut text = String::new(alloc);
-        write_dumpall(alloc, &mut text, state.editor())?;
+        write_dumpall(alloc, &mut text, editor)?;
         Ok(text)
     }
 }
 
-impl Query for WorldText {
-    type Answer = Result<String, AllocError>;
+impl EditorQuery for WorldText {
+    type Found = Result<String, AllocError>;
 
     ghost use Rattle.std.specs.Prelude.{◌≡◌, IfOk, string_bytes};
-    ghost use Rattle.scene_session.specs.Queries.{machine_at};
     ghost use Rattle.scene_player.specs.Questions.{asked_text};
 
-    ghost answers = { λ q s a. IfOk a (λ text. string_bytes text ≡ asked_text q (machine_at s).now) };
+    ghost finds = { λ q w a. IfOk a (λ text. string_bytes text ≡ asked_text q w.machine.now) };
 
-    fn answer(&self, alloc: Global, state: &State) -> Result<String, AllocError> {
+    fn find(&self, alloc: Global, editor: &Editor) -> Result<String, AllocError> {
         let mut text = String::new(alloc);
-        write_asked(alloc, &mut text, state.editor().world(), *self)?;
+        write_asked(alloc, &mut text, editor.world(), *self)?;
         Ok(text)
     }
 }

@@ -49,7 +49,7 @@ pub(crate) struct Setup {
     pub(crate) base: Base,
     pub(crate) calls: Limit,
     pub(crate) depth: Limit,
-    /// Whether the run begins with a state that has no lock.
+    /// Whether the run begins with an editor that has no lock.
     pub(crate) is_alone: bool,
 }
 
@@ -88,7 +88,7 @@ impl Setup {
         let editor = base.into_editor(alloc, self.depth.get());
         let calls = self.calls.get();
         if self.is_alone {
-            return Ok(Hand::alone(alloc, editor, calls));
+            return Ok(Hand::alone(editor, calls));
         }
         Hand::new(alloc, editor, calls)
     }

@@ -11,7 +11,7 @@ use crate::answer::{Answer, refused};
 use crate::frame_line::answer_in_frame;
 use crate::open_frame::OpenFrame;
 use crate::play_state::PlayState;
-use crate::question::{CallCount, EditorText, WorldText};
+use crate::question::{EditorText, WorldText};
 use crate::systems_line::{answer_advance, answer_clear, answer_phase, answer_system};
 use scene_commands::Command;
 use scene_hand::Performer;
@@ -129,18 +129,10 @@ fn answer_dumpall<P: Performer>(
 }
 
 /// `history`.
-fn answer_history<P: Performer>(
-    performer: &P,
-    alloc: Global,
-    state: &mut PlayState,
-) -> Result<Answer, AllocError>
-    ensures answer { IfOk result (λ answer. Says answer state.new (lone_reply state.old History)) }
-    ensures same { OnErr result (state.new ≡ state.old) }
+fn answer_history(state: &PlayState) -> Answer
+    ensures { Says result state.now (lone_reply state.now History) }
 {
-    match performer.ask(alloc, &mut state.hand, &CallCount) {
-        Some(count) => Ok(Answer::Counted(count)),
-        None => Err(AllocError),
-    }
+    Answer::Counted(state.hand.call_count() as usize)
 }
 
 /// `mark`.
@@ -225,7 +217,7 @@ fn answer_alone<P: Performer>(
         Line::Clear => Ok(answer_clear(state)),
         Line::Advance => answer_advance(performer, alloc, state),
         Line::As(session) => Ok(answer_as(state, session)),
-        Line::History => answer_history(performer, alloc, state),
+        Line::History => Ok(answer_history(state)),
         Line::Dump => answer_world(performer, alloc, state, WorldText::Dump),
         Line::DumpAll => answer_dumpall(performer, alloc, state),
     }

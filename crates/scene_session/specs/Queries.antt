@@ -1,4 +1,4 @@
--- What the given queries answer of a state.
+-- What the given queries find of a machine.
 use Rattle.std.specs.Prelude.{◌≡◌, ℕ, List, Result, Ok, Err, MatchResult}
 use Rattle.std.specs.Global.{Vec}
 use Rattle.scene_kinds.specs.declared.fault.Fault.TheVariants.{NoMemory}
@@ -22,5 +22,5 @@ ListsAfter list (Ok tick) answer = MatchResult answer (λ names. names.items ≡
 ListsAfter list (Err r) answer = answer ≡ Err r
 
 -- the cells of matching rows that a list of cells after a tick has, from the tick of a cursor on
-abbrev pub ListsSince : (World → Filter → ℕ → List CellName) → Cursor → Filter → StateView → Result (Vec CellName) Refusal → Type 0
-ListsSince list cursor filter s answer = ListsAfter (list (machine_at s).now filter) (since cursor (machine_at s)) answer
+abbrev pub ListsSince : (World → Filter → ℕ → List CellName) → Cursor → Filter → Machine World → Result (Vec CellName) Refusal → Type 0
+ListsSince list cursor filter m answer = ListsAfter (list m.now filter) (since cursor m) answer

@@ -1,9 +1,8 @@
 //! The queries that are given.
-use crate::query::Query;
-use crate::state::State;
+use crate::query::EditorQuery;
 use scene_kinds::{Refusal, Row};
 use scene_pass::{CellName, Filter, added_since, changed_since, rows};
-use scene_undo::Cursor;
+use scene_undo::{Cursor, Editor};
 use std::alloc::{AllocError, Global};
 
 /// The rows that a filter matches, by ascending kind set, then by their places in the table (docs/MODEL.md, "The rule of
@@ -11,17 +10,16 @@ use std::alloc::{AllocError, Global};
 #[derive(Clone, Copy)]
 pub struct RowsOf(pub Filter);
 
-impl Query for RowsOf {
-    type Answer = Result<Vec<Row>, AllocError>;
+impl EditorQuery for RowsOf {
+    type Found = Result<Vec<Row>, AllocError>;
 
     ghost use Rattle.std.specs.Prelude.{◌≡◌, IfOk};
     ghost use Rattle.scene_pass.specs.Pass.{matching_rows};
-    ghost use Rattle.scene_session.specs.Queries.{machine_at};
 
-    ghost answers = { λ q s a. IfOk a (λ rows. rows.items ≡ matching_rows (machine_at s).now q.0) };
+    ghost finds = { λ q w a. IfOk a (λ rows. rows.items ≡ matching_rows w.machine.now q.0) };
 
-    fn answer(&self, alloc: Global, state: &State) -> Result<Vec<Row>, AllocError> {
-        rows(alloc, state.editor().world(), self.0)
+    fn find(&self, alloc: Global, editor: &Editor) -> Result<Vec<Row>, AllocError> {
+        rows(alloc, editor.world(), self.0)
     }
 }
 
@@ -30,17 +28,16 @@ impl Query for RowsOf {
 #[derive(Clone, Copy)]
 pub struct CursorNow;
 
-impl Query for CursorNow {
-    type Answer = Cursor;
+impl EditorQuery for CursorNow {
+    type Found = Cursor;
 
     ghost use Rattle.std.specs.Prelude.{◌≡◌};
     ghost use Rattle.scene_undo.specs.Cursor.{cursor_of};
-    ghost use Rattle.scene_session.specs.Queries.{machine_at};
 
-    ghost answers = { λ q s cursor. cursor ≡ cursor_of (machine_at s) };
+    ghost finds = { λ q w cursor. cursor ≡ cursor_of w.machine };
 
-    fn answer(&self, _alloc: Global, state: &State) -> Cursor {
-        state.editor().cursor()
+    fn find(&self, _alloc: Global, editor: &Editor) -> Cursor {
+        editor.cursor()
     }
 }
 
@@ -50,16 +47,15 @@ impl Query for CursorNow {
 #[derive(Clone, Copy)]
 pub struct ChangedSince(pub Cursor, pub Filter);
 
-impl Query for ChangedSince {
-    type Answer = Result<Vec<CellName>, Refusal>;
+impl EditorQuery for ChangedSince {
+    type Found = Result<Vec<CellName>, Refusal>;
 
     ghost use Rattle.scene_pass.specs.Pass.{changed_since as changed_cells};
     ghost use Rattle.scene_session.specs.Queries.{ListsSince};
 
-    ghost answers = { λ q s a. ListsSince changed_cells q.0 q.1 s a };
+    ghost finds = { λ q w a. ListsSince changed_cells q.0 q.1 w.machine a };
 
-    fn answer(&self, alloc: Global, state: &State) -> Result<Vec<CellName>, Refusal> {
-        let editor = state.editor();
+    fn find(&self, alloc: Global, editor: &Editor) -> Result<Vec<CellName>, Refusal> {
         let tick = editor.since(self.0)?;
         Ok(changed_since(alloc, editor.world(), self.1, tick)?)
     }
@@ -71,16 +67,15 @@ impl Query for ChangedSince {
 #[derive(Clone, Copy)]
 pub struct AddedSince(pub Cursor, pub Filter);
 
-impl Query for AddedSince {
-    type Answer = Result<Vec<CellName>, Refusal>;
+impl EditorQuery for AddedSince {
+    type Found = Result<Vec<CellName>, Refusal>;
 
     ghost use Rattle.scene_pass.specs.Pass.{added_since as added_cells};
     ghost use Rattle.scene_session.specs.Queries.{ListsSince};
 
-    ghost answers = { λ q s a. ListsSince added_cells q.0 q.1 s a };
+    ghost finds = { λ q w a. ListsSince added_cells q.0 q.1 w.machine a };
 
-    fn answer(&self, alloc: Global, state: &State) -> Result<Vec<CellName>, Refusal> {
-        let editor = state.editor();
+    fn find(&self, alloc: Global, editor: &Editor) -> Result<Vec<CellName>, Refusal> {
         let tick = editor.since(self.0)?;
         Ok(added_since(alloc, editor.world(), self.1, tick)?)
     }

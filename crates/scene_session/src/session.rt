@@ -4,7 +4,7 @@ ghost use Rattle.scene_lock.specs.Pass.{IsPassOf};
 ghost use Rattle.scene_pass.specs.Pass.{changed_since as changed_cells};
 ghost use Rattle.scene_session.specs.declared.call.Call.TheVariants.{Submit, Advance, Undo, Redo};
 ghost use Rattle.scene_session.specs.Calls.{queue_count, told};
-ghost use Rattle.scene_session.specs.Queries.{ListsSince};
+ghost use Rattle.scene_session.specs.Queries.{ListsSince, machine_at};
 ghost use Rattle.scene_session.specs.Session.{IsSame, SeesMore, Performed, NotPerformed, WasBusy, state_seen};
 
 use crate::call::{Call, Reply, Stopped};
@@ -274,7 +274,7 @@ impl<'a> Session<'a> {
     ) -> (Session<'a>, Result<Vec<CellName>, Refusal>)
         ensures same { IsSame self.entry result.0 }
         ensures more { SeesMore self.entry result.0 }
-        ensures answer { ListsSince changed_cells cursor filter (state_seen result.0) result.1 }
+        ensures answer { ListsSince changed_cells cursor filter (machine_at (state_seen result.0)) result.1 }
     {
         self.ask(rt, alloc, &ChangedSince(cursor, filter))
     }

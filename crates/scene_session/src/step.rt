@@ -1,6 +1,6 @@
 //! A call on an editor, with its reply made twice: one for the caller, and one for the history. Both are made before the editor
-//! changes, so no call is done whose entry finds no memory.
-ghost use Rattle.std.specs.Prelude.{◌≡◌, ◌≢◌, ◌≤◌, length, IfSome, IfNone};
+//! changes, so no call is done whose entry finds no memory. `call_editor` is for who keeps no history, and gives one of them.
+ghost use Rattle.std.specs.Prelude.{◌≡◌, ◌≢◌, ◌≤◌, length, option_map, IfSome, IfNone};
 ghost use Rattle.scene_kinds.specs.Answers.{refusal_of};
 ghost use Rattle.scene_kinds.specs.declared.fault.Fault.TheVariants.{NoMemory};
 ghost use Rattle.scene_session.specs.declared.call.Reply.TheVariants.{Refused};
@@ -130,4 +130,44 @@ pub(crate) fn do_call_with<R: Threads + Sync>(
         Call::Advance(schedule) => advance(rt, editor, schedule, workers),
         _ => do_call(editor, call),
     }
+}
+
+/// The first of the two.
+fn one(replies: Option<(Reply, Reply)>) -> Option<Reply>
+    ensures { result ≡ option_map (λ p. p.0) replies }
+{
+    match replies {
+        Some((given, _)) => Some(given),
+        None => None,
+    }
+}
+
+/// Performs a call on an editor that is in no state, on this thread, and gives its reply (docs/SESSIONS.md, "All in one hand").
+/// What the editor refuses is told by the reply `Refused`, and leaves the editor as it was. It costs what the editor's own call
+/// costs.
+///
+/// `None` where no memory was found: then the editor is as it was.
+pub fn call_editor(editor: &mut Editor, call: &Call) -> Option<Reply>
+    requires { queue_count call.now ≤ 4294967295 }
+    ensures done { IfSome result (λ r. step (whole_of editor.old) (asked call.now) ≡ (whole_of editor.new, told r)) }
+    ensures none { IfNone result (editor.new ≡ editor.old) }
+{
+    one(do_call(editor, call))
+}
+
+/// Performs a call as `call_editor` does, with the systems of an advance on as many threads as there are workers, 1 to 16; a
+/// number below is taken as 1, and one above as 16. The reply is the same for every number.
+///
+/// `None` where no memory was found: then the editor is as it was.
+pub fn call_editor_with<R: Threads + Sync>(
+    rt: &R,
+    editor: &mut Editor,
+    call: &Call,
+    workers: usize,
+) -> Option<Reply>
+    requires { queue_count call.now ≤ 4294967295 }
+    ensures done { IfSome result (λ r. step (whole_of editor.old) (asked call.now) ≡ (whole_of editor.new, told r)) }
+    ensures none { IfNone result (editor.new ≡ editor.old) }
+{
+    one(do_call_with(rt, editor, call, workers))
 }

@@ -46,7 +46,7 @@ record AreListed (list : World → Filter → ℕ → List CellName) (old now : 
   listed : names.items ≡ list now f old.tick
 
 listed_at : (list : World → Filter → ℕ → List CellName) (s : StateView) (before : List Entry) (cursor : Cursor) (f : Filter) (names : Vec CellName)
-    → IsNew s.opening.editor → IsMoment s before cursor → ListsSince list cursor f s (Ok names) → AreListed list (world_after s before) (world_now s) f names
+    → IsNew s.opening.editor → IsMoment s before cursor → ListsSince list cursor f (machine_at s) (Ok names) → AreListed list (world_after s before) (world_now s) f names
 listed_at list s before cursor f names new moment is =
     let both = then_and_now s before moment.after new moment.begins in
     let told = answered (list (world_now s) f) cursor (machine_at s) names is in
@@ -116,7 +116,7 @@ list_apart tick_of Q old now f names n sound listed same =
     (same_cells (λ cell. old.tick < tick_of cell) Q now f n same))
 
 pub changed_told : (s : StateView) (before : List Entry) (cursor : Cursor) (f : Filter) (names : Vec CellName) (n : CellName)
-    → IsNew s.opening.editor → IsMoment s before cursor → ListsSince changed_since cursor f s (Ok names)
+    → IsNew s.opening.editor → IsMoment s before cursor → ListsSince changed_since cursor f (machine_at s) (Ok names)
     → Contains names.items n ↔ IsCellWhere (λ cell. component_of (world_after s before) n.entity n.kind ≢ Ok cell) (world_now s) f n
 changed_told s before cursor f names n new moment is =
     let l = listed_at changed_since s before cursor f names new moment is in
@@ -124,7 +124,7 @@ changed_told s before cursor f names n new moment is =
     l.sound_now l.listed (λ cell held. changed_apart (world_after s before) (world_now s) n.entity n.kind cell l.sound_old l.goes_on held)
 
 pub added_told : (s : StateView) (before : List Entry) (cursor : Cursor) (f : Filter) (names : Vec CellName) (n : CellName)
-    → IsNew s.opening.editor → IsMoment s before cursor → ListsSince added_since cursor f s (Ok names)
+    → IsNew s.opening.editor → IsMoment s before cursor → ListsSince added_since cursor f (machine_at s) (Ok names)
     → Contains names.items n ↔ IsCellWhere (λ cell. HasNoneAdded (world_after s before) n.entity n.kind cell.added) (world_now s) f n
 added_told s before cursor f names n new moment is =
     let l = listed_at added_since s before cursor f names new moment is in

@@ -4,8 +4,7 @@ use Rattle.scene_kinds.specs.declared.refusal.Refusal.{Refusal}
 use Rattle.scene_pass.specs.Pass.{added_since}
 use Rattle.scene_pass.specs.declared.cell_name.CellName.{CellName}
 use Rattle.scene_session.specs.Queries.{ListsSince}
-use Rattle.scene_session.specs.State.{StateView}
-use Rattle.scene_hand.specs.Hand.{Tells}
+use Rattle.scene_hand.specs.Hand.{machine_at}
 use Rattle.scene_player.proofs.QueryLaws.{since_refused}
 use Rattle.scene_player.proofs.state_line.answer_added.Goals as goal
 
@@ -14,6 +13,6 @@ returns-in-Some-Err-clause-answer g c =
     let s = c.args.state.now in
     since_refused (codes "added") added_since s c.all.result c.ask.new.hand c.in-Some-Err.refusal
     c.refused.result c.all.ensures.need c.all.ensures.without
-    (subst (λ (a : Result (Vec CellName) Refusal). (v : StateView) × Tells s.hand v × ListsSince added_since s.cursor c.all.result v a)
+    (subst (λ (a : Result (Vec CellName) Refusal). ListsSince added_since s.cursor c.all.result (machine_at s.hand) a)
     c.in-Some-Err.field-0-is c.in-Some-Err.ensures.answer)
     c.in-Some-Err.ensures.same c.refused.ensures.answer c.refused.ensures.memory

@@ -1,13 +1,12 @@
 use Rattle.std.proofs.Common.{IfSome, sym, ap, ◌∙◌, subst}
-use Rattle.scene_session.specs.State.{StateView}
-use Rattle.scene_hand.specs.Hand.{HandState, Tells}
+use Rattle.scene_hand.specs.Hand.{HandState, whole_at}
 use Rattle.scene_hand.specs.Seat.{seated}
 use Rattle.scene_hand.proofs.performer.OnThreadsPerformer.ask.Goals.{in-Shared, in-Alone}
 use Rattle.scene_hand.proofs.performer.OnThreadsPerformer.ask.Goals as goal
 
 pub returns-clause-answer : goal.returns-clause-answer
 returns-clause-answer g c =
-    let Answered : HandState → g.row.Q-Answer.Denot → Type 0 = λ h a. (x : StateView) × Tells h x × g.Q.Query.answers c.args.query.now x a in
+    let Answered : HandState → g.row.Q-Found.Denot → Type 0 = λ h a. g.Q.EditorQuery.finds c.args.query.now (whole_at h) a in
     elim c.match-hand.branch [
       | in-Shared w ↦ subst (λ r. IfSome r (Answered c.args.hand.now)) (sym w.result-is)
           (subst (λ (h : HandState). Answered h w.ask.result) (sym (ap seated w.in-Shared.is) ∙ c.hand.view_is) w.ask.ensures.answer)

@@ -3,8 +3,10 @@ use Rattle.std.specs.Global.{Vec}
 use Rattle.scene_lock.specs.Pass.{PassView}
 use Rattle.scene_session.specs.declared.entry.Entry.{Entry}
 use Rattle.scene_session.specs.declared.state.Beginning.{Beginning}
-use Rattle.scene_hand.specs.Hand.{hand_of}
+use Rattle.scene_session.specs.Whole.{Whole}
+use Rattle.scene_hand.specs.Hand.{hand_of, whole_at}
 use Rattle.scene_hand.specs.Passes.{AreEight, first_seen}
+use Rattle.scene_hand.proofs.Machines.{whole_is}
 use Rattle.scene_hand.proofs.Places.{are_all, after_long, first_of, put_back, taken}
 use Rattle.scene_hand.proofs.shared.Shared.ask.Goals as goal
 
@@ -77,8 +79,7 @@ returns-clause-answer g c =
     let ps = c.replace-others.result.items in let pass = c.swap_remove-pass.result in let others = c.swap_remove-pass.new.self.items in
     let eight = subst (λ (v : Vec P). AreEight lock h v.items) (sym c.replace-others.ensures.value) c.self.invariant.0 in
     let is = c.swap_remove-pass.ensures.value in let left = c.swap_remove-pass.ensures.items in
-    let same = (taken lock h ps eight s small pass others is left).1 in (
-      record { opening = lock.terms.opening; history = pass.seen },
-      sym c.self.view_is ∙ (λ i. hand_of (record { opening = lock.terms.opening; history = sym same i }) (c.self.view_is i).session),
-      c.ask_in_hand-passes.ensures.answer,
-    )
+    let o = lock.terms.opening in
+    let same = (taken lock h ps eight s small pass others is left).1 in
+    let now = whole_is o pass.seen s ∙ ap (λ l. whole_at (hand_of (record { opening = o; history = l }) s)) same ∙ ap whole_at c.self.view_is in
+    subst (λ (w : Whole). g.Q.EditorQuery.finds c.args.query.now w c.ask_in_hand-passes.result.1) now c.ask_in_hand-passes.ensures.answer

@@ -4,7 +4,7 @@ use Rattle.scene_player.specs.Play.{setup_said}
 use Rattle.scene_player.specs.Player.{Player, Tells, halted, player_of, player_said, stage_of}
 use Rattle.scene_player.specs.Setup.{AnswersSetup, setup_of}
 use Rattle.scene_player.proofs.PlayerLaws.{ends, given, still_halted}
-use Rattle.scene_player.proofs.player.Player.play_said.Goals as goal
+use Rattle.scene_player.proofs.player.Player.set_said.Goals as goal
 
 pub returns-in-Ok-Given-clause-answer : goal.returns-in-Ok-Given-clause-answer
 returns-in-Ok-Given-clause-answer g c =
@@ -23,24 +23,24 @@ returns-in-Err-begin-clause-halted g c =
     still_halted z (player_said z said).player s t (setup_of c.begin.new.setup) said c.in-Ok-Ends.line c.in-Err-begin.halt (ap stage_of c.in-Setting.is)
     (subst (λ (a : SetupAnswer). AnswersSetup s t said (setup_said s said) a) c.in-Ok-Ends.field-0-is c.in-Ok-Ends.ensures.answer) c.in-Err-begin.ensures.halted
 
-pub returns-in-Ok-begin-clause-answer : goal.returns-in-Ok-begin-clause-answer
-returns-in-Ok-begin-clause-answer g c =
+pub returns-in-Ok-clause-answer : goal.returns-in-Ok-clause-answer
+returns-in-Ok-clause-answer g c =
     let z = player_of c.args.self.now in
     let s = setup_of c.in-Setting.setup in
     let t = setup_of c.answer_setup.new.setup in
     let said = c.args.said in
     subst (λ (y : Player). IfOk c.after_begin.result (λ a. Tells a y (player_said z said))) (sym c.go_to.ensures)
-    (ends z s t said c.in-Ok-Ends.line c.in-Ok-begin.state c.in-Ok-begin.answered c.after_begin.result (ap stage_of c.in-Setting.is)
+    (ends z s t said c.in-Ok-Ends.line c.in-Ok.state c.in-Ok.answered c.after_begin.result (ap stage_of c.in-Setting.is)
     (subst (λ (a : SetupAnswer). AnswersSetup s t said (setup_said s said) a) c.in-Ok-Ends.field-0-is c.in-Ok-Ends.ensures.answer)
-    c.after_begin.ensures c.in-Ok-begin.ensures.begun).0
+    c.after_begin.ensures c.in-Ok.ensures.begun).0
 
-pub returns-in-Ok-begin-clause-halted : goal.returns-in-Ok-begin-clause-halted
-returns-in-Ok-begin-clause-halted g c =
+pub returns-in-Ok-clause-halted : goal.returns-in-Ok-clause-halted
+returns-in-Ok-clause-halted g c =
     let z = player_of c.args.self.now in
     let s = setup_of c.in-Setting.setup in
     let t = setup_of c.answer_setup.new.setup in
     let said = c.args.said in
     subst (λ (y : Player). IfErr c.after_begin.result (λ h. y ≡ halted h z (player_said z said).player)) (sym c.go_to.ensures)
-    (ends z s t said c.in-Ok-Ends.line c.in-Ok-begin.state c.in-Ok-begin.answered c.after_begin.result (ap stage_of c.in-Setting.is)
+    (ends z s t said c.in-Ok-Ends.line c.in-Ok.state c.in-Ok.answered c.after_begin.result (ap stage_of c.in-Setting.is)
     (subst (λ (a : SetupAnswer). AnswersSetup s t said (setup_said s said) a) c.in-Ok-Ends.field-0-is c.in-Ok-Ends.ensures.answer)
-    c.after_begin.ensures c.in-Ok-begin.ensures.begun).1
+    c.after_begin.ensures c.in-Ok.ensures.begun).1
