@@ -1,4 +1,5 @@
-//! Calls on the scene that a handle holds.
+//! Calls on the scene that a handle holds. Those of a line that is a value are inlined, so that each call of C pays for its own
+//! line alone.
 ghost use Rattle.std.specs.Prelude.{◌≡◌, ℕ, List, None};
 ghost use Rattle.scene_player.specs.Player.{player_reply};
 ghost use Rattle.scene_c.specs.Calls.{Asks, Gives, Plays, Spawns, says, untold};
@@ -41,6 +42,7 @@ pub(crate) fn tell(alloc: Global, scene: &mut Handle, line: Line) -> u32
 }
 
 /// Plays a line that is a value.
+#[inline(always)]
 pub(crate) fn say(alloc: Global, scene: &mut Handle, line: Line) -> u32
     ensures { Plays (says line) untold scene.old.value scene.new.value result }
 {
@@ -86,6 +88,7 @@ pub(crate) fn give(alloc: Global, scene: &mut Handle, given: Option<(u8, Value)>
 }
 
 /// Plays the line that some arguments name, if they name one.
+#[inline(always)]
 pub(crate) fn ask(alloc: Global, scene: &mut Handle, line: Option<Line>) -> u32
     ensures { Asks line scene.old.value scene.new.value result }
 {

@@ -68,6 +68,7 @@ pub(crate) fn tell_at(alloc: Global, desk: &mut Desk, line: Line) -> u32
 }
 
 /// Plays a line that is a value.
+#[inline(always)]
 pub(crate) fn say_at(desk: &mut Desk, line: Line) -> u32
     ensures played { Played desk.old desk.new (says line (player_of desk.old.player)) [] result }
     ensures cells { desk.new.cells.items ≡ desk.old.cells.items }

@@ -95,6 +95,7 @@ impl Desk {
     /// Plays a line that is a value, and keeps its answer without a text.
     ///
     /// Halted as `Player::play` is; then the last answer stays.
+    #[inline(always)]
     pub fn say(&mut self, line: Line) -> Result<(), Halt>
         ensures answer { OnOk result (Tells self.new.answer (player_of self.new.player) (player_said (player_of self.old.player) (Ok line))) }
         ensures text { OnOk result (string_bytes self.new.text ≡ []) }

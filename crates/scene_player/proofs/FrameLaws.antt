@@ -1,6 +1,6 @@
 -- A line where a frame is open, and where none is.
-use Rattle.std.proofs.Common.{◌≡◌, Option, Some, None, Ok, refl, sym, ap, ◌∙◌}
-use Rattle.std.specs.Prelude.{Err}
+use Rattle.std.proofs.Common.{◌≡◌, Option, Some, None, Ok, false, refl, sym}
+use Rattle.std.specs.Prelude.{Err, is_some}
 use Rattle.scene_script.specs.declared.script_line.Line.{Line}
 use Rattle.scene_script.specs.declared.script_line.Line.TheVariants.{Do}
 use Rattle.scene_kinds.specs.Answers.{Outcome}
@@ -9,10 +9,12 @@ use Rattle.scene_player.specs.OpenFrame.{Opened, with_command}
 use Rattle.scene_player.specs.Play.{with_frame, lone_reply, line_reply, queued_reply, frame_reply, reply_within}
 
 -- where no frame is open, the reply is the one outside a frame
-pub alone_within : (s : PlayState) (f : Option Opened) (line : Line) → s.frame ≡ None → f ≡ None
-    → lone_reply (with_frame s f) line ≡ line_reply s line
-alone_within s f line none after =
-    ap (λ g. lone_reply (with_frame s g) line) (after ∙ sym none) ∙ sym (ap (reply_within s line) none)
+pub alone_within : (s : PlayState) (line : Line) → is_some s.frame ≡ false → lone_reply s line ≡ line_reply s line
+alone_within s line none = by_frame s.frame none
+  where
+    by_frame : (f : Option Opened) → is_some f ≡ false → lone_reply s line ≡ reply_within s line f
+    by_frame None is = refl
+    by_frame (Some f) is = absurd (cc is)
 
 -- a frame that was taken out of the state is that of the state
 pub frame_taken : (s : PlayState) (f : Opened) (line : Line) → frame_reply (with_frame s None) f line ≡ frame_reply s f line

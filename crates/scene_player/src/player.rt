@@ -153,8 +153,9 @@ impl Player {
         }
     }
 
-    /// Plays what a line says to the setup, which it may end. It is here since a function pays at entry for the room of its locals:
-    /// a line behind the setup needs none of these.
+    /// Plays what a line says to the setup, which it may end. Only there is it called.
+    // A function pays at entry for the room of its locals, and a line behind the setup needs none of these.
+    #[inline(never)]
     fn set_said<P: Performer>(
         &mut self,
         performer: &P,
@@ -185,6 +186,7 @@ impl Player {
     /// is read. `player_said` is its meaning, of which that of `play` is a case.
     ///
     /// Halted as `play` is.
+    #[inline(always)]
     pub fn play_said<P: Performer>(
         &mut self,
         performer: &P,

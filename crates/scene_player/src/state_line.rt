@@ -38,6 +38,7 @@ pub(crate) fn answer_call_or_back<P: Performer>(
 }
 
 /// A call of the session whose turn it is.
+#[inline(always)]
 pub(crate) fn answer_call<P: Performer>(
     performer: &P,
     alloc: Global,
@@ -48,8 +49,8 @@ pub(crate) fn answer_call<P: Performer>(
     ensures answer { IfOk result (λ answer. Says answer state.new (call_reply state.old (asked call))) }
     ensures same { OnErr result (state.new ≡ state.old) }
 {
-    match answer_call_or_back(performer, alloc, state, call) {
-        Ok(answer) => Ok(answer),
+    match performer.perform(alloc, &mut state.hand, call) {
+        Ok(reply) => Ok(Answer::Replied(reply)),
         Err(_) => Err(AllocError),
     }
 }
@@ -188,6 +189,7 @@ fn answer_added<P: Performer>(
 }
 
 /// Answers a line behind the setup where no frame is open.
+#[inline(always)]
 fn answer_alone<P: Performer>(
     performer: &P,
     alloc: Global,
@@ -224,6 +226,7 @@ fn answer_alone<P: Performer>(
 }
 
 /// Answers a line behind the setup.
+#[inline(always)]
 fn answer_line<P: Performer>(
     performer: &P,
     alloc: Global,
@@ -233,6 +236,10 @@ fn answer_line<P: Performer>(
     ensures answer { IfOk result (λ answer. Says answer state.new (line_reply state.old line)) }
     ensures same { OnErr result (state.new ≡ state.old) }
 {
+    // Nothing is moved out where there is no frame.
+    if state.frame.is_none() {
+        return answer_alone(performer, alloc, state, line);
+    }
     match state.frame.take() {
         None => answer_alone(performer, alloc, state, line),
         Some(frame) => answer_in_frame(performer, alloc, state, frame, line),
@@ -240,6 +247,8 @@ fn answer_line<P: Performer>(
 }
 
 /// Answers what a line behind the setup says. Where no memory is found, the state is as it was.
+// It is inlined with what it calls: who names the line, as the calls of C do, then pays for that line alone.
+#[inline(always)]
 pub(crate) fn answer<P: Performer>(
     performer: &P,
     alloc: Global,
