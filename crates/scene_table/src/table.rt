@@ -14,7 +14,7 @@ use crate::columns::{
     put_cells, reserve_each, take_cells,
 };
 use crate::entities::move_entity;
-use scene_kinds::{Cell, CellRef, Cells, Entity, KindSet, Row, has_kind};
+use scene_kinds::{Cell, CellRef, Cells, Entity, KindSet, KindSetMethods, Row};
 use std::alloc::{AllocError, AllocFailed, Global};
 use std::marker::Model;
 
@@ -86,10 +86,9 @@ impl Table {
         self.entities.as_slice()
     }
 
-    /// The cells of a kind, in the order of the rows, or `None` where the table doesn't have that kind. Until the table
-    /// first had room the lists are empty. It costs a walk over the table's kinds.
+    /// The cells of a kind, in the order of the rows, or `None` where the table doesn't have that kind, as it has none
+    /// from 64 on. Until the table first had room the lists are empty. It costs a walk over the table's kinds.
     pub fn column(&self, kind: u8) -> Option<ColumnRef<'_>>
-        requires { kind < 64 }
         ensures none { IfNone result (has_kind self.now.mask kind ≡ false) }
         ensures some { IfSome result (λ column. has_kind self.now.mask kind ≡ true) }
         ensures cells { IfSome result (λ column. map (λ cell. Some cell) (cells_of column.values.now column.added.now column.changed.now)
@@ -97,7 +96,7 @@ impl Table {
         ensures lists { IfSome result (λ column. (length column.added.now ≡ length column.values.now)
             × (length column.changed.now ≡ length column.values.now)) }
     {
-        if !has_kind(self.mask, kind) {
+        if !self.mask.contains(kind) {
             return None;
         }
         match number_of(self.columns.as_slice(), kind) {

@@ -26,7 +26,7 @@ returns-in-Some-clause-cells c =
 pub returns-in-None-clause-cells : goal.returns-in-None-clause-cells
 returns-in-None-clause-cells c =
     let missed = c.in-None.ensures ∙ ap (λ t. position_from (λ (x : ColumnState). nat_eq c.args.kind x.kind) 0 t) c.as_slice.ensures.value in
-    let kept : c.has_kind.result ≡ true = search rules in
-    let has = sym c.has_kind.ensures ∙ kept in
+    let kept : c.contains.result ≡ true = search rules in
+    let has = sym c.contains.ensures ∙ kept in
     ap (λ (rows : List Row). cells_of_kind rows c.args.kind) (sym (rows_lack c.self.inside.mask c.self.inside.entities.items (vec_capacity c.self.inside.entities) c.self.inside.columns.items c.args.kind c.self.invariant (omega arith) has missed))
     ∙ ap (λ t. cells_of_kind t.rows c.args.kind) c.self.view_is
