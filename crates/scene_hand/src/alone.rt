@@ -84,7 +84,7 @@ fn turned_back(limit: u32, call: Call) -> Stopped
     ensures { (result.call ≡ call) × (result.refusal ≡ refusal_of (HistoryFull limit)) }
 {
     Stopped {
-        refusal: Refusal::from(Fault::HistoryFull(limit)),
+        refusal: Refusal::from(Fault::HistoryFull(u64::from(limit))),
         call,
     }
 }

@@ -120,7 +120,7 @@ impl Shared {
         ensures room { result.refusal.fault ≡ NoMemory → length self.now.history < self.now.limit }
     {
         let fault = if self.room == 0 {
-            Fault::HistoryFull(self.limit)
+            Fault::HistoryFull(u64::from(self.limit))
         } else {
             Fault::NoMemory
         };

@@ -26,3 +26,4 @@ pub use faults::faults_are_faults;
 pub use laws::{frames_are_records, records_come_back};
 pub use record::FrameRecord;
 pub use recorder::Recorder;
+pub use scene_deltas::{Delta, redo_delta, undo_delta};

@@ -26,8 +26,8 @@ pub enum Fault {
     Overflow(Entity),
     NothingToUndo,
     NothingToRedo,
-    /// The length of the history.
-    HistoryFull(u32),
+    /// How many calls there may be, which is how many there were.
+    HistoryFull(u64),
     /// The editor's count of rewinds now.
     Rewound(u64),
     Busy,

@@ -25,6 +25,7 @@ pub use entry::Entry;
 pub use given::{AddedSince, ChangedSince, CursorNow, RowsOf};
 pub use hand::{ask_in_hand, perform_in_hand};
 pub use query::{EditorQuery, Query};
+pub use scene_undo::Cursor;
 pub use session::Session;
 pub use state::{Beginning, State};
 pub use step::{call_editor, call_editor_with};

@@ -54,7 +54,7 @@ fn make_room(history: &mut Vec<Entry>, limit: u32) -> Result<(), Refusal>
     ensures stopped { IfErr result (λ r. r ≡ stopping_at limit (length history.old.items)) }
 {
     if history.len() >= limit as usize {
-        return Err(Refusal::from(Fault::HistoryFull(limit)));
+        return Err(Refusal::from(Fault::HistoryFull(u64::from(limit))));
     }
     history.reserve(1)?;
     Ok(())
