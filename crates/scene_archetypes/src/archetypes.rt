@@ -126,6 +126,18 @@ impl Archetypes {
         if other == entity { Some(home) } else { None }
     }
 
+    /// Makes room for the homes of this many indices. It fails only where that room isn't there yet and no memory was
+    /// found. The rows stay.
+    pub fn reserve_homes(&mut self, indices: usize) -> Result<(), AllocError>
+        ensures tables { self.new.tables ≡ self.old.tables }
+        ensures rooms { self.new.rooms ≡ self.old.rooms }
+        ensures room { OnOk result (indices ≤ self.new.homes) }
+        ensures there { indices ≤ self.old.homes → IsOk result }
+        ensures homes { self.old.homes ≤ self.new.homes }
+    {
+        grow_homes(&mut self.homes, indices)
+    }
+
     /// Makes room for one more row of a kind set, and for the homes of this many indices. It fails only where that room
     /// isn't there yet and no memory was found. The rows stay.
     pub fn reserve(&mut self, mask: KindSet, indices: usize) -> Result<(), AllocError>
@@ -135,7 +147,7 @@ impl Archetypes {
         ensures wide { IsWider self.old.rooms self.new.rooms }
         ensures homes { self.old.homes ≤ self.new.homes }
     {
-        grow_homes(&mut self.homes, indices)?;
+        self.reserve_homes(indices)?;
         self.tables.reserve(mask)
     }
 
@@ -247,9 +259,10 @@ impl Archetypes {
     }
 
     /// Where each entity's row stands, by the entity's index: `None` where the index is that of no row, as is each behind
-    /// the last.
+    /// the last. There is a home for each index for which one can be written.
     pub fn homes(&self) -> &[Option<Home>]
-        ensures { AreHomes self.now.tables result.now }
+        ensures are { AreHomes self.now.tables result.now }
+        ensures count { length result.now ≡ self.now.homes }
     {
         self.homes.as_slice()
     }
@@ -303,9 +316,11 @@ impl Archetypes {
         self.tables.kind_sets()
     }
 
-    /// Equal rows, or an error where no memory was found. It costs a copy of all rows.
+    /// Equal rows, with room for the homes of as many indices, or an error where no memory was found. It costs a copy of
+    /// all rows.
     pub fn try_clone(&self) -> Result<Archetypes, AllocError>
-        ensures { IfOk result (λ copy. copy.tables ≡ self.now.tables) }
+        ensures tables { IfOk result (λ copy. copy.tables ≡ self.now.tables) }
+        ensures homes { IfOk result (λ copy. copy.homes ≡ self.now.homes) }
     {
         let tables = self.tables.try_clone()?;
         let homes = copy_homes(*self.homes.allocator(), self.homes.as_slice())?;

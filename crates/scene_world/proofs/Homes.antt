@@ -1,5 +1,5 @@
 -- The homes by index are those of the live entities.
-use Rattle.std.proofs.Common.{◌≡◌, ◌∙◌, ℕ, zero, suc, ◌<◌, List, [], ◌∷◌, length, take, min, refl, ap, sym, arith, Option, Some, None}
+use Rattle.std.proofs.Common.{◌≡◌, ◌∙◌, ℕ, zero, suc, ◌<◌, List, [], ◌∷◌, length, take, refl, ap, sym, arith, Option, Some, None}
 use Rattle.std.specs.Prelude.{slice_get, slice_index}
 use Rattle.std.specs.Option.{option_flatten}
 use Rattle.std.proofs.lemmas.Option.{slice_get_within, get_or_from_slice_get}
@@ -26,7 +26,7 @@ from_first (y ∷ xs) zero i x h = absurd (let k : None ≡ Some x = h in cc)
 from_first (y ∷ xs) (suc n) zero x h = h
 from_first (y ∷ xs) (suc n) (suc i) x h = from_first xs n i x h
 
-module _ (w : World) (homes : List (Option Home)) (count i : ℕ) (v : IsValid w) (are : AreHomes w.tables homes) (all : count ≡ min (length w.slots.generations) (length homes)) where
+module _ (w : World) (homes : List (Option Home)) (count i : ℕ) (v : IsValid w) (are : AreHomes w.tables homes) (all : count ≡ length w.slots.generations) where
   abbrev here : Entity
   here = record { index = i; generation = slice_index w.slots.generations i }
 
@@ -36,7 +36,7 @@ module _ (w : World) (homes : List (Option Home)) (count i : ℕ) (v : IsValid w
       let k = home_found w.tables here h is in
       let at : slice_get homes i ≡ Some (Some h) = ap (slice_get homes) (sym (ap (λ (e : Entity). e.index) k.same)) ∙ are.kept h k.row k.there in
       let slot = slice_get_within w.slots.generations k.row.entity.index k.row.entity.generation (v.rows.each h k.row k.there).current in
-      let low : i < count = omega (arith, all, slice_get_within homes i (Some h) at, slot, ap (λ (e : Entity). e.index) k.same) in
+      let low : i < count = omega (arith, all, slot, ap (λ (e : Entity). e.index) k.same) in
       ap option_flatten (in_first homes count i low ∙ at)
 
   -- and what is listed is that of a live one

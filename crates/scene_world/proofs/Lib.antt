@@ -4,6 +4,7 @@ pub mod MadeRoom
 pub mod Onto
 pub mod Room
 pub mod Shifts
+pub mod SlotHomes
 pub mod BuiltLists
 pub mod BuiltNames
 pub mod BuiltRows

@@ -1,5 +1,5 @@
 //! The storage of a world, made of the lists of parts.
-ghost use Rattle.std.specs.Prelude.{◌≡◌, IfOk, OnOk};
+ghost use Rattle.std.specs.Prelude.{◌≡◌, ◌≤◌, IfOk, OnOk};
 ghost use Rattle.scene_links.specs.Forest.{with_children};
 ghost use Rattle.scene_parts.specs.Parts.{tables_of, forest_of, resources_of};
 ghost use Rattle.scene_parts.specs.Seen.{lists_seen, named_seen};
@@ -29,20 +29,22 @@ fn add_rows(
     Ok(())
 }
 
-/// The rows of tables, which have indices below `count`.
+/// The rows of tables, which have indices below `count`, with a home for each of these, though a slot may have no row.
 pub(crate) fn build_tables(
     alloc: Global,
     tables: Vec<(KindSet, Vec<Row>)>,
     count: usize,
 ) -> Result<Archetypes, AllocError>
     requires { AreStorable count (lists_seen tables.items) }
-    ensures { IfOk result (λ built. built.tables ≡ tables_of (lists_seen tables.items)) }
+    ensures tables { IfOk result (λ built. built.tables ≡ tables_of (lists_seen tables.items)) }
+    ensures homes { IfOk result (λ built. count ≤ built.homes) }
 {
     let mut tables = tables;
     let mut built = Archetypes::new(alloc);
     while let Some((mask, rows)) = tables.pop() {
         add_rows(&mut built, mask, rows, count)?;
     }
+    built.reserve_homes(count)?;
     Ok(built)
 }
 

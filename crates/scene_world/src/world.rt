@@ -68,12 +68,11 @@ impl Model for World {
     ghost coded = { Prim.hlevel (codes, shape.the_row.coded, map.code {R = nat_cmp} coded_ℕ (coded× row.the_row.coded (coded_list row.the_row.coded)), map.code {R = nat_cmp} coded_ℕ coded_ℕ, coded_list coded_ℕ, coded_list (coded_list coded_ℕ), map.code {R = entity_cmp} entity.the_row.coded (coded× entity.the_row.coded (coded_list entity.the_row.coded)), map.code {R = name_cmp} (coded_list coded_ℕ) cell.the_row.coded) };
 
     ghost use Rattle.scene_world.specs.Room.{room_of};
-    ghost use Rattle.scene_world.specs.Stored.{world_of};
-    ghost use Rattle.scene_model.specs.Valid.{IsValid};
+    ghost use Rattle.scene_world.specs.Stored.{world_of, AreSound};
 
     ghost view = { λ w. record { world = world_of w.schema w.slots w.tick w.tables.tables w.links.forest w.resources; room = room_of w.slots w.tables w.links w.resources } };
 
-    ghost invariant = { λ w. IsValid (world_of w.schema w.slots w.tick w.tables.tables w.links.forest w.resources) };
+    ghost invariant = { λ w. AreSound (world_of w.schema w.slots w.tick w.tables.tables w.links.forest w.resources) w.tables.homes };
 }
 
 impl World {
@@ -221,15 +220,13 @@ impl World {
     }
 
     /// Where the row of each live entity stands, by the entity's index: its kind set, in which kind k is bit k, and its
-    /// place in its table, from 0. An index that no live entity has gives `None`, and so does each behind the end of the
-    /// list, which is no longer than there are slots.
+    /// place in its table, from 0; `None` at an index that no live entity has. The list is as long as there are slots.
     pub fn homes(&self) -> &[Option<Home>]
         ensures each { (index : ℕ) → option_flatten (slice_get result.now index) ≡ home_of_index self.now.world index }
-        ensures few { length result.now ≤ length self.now.world.slots.generations }
+        ensures count { length result.now ≡ length self.now.world.slots.generations }
     {
         let homes = self.tables.homes();
-        let count = self.slots.len().min(homes.len());
-        &homes[..count]
+        &homes[..self.slots.len()]
     }
 
     /// The table of a kind set, in which kind k is bit k, or `None` where it has no rows.

@@ -1,4 +1,4 @@
-use Rattle.std.proofs.Common.{◌≡◌, [], ap, rules}
+use Rattle.std.proofs.Common.{◌≡◌, ◌∙◌, [], ap, rules}
 use Rattle.std.proofs.lemmas.List.{nil_from_length}
 use Rattle.scene_archetypes.specs.Archetypes.{ArchetypesState}
 use Rattle.scene_parts.specs.Seen.{lists_seen}
@@ -14,5 +14,7 @@ add_rows-requires c = built_can c.args.count (lists_seen c.args.tables.items) c.
 pub loop-mask-preserved : goal.loop-mask-preserved
 loop-mask-preserved c = built_more c.args.count (lists_seen c.args.tables.items) c.requires _ _ c.in-Some.mask c.in-Some.rows c.in-Some.ensures.items _ c.loop-mask.invariant _ c.in_ok-add_rows.ensures
 
-pub returns : goal.returns
-returns c = let none : c.loop-mask.tables.items ≡ [] = nil_from_length _ (search rules) in all_built (lists_seen c.args.tables.items) _ _ c.loop-mask.invariant none
+pub returns-clause-tables : goal.returns-clause-tables
+returns-clause-tables c =
+    let none : c.loop-mask.tables.items ≡ [] = nil_from_length _ (search rules) in
+    c.reserve_homes.ensures.tables ∙ all_built (lists_seen c.args.tables.items) _ _ c.loop-mask.invariant none

@@ -1,8 +1,8 @@
-use Rattle.std.proofs.Common.{◌≡◌, ◌∙◌, ap, sym, subst, false, List, length}
+use Rattle.std.proofs.Common.{◌≡◌, ◌∙◌, ap, sym, subst, false, List, length, arith}
 use Rattle.std.specs.Prelude.{is_some, ◌==◌}
 use Rattle.scene_kinds.specs.Map as map
 use Rattle.scene_kinds.specs.declared.entity.Entity.{Entity}
-use Rattle.scene_alloc.specs.Slots.{CanRelease}
+use Rattle.scene_alloc.specs.Slots.{SlotState, CanRelease}
 use Rattle.scene_model.specs.World.{World, IsHomeOf}
 use Rattle.scene_model.specs.Commands.{after_despawn}
 use Rattle.scene_world.specs.Stored.{world_of}
@@ -10,6 +10,7 @@ use Rattle.scene_model.specs.Valid.{IsValid}
 use Rattle.scene_model.proofs.DespawnKeeps.{can_release, gone_valid, childless, unlinked_cut}
 use Rattle.scene_model.proofs.Found.{stands_in}
 use Rattle.scene_world.proofs.Room.{seen_world}
+use Rattle.scene_world.proofs.SlotHomes.{no_more_released}
 use Rattle.scene_world.proofs.world.World.despawn.Goals as goal
 
 pub drop_row-requires : goal.drop_row-requires
@@ -22,7 +23,7 @@ release-retired-requires c =
     let w = c.self.inside in
     let old : World = world_of w.schema w.slots w.tick w.tables.tables w.links.forest w.resources in
     let home : IsHomeOf old c.args.entity c.in-Some.home = subst (λ (v : World). IsHomeOf v c.args.entity c.in-Some.home) (sym (seen_world c.self.view_is)) c.in-Some.ensures.row in
-    subst (CanRelease w.slots.state) home.same (can_release old c.in-Some.home home.row c.self.invariant home.there)
+    subst (CanRelease w.slots.state) home.same (can_release old c.in-Some.home home.row c.self.invariant.valid home.there)
 
 pub invariant_of-self : goal.invariant_of-self
 invariant_of-self c =
@@ -32,8 +33,11 @@ invariant_of-self c =
     let alone : is_some (map.get w.links.forest c.args.entity) ≡ false = childless w.links.forest c.args.entity
     (ap (λ (es : List Entity). length es == 0) (sym c.children_of.ensures.value) ∙ sym c.is_empty.ensures ∙ c.if-not-is_empty.false) in
     let left : IsValid (after_despawn old c.in-Some.home c.args.entity) = subst (λ (e : Entity). IsValid (after_despawn old c.in-Some.home e)) home.same
-    (gone_valid old c.in-Some.home home.row c.self.invariant home.there (ap (λ (e : Entity). is_some (map.get w.links.forest e)) home.same ∙ alone)) in
+    (gone_valid old c.in-Some.home home.row c.self.invariant.valid home.there (ap (λ (e : Entity). is_some (map.get w.links.forest e)) home.same ∙ alone)) in
     let links = unlinked_cut w.links.forest c.unlink-place.new.self.forest c.args.entity c.unlink-place.result c.unlink-place.ensures.answer in
     let after : after_despawn old c.in-Some.home c.args.entity ≡ world_of w.schema c.release-retired.new.self w.tick c.drop_row.new.self.tables c.unlink-place.new.self.forest w.resources =
     λ i. record { schema = w.schema; slots = sym c.release-retired.ensures.state i; tick = w.tick; tables = sym c.drop_row.ensures.tables i; children = sym links i; resources = w.resources.cells } in
-    subst IsValid after left
+    record {
+      valid = subst IsValid after left;
+      homes = omega (arith, no_more_released w.slots.state c.args.entity, ap (λ (s : SlotState). length s.generations) c.release-retired.ensures.state, c.drop_row.ensures.homes, c.self.invariant.homes);
+    }

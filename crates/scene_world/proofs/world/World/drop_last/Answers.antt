@@ -1,5 +1,5 @@
-use Rattle.std.proofs.Common.{◌≡◌, ◌∙◌, sym, subst, refl}
-use Rattle.scene_alloc.specs.Slots.{untake_of}
+use Rattle.std.proofs.Common.{◌≡◌, ◌∙◌, sym, subst, refl, ap, length, arith}
+use Rattle.scene_alloc.specs.Slots.{SlotState, untake_of}
 use Rattle.scene_table.specs.Tables.{row_for, without_row}
 use Rattle.scene_table.proofs.Homes.{live_here}
 use Rattle.scene_model.specs.World.{World, IsHomeOf}
@@ -12,6 +12,7 @@ use Rattle.scene_model.proofs.PutBack.{drop_untakes, rows_come_back}
 use Rattle.scene_model.proofs.RowOf.{made_by_row}
 use Rattle.scene_world.specs.Stored.{world_of}
 use Rattle.scene_world.proofs.Room.{seen_world}
+use Rattle.scene_world.proofs.SlotHomes.{no_more_untaken}
 use Rattle.scene_world.proofs.world.World.drop_last.Goals as goal
 
 pub home_of_live-home-requires : goal.home_of_live-home-requires
@@ -33,7 +34,7 @@ untake-requires c =
     let w = c.self.inside in
     let old : World = world_of w.schema w.slots w.tick w.tables.tables w.links.forest w.resources in
     let can = subst (λ (v : World). CanDrop v c.args.entity (cells_of v c.args.entity) c.args.fresh) (sym (seen_world c.self.view_is)) c.requires in
-    drop_untakes old c.args.entity (cells_of old c.args.entity) c.args.fresh c.self.invariant can
+    drop_untakes old c.args.entity (cells_of old c.args.entity) c.args.fresh c.self.invariant.valid can
 
 pub invariant_of-self : goal.invariant_of-self
 invariant_of-self c =
@@ -45,4 +46,7 @@ invariant_of-self c =
     let is : drop_last old c.args.entity c.args.fresh ≡ world_of w.schema c.untake.new.self w.tick c.drop_row.new.self.tables w.links.forest w.resources =
     made_by_row old c.args.entity h home.row (λ g row. record old { slots = untake_of w.slots.state c.args.entity c.args.fresh; tables = without_row w.tables.tables g }) home.found
     ∙ (λ i. record { schema = w.schema; slots = sym c.untake.ensures.state i; tick = w.tick; tables = sym c.drop_row.ensures.tables i; children = w.links.forest; resources = w.resources.cells }) in
-    subst IsValid is ((rows_come_back c.args.entity (cells_of old c.args.entity) c.args.fresh).1.keeps old c.self.invariant can)
+    record {
+      valid = subst IsValid is ((rows_come_back c.args.entity (cells_of old c.args.entity) c.args.fresh).1.keeps old c.self.invariant.valid can);
+      homes = omega (arith, no_more_untaken w.slots.state c.args.entity c.args.fresh, ap (λ (s : SlotState). length s.generations) c.untake.ensures.state, c.drop_row.ensures.homes, c.self.invariant.homes);
+    }

@@ -8,4 +8,4 @@ use Rattle.scene_world.proofs.world.World.home_of.Goals as goal
 pub returns : goal.returns
 returns c =
     let home = c.find.ensures.home ∙ ap (λ (v : World). home_of v c.args.entity) (seen_world c.self.view_is) in
-    record { home = home; row = some_home c.args.self.now.world c.args.entity c.find.result home; valid = subst IsValid (seen_world c.self.view_is) c.self.invariant }
+    record { home = home; row = some_home c.args.self.now.world c.args.entity c.find.result home; valid = subst IsValid (seen_world c.self.view_is) c.self.invariant.valid }

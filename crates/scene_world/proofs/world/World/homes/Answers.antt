@@ -1,4 +1,4 @@
-use Rattle.std.proofs.Common.{◌≡◌, ◌∙◌, length, min, ap}
+use Rattle.std.proofs.Common.{◌∙◌, ap}
 use Rattle.scene_model.specs.World.{World}
 use Rattle.scene_world.specs.Homes.{home_of_index}
 use Rattle.scene_world.specs.Stored.{world_of}
@@ -10,6 +10,4 @@ pub returns-clause-each : goal.returns-clause-each
 returns-clause-each c = λ index.
     let w = c.self.inside in
     let old : World = world_of w.schema w.slots w.tick w.tables.tables w.links.forest w.resources in
-    let homes = c.homes-homes.result.now in
-    let count : c.min-count.result ≡ min (length w.slots.state.generations) (length homes) = c.min-count.ensures ∙ ap (λ n. min n (length homes)) c.len.ensures.count in
-    each_home old homes c.min-count.result index c.self.invariant c.homes-homes.ensures count ∙ ap (λ (v : World). home_of_index v index) (seen_world c.self.view_is)
+    each_home old c.homes-homes.result.now c.len.result index c.self.invariant.valid c.homes-homes.ensures.are c.len.ensures.count ∙ ap (λ (v : World). home_of_index v index) (seen_world c.self.view_is)

@@ -1,4 +1,4 @@
-use Rattle.std.proofs.Common.{sym, subst, refl}
+use Rattle.std.proofs.Common.{sym, subst, refl, arith}
 use Rattle.scene_kinds.specs.Cells.{cell_of}
 use Rattle.scene_model.specs.World.{World, IsHomeOf}
 use Rattle.scene_table.specs.Tables.{Tables}
@@ -10,7 +10,7 @@ use Rattle.scene_world.proofs.Room.{seen_world, seen_room, wide_tables}
 use Rattle.scene_world.proofs.world.World.insert.Goals as goal
 
 pub insert_at-requires-clause-kinds : goal.insert_at-requires-clause-kinds
-insert_at-requires-clause-kinds c = λ row at. (c.self.invariant.rows.each c.in-Some.home row at).fits.kinds
+insert_at-requires-clause-kinds c = λ row at. (c.self.invariant.valid.rows.each c.in-Some.home row at).fits.kinds
 
 pub invariant_of-self-2 : goal.invariant_of-self-2
 invariant_of-self-2 c =
@@ -19,8 +19,11 @@ invariant_of-self-2 c =
     let home : IsHomeOf old c.args.entity c.in-Some.home = subst (λ (v : World). IsHomeOf v c.args.entity c.in-Some.home) (sym (seen_world c.self.view_is)) c.in-Some.ensures.row in
     let made = c.in_ok-insert_at.ensures in
     let tests = insert_tests w.schema c.args.kind c.args.value (sym c.in_default-insert_fault.ensures) in
-    subst (λ (t : Tables). IsValid (with_tables old t)) (sym (made.ok home.row home.there))
-    (insert_made old c.in-Some.home home.row c.args.kind c.args.value (cell_of home.row.cells c.args.kind) refl c.self.invariant home.there tests.1)
+    record {
+      valid = subst (λ (t : Tables). IsValid (with_tables old t)) (sym (made.ok home.row home.there))
+          (insert_made old c.in-Some.home home.row c.args.kind c.args.value (cell_of home.row.cells c.args.kind) refl c.self.invariant.valid home.there tests.1);
+      homes = omega (arith, c.in_ok-insert_at.ensures.homes, c.self.invariant.homes);
+    }
 
 pub returns-in_err-insert_at-clause-wide : goal.returns-in_err-insert_at-clause-wide
 returns-in_err-insert_at-clause-wide c = wide_tables c.self.inside.slots c.self.inside.tables c.insert_at.new.tables c.self.inside.links c.self.inside.resources c.args.self.now.room (seen_room c.self.view_is) c.insert_at.ensures.wide c.insert_at.ensures.homes

@@ -11,4 +11,7 @@ pub invariant_of-self-2 : goal.invariant_of-self-2
 invariant_of-self-2 c =
     let w = c.self.inside in
     let old : World = world_of w.schema w.slots w.tick w.tables.tables w.links.forest w.resources in
-    subst (λ (r : NamedCells). IsValid (with_resources old r)) (sym c.in_ok-_old.ensures.done) (put_valid old c.args.name.now c.args.value c.self.invariant (sym c.good_name.ensures ∙ c.if-not-good_name.false) c.in_ok-_old.ensures.in_range)
+    record {
+      valid = subst (λ (r : NamedCells). IsValid (with_resources old r)) (sym c.in_ok-_old.ensures.done) (put_valid old c.args.name.now c.args.value c.self.invariant.valid (sym c.good_name.ensures ∙ c.if-not-good_name.false) c.in_ok-_old.ensures.in_range);
+      homes = c.self.invariant.homes;
+    }

@@ -1,4 +1,4 @@
-use Rattle.std.proofs.Common.{◌≡◌, ◌∙◌, suc, ◌++◌, ◌∷◌, [], length, length-append, ap, sym, subst, arith, Ok}
+use Rattle.std.proofs.Common.{◌≡◌, ◌∙◌, suc, ◌≤◌, ◌++◌, ◌∷◌, [], length, length-append, ap, sym, subst, arith, Ok}
 use Rattle.std.specs.Cmp.{nat_cmp_total}
 use Rattle.scene_kinds.specs.declared.entity.Entity.{Entity}
 use Rattle.scene_kinds.specs.Answers.{Outcome}
@@ -21,6 +21,7 @@ use Rattle.scene_model.proofs.SpawnKeeps.{taken_unused}
 use Rattle.scene_model.proofs.TakenSlots.{taken}
 use Rattle.scene_world.specs.Stored.{world_of}
 use Rattle.scene_world.proofs.Room.{seen_world, held_inside}
+use Rattle.scene_world.proofs.SlotHomes.{home_of_taken}
 use Rattle.scene_world.proofs.world.World.put_row_reserved.Goals as goal
 
 pub mask-mask-requires-clause-below : goal.mask-mask-requires-clause-below
@@ -28,7 +29,7 @@ mask-mask-requires-clause-below c =
     let w = c.self.inside in
     let old : World = world_of w.schema w.slots w.tick w.tables.tables w.links.forest w.resources in
     let can = subst (λ (v : World). CanPut v c.args.entity c.args.cells c.args.fresh) (sym (seen_world c.self.view_is)) c.requires.can in
-    row_kinds_low w.schema (mask_of c.args.cells) (row_for c.args.entity c.args.cells) (row_of_good old c.args.entity c.args.cells can.good) c.self.invariant.schema.few
+    row_kinds_low w.schema (mask_of c.args.cells) (row_for c.args.entity c.args.cells) (row_of_good old c.args.entity c.args.cells can.good) c.self.invariant.valid.schema.few
 
 pub put_back-requires-clause-room : goal.put_back-requires-clause-room
 put_back-requires-clause-room c =
@@ -49,7 +50,7 @@ put_back-requires-clause-absent c =
     let old : World = world_of w.schema w.slots w.tick w.tables.tables w.links.forest w.resources in
     let can = subst (λ (v : World). CanPut v c.args.entity c.args.cells c.args.fresh) (sym (seen_world c.self.view_is)) c.requires.can in
     let took = took w.slots.state c.args.entity can.next in
-    taken_unused old (taken_slots w.slots.state (take_of w.slots.state)) c.args.entity c.self.invariant (taken w.slots.state (taken_slots w.slots.state (take_of w.slots.state)) c.args.entity c.self.invariant.slots took)
+    taken_unused old (taken_slots w.slots.state (take_of w.slots.state)) c.args.entity c.self.invariant.valid (taken w.slots.state (taken_slots w.slots.state (take_of w.slots.state)) c.args.entity c.self.invariant.valid.slots took)
 
 pub invariant_of-self : goal.invariant_of-self
 invariant_of-self c =
@@ -63,7 +64,11 @@ invariant_of-self c =
     let tables = c.put_back.ensures.tables ∙ back_last w.tables.tables row c.mask-mask.result c.len-last.result c.mask-mask.ensures c.len-last.ensures in
     let is : put_row old c.args.entity c.args.cells ≡ world_of w.schema c.take_reserved-entity.new.self w.tick c.put_back.new.self.tables w.links.forest w.resources =
     λ i. record { schema = w.schema; slots = slots i; tick = w.tick; tables = sym tables i; children = w.links.forest; resources = w.resources.cells } in
-    subst IsValid is ((rows_come_back c.args.entity c.args.cells c.args.fresh).0.keeps old c.self.invariant can)
+    let home = (held_inside c.self.view_is (λ v. put_row v c.args.entity c.args.cells) c.requires.room).rows.homes (next_home w.tables.tables row) row (added_there w.tables.tables row) in
+    record {
+      valid = subst IsValid is ((rows_come_back c.args.entity c.args.cells c.args.fresh).0.keeps old c.self.invariant.valid can);
+      homes = subst (λ (s : SlotState). length s.generations ≤ c.put_back.new.self.homes) slots (home_of_taken w.slots.state c.args.entity (taken_slots w.slots.state (take_of w.slots.state)) c.put_back.new.self.homes took (omega (arith, c.put_back.ensures.homes, c.self.invariant.homes)) (omega (arith, c.put_back.ensures.homes, home)));
+    }
 
 pub returns-clause-world : goal.returns-clause-world
 returns-clause-world c =

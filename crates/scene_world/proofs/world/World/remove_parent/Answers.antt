@@ -7,4 +7,7 @@ pub invariant_of-self-2 : goal.invariant_of-self-2
 invariant_of-self-2 c =
     let w = c.self.inside in
     let old : World = world_of w.schema w.slots w.tick w.tables.tables w.links.forest w.resources in
-    unlinked_valid old c.args.child c.in_ok-_link._link c.unlink.new.self.forest c.self.invariant c.in_ok-_link.ensures.answer
+    record {
+      valid = unlinked_valid old c.args.child c.in_ok-_link._link c.unlink.new.self.forest c.self.invariant.valid c.in_ok-_link.ensures.answer;
+      homes = c.self.invariant.homes;
+    }

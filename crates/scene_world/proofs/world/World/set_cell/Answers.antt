@@ -1,4 +1,4 @@
-use Rattle.std.proofs.Common.{◌≡◌, ◌∙◌, ap, sym, subst, Some}
+use Rattle.std.proofs.Common.{◌≡◌, ◌∙◌, ap, sym, subst, Some, arith}
 use Rattle.std.specs.Prelude.{option_map, slice_set}
 use Rattle.std.specs.Option.{unwrap_or}
 use Rattle.scene_kinds.specs.declared.cells.Row.{Row}
@@ -30,4 +30,7 @@ invariant_of-self c =
     let is : set_cell old c.args.entity c.args.kind c.args.cell ≡ with_tables old c.set_cell.new.self.tables =
     made_by_row old c.args.entity h home.row (λ g row. with_tables old (with_row_at w.tables.tables g (row_with_cell row c.args.kind c.args.cell))) home.found
     ∙ ap (with_tables old) (sym (c.set_cell.ensures.tables ∙ ap (λ o. with_rows w.tables.tables h.mask (unwrap_or (option_map (λ (row : Row). slice_set rows h.place (row_with_cell row c.args.kind c.args.cell)) o) rows)) home.there)) in
-    subst IsValid is ((cells_come_back c.args.entity c.args.kind c.set_cell.result c.args.cell).keeps old c.self.invariant (record { now = now; good = good }))
+    record {
+      valid = subst IsValid is ((cells_come_back c.args.entity c.args.kind c.set_cell.result c.args.cell).keeps old c.self.invariant.valid (record { now = now; good = good }));
+      homes = omega (arith, c.set_cell.ensures.homes, c.self.invariant.homes);
+    }

@@ -26,5 +26,8 @@ invariant_of-self c =
     let w = c.self.inside in
     let old : World = world_of w.schema w.slots w.tick w.tables.tables w.links.forest w.resources in
     let can = subst (λ (v : World). CanSetResource v c.args.name.now (cell_of v.resources c.args.name.now) c.args.cell) (sym (seen_world c.self.view_is)) c.requires.can in
-    subst (λ (r : NamedCells). IsValid (with_resources old r)) (sym c.restore_reserved.ensures.done)
-    ((resources_come_back c.args.name.now (cell_of w.resources.cells c.args.name.now) c.args.cell).keeps old c.self.invariant can)
+    record {
+      valid = subst (λ (r : NamedCells). IsValid (with_resources old r)) (sym c.restore_reserved.ensures.done)
+          ((resources_come_back c.args.name.now (cell_of w.resources.cells c.args.name.now) c.args.cell).keeps old c.self.invariant.valid can);
+      homes = c.self.invariant.homes;
+    }

@@ -10,4 +10,7 @@ pub invariant_of-self : goal.invariant_of-self
 invariant_of-self c =
     let w = c.self.inside in
     let old : World = world_of w.schema w.slots w.tick w.tables.tables w.links.forest w.resources in
-    (ticks_come_back w.tick c.args.tick).keeps old c.self.invariant (refl, subst (λ (v : World). CanSetTick v c.args.tick) (sym (seen_world c.self.view_is)) c.requires)
+    record {
+      valid = (ticks_come_back w.tick c.args.tick).keeps old c.self.invariant.valid (refl, subst (λ (v : World). CanSetTick v c.args.tick) (sym (seen_world c.self.view_is)) c.requires);
+      homes = c.self.invariant.homes;
+    }

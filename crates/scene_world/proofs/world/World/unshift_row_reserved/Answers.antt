@@ -1,4 +1,4 @@
-use Rattle.std.proofs.Common.{◌≡◌, ◌∙◌, ap, sym, subst}
+use Rattle.std.proofs.Common.{◌≡◌, ◌∙◌, ap, sym, subst, arith}
 use Rattle.scene_model.specs.World.{World, IsHomeOf}
 use Rattle.scene_model.specs.Raw.{unshift_row}
 use Rattle.scene_model.specs.Can.{CanUnshift}
@@ -21,8 +21,8 @@ move_row-requires-clause-moves c = λ r at.
     let home = inside c.self.view_is (λ v. IsHomeOf v c.args.entity h) c.home_of_live-home.ensures.row in
     let can = inside c.self.view_is (λ v. CanUnshift v c.args.entity c.args.place c.args.kind c.args.cell c.args.inward) c.requires.can in
     let held = held_inside c.self.view_is (λ v. unshift_row v c.args.entity c.args.place c.args.kind c.args.cell c.args.inward) c.requires.room in
-    let room = room_of_unshift old c.args.entity h c.args.place c.args.kind c.args.cell c.args.inward c.self.invariant home c.requires.low can (room_of w.slots w.tables w.links w.resources) held in
-    may_return old c.args.entity h c.args.place c.args.kind c.args.cell c.args.inward c.self.invariant home c.requires.low can w.tables.rooms w.tables.homes room r at
+    let room = room_of_unshift old c.args.entity h c.args.place c.args.kind c.args.cell c.args.inward c.self.invariant.valid home c.requires.low can (room_of w.slots w.tables w.links w.resources) held in
+    may_return old c.args.entity h c.args.place c.args.kind c.args.cell c.args.inward c.self.invariant.valid home c.requires.low can w.tables.rooms w.tables.homes room r at
 
 -- the inside after the move is the world before the shift
 after : (c : goal.After-move_row) → let w = c.self.inside in
@@ -34,7 +34,7 @@ after c =
     let h = c.home_of_live-home.result in
     let home = inside c.self.view_is (λ v. IsHomeOf v c.args.entity h) c.home_of_live-home.ensures.row in
     let can = inside c.self.view_is (λ v. CanUnshift v c.args.entity c.args.place c.args.kind c.args.cell c.args.inward) c.requires.can in
-    unshift_made old c.args.entity h c.args.place c.args.kind c.args.cell c.args.inward c.self.invariant home c.requires.low can
+    unshift_made old c.args.entity h c.args.place c.args.kind c.args.cell c.args.inward c.self.invariant.valid home c.requires.low can
     ∙ ap (with_tables old) (sym (c.move_row.ensures.tables home.row home.there))
 
 pub invariant_of-self : goal.invariant_of-self
@@ -44,7 +44,10 @@ invariant_of-self c =
     let h = c.home_of_live-home.result in
     let home = inside c.self.view_is (λ v. IsHomeOf v c.args.entity h) c.home_of_live-home.ensures.row in
     let can = inside c.self.view_is (λ v. CanUnshift v c.args.entity c.args.place c.args.kind c.args.cell c.args.inward) c.requires.can in
-    subst IsValid (after c) (unshift_valid old c.args.entity h c.args.place c.args.kind c.args.cell c.args.inward c.self.invariant home c.requires.low can)
+    record {
+      valid = subst IsValid (after c) (unshift_valid old c.args.entity h c.args.place c.args.kind c.args.cell c.args.inward c.self.invariant.valid home c.requires.low can);
+      homes = omega (arith, c.move_row.ensures.homes, c.self.invariant.homes);
+    }
 
 pub returns-clause-world : goal.returns-clause-world
 returns-clause-world c = sym (after c) ∙ ap (λ (v : World). unshift_row v c.args.entity c.args.place c.args.kind c.args.cell c.args.inward) (seen_world c.self.view_is)

@@ -1,4 +1,5 @@
-use Rattle.std.proofs.Common.{List, ℕ, length, subst, sym}
+use Rattle.std.proofs.Common.{List, ℕ, length, subst, sym, ap, arith}
+use Rattle.scene_alloc.specs.Slots.{SlotState}
 use Rattle.scene_model.specs.Valid.{IsValid}
 use Rattle.scene_parts.specs.Seen.{lists_seen, seen}
 use Rattle.scene_world.specs.Built.{AreStorable}
@@ -15,5 +16,8 @@ pub from_lists-requires : goal.from_lists-requires
 from_lists-requires c = (c.unbroken_parts_are_those_of_valid_worlds.ensures.sound (seen c.args.parts) c.are_in_range.ensures c.requires).0.slots
 
 pub invariant_of-result : goal.invariant_of-result
-invariant_of-result c = subst IsValid (sym (seen_world (seen c.args.parts) c.in_ok-slots.slots _ _ c.in_ok-resources.resources c.in_ok-slots.ensures c.in_ok-tables.ensures c.in_ok-links.ensures c.in_ok-resources.ensures))
-    (c.unbroken_parts_are_those_of_valid_worlds.ensures.sound (seen c.args.parts) c.are_in_range.ensures c.requires).0
+invariant_of-result c = record {
+  valid = subst IsValid (sym (seen_world (seen c.args.parts) c.in_ok-slots.slots _ _ c.in_ok-resources.resources c.in_ok-slots.ensures c.in_ok-tables.ensures.tables c.in_ok-links.ensures c.in_ok-resources.ensures))
+      (c.unbroken_parts_are_those_of_valid_worlds.ensures.sound (seen c.args.parts) c.are_in_range.ensures c.requires).0;
+  homes = omega (arith, c.in_ok-tables.ensures.homes, ap (λ (s : SlotState). length s.generations) c.in_ok-slots.ensures, ap (λ (g : List ℕ). length g) c.as_slice.ensures.value);
+}
