@@ -21,6 +21,8 @@ place on a line: over the shell it is a ValueError.
 """
 from __future__ import annotations
 
+__license__ = "MIT"
+
 import json
 import re
 import subprocess
