@@ -26,7 +26,9 @@ class CommandLine(argparse.ArgumentParser):
         self.add_argument("--program", default=PROGRAM)
 
     def error(self, message):
-        print(f"scene: bad command line\nscene: {self.command} takes {self.takes}", file=sys.stderr)
+        print("scene: bad command line", file=sys.stderr)
+        if sys.stderr.isatty():
+            print(f"scene: {self.command} takes {self.takes}", file=sys.stderr)
         sys.exit(2)
 
     def parsed(self, words):

@@ -17,7 +17,8 @@ use scene_hand::OnThreads;
 use scene_script::Limit;
 use scene_shell::{AnswerStyle, ShellSettings, run_shell};
 use scene_streams::{Sink, Source};
-use std::io::{BufReader, ErrorKind};
+use std::fmt::Display;
+use std::io::{BufReader, ErrorKind, IsTerminal};
 use std::process::ExitCode;
 use std::sync::Wait;
 use std::thread::Threads;
@@ -153,16 +154,22 @@ fn end(rt: &HostRuntime, threads: &(impl Threads + Wait + Sync), words: &[String
     }
 }
 
+/// Says on standard error that the command line is bad, and where that is a terminal, what is wrong with it.
+fn tell_bad_words(rt: &HostRuntime, why: &impl Display) -> io::Result<()> {
+    eprintln!(rt; "scene: bad command line")?;
+    if rt.stderr().is_terminal() {
+        eprintln!(rt; "scene: {why}")?;
+    }
+    Ok(())
+}
+
 /// Says on standard error why the program ends, where its output doesn't say it. The words are those that were read, so
 /// that no want of memory keeps back what is wrong with them.
 fn tell(rt: &HostRuntime, ending: Ending, words: &[String]) -> io::Result<()> {
     match ending {
         Ending::Done | Ending::Refused | Ending::Told => Ok(()),
         Ending::Store(fault) => eprintln!(rt; "scene: {fault}"),
-        Ending::BadCommandLine => {
-            eprintln!(rt; "scene: bad command line")?;
-            eprintln!(rt; "scene: {}", mistake_in(words))
-        }
+        Ending::BadCommandLine => tell_bad_words(rt, &mistake_in(words)),
         Ending::Fault(fault) => eprintln!(rt; "scene: {fault}"),
     }
 }
@@ -173,8 +180,7 @@ fn tell_unread(rt: &HostRuntime, error: &io::Error) -> io::Result<Ending> {
         eprintln!(rt; "scene: {}", AppFault::NoMemory)?;
         Ok(Ending::Fault(AppFault::NoMemory))
     } else {
-        eprintln!(rt; "scene: bad command line")?;
-        eprintln!(rt; "scene: a word is no UTF-8")?;
+        tell_bad_words(rt, &"a word is no UTF-8")?;
         Ok(Ending::BadCommandLine)
     }
 }
