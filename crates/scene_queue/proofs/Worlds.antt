@@ -1,4 +1,5 @@
--- What commands do to a stage's world is what they do to that world alone, whatever the stage notes.
+-- What commands do to a state is seen as what they do to what is seen of it. So what they do to a stage's world is what they do to
+-- that world alone, whatever the stage notes.
 use Rattle.std.proofs.Common.{◌≡◌, ℕ, ◌+◌, List, [], ◌∷◌, ◌++◌, Bool, true, false, if◌then◌else◌, refl, ap, sym, ◌∙◌, Option, Some, None, Ok}
 use Rattle.std.specs.Prelude.{Err}
 use Rattle.scene_kinds.specs.declared.entity.Entity.{Entity}
@@ -6,19 +7,64 @@ use Rattle.scene_kinds.specs.declared.refusal.Refusal.{Refusal}
 use Rattle.scene_kinds.specs.Answers.{Outcome}
 use Rattle.scene_model.specs.World.{World, is_live}
 use Rattle.scene_model.specs.Commands.{and_then, spawn, despawn, despawn_recursive, insert, remove, set_parent, remove_parent, put_resource, remove_resource}
-use Rattle.scene_model.specs.Perform.{Command, Spawn, Despawn, DespawnRecursive, DespawnRecursiveIfAlive, Insert, Remove, SetParent, RemoveParent, PutResource, RemoveResource, answering, perform}
+use Rattle.scene_model.specs.Perform.{Command, Act, Spawn, Despawn, DespawnRecursive, DespawnRecursiveIfAlive, Insert, Remove, SetParent, RemoveParent, PutResource, RemoveResource, answering, perform}
 use Rattle.scene_machine.specs.Queue.{Request, Progress, Ended, reached, and_spawned, act_known, request, unless_refused, play_from, play, whole}
 use Rattle.scene_machine.specs.Frame.{all_or_refused, whole_or_refused, queue, queues_from}
 use Rattle.scene_world.specs.Stage.{Staged, Note, noting, act}
 use Rattle.scene_queue.specs.Queue.{Stops}
-use Rattle.scene_queue.specs.Frames.{on_world}
+use Rattle.scene_queue.specs.Frames.{seen_as, on_world}
 
--- a progress and an end on a stage, on its world
-abbrev world_of : {N : Type 0} → Progress (Staged N) → Progress World
-world_of p = reached p.state.world p.spawned
+-- ---- of whatever is seen
 
-abbrev ended_of : {N : Type 0} → Ended (Staged N) → Ended World
-ended_of e = record { progress = world_of e.progress; refused = e.refused }
+module _ {S T : Type 0} (see : S → T) where
+  -- what follows on a state follows on what is seen of it
+  pub then_seen : {A B : Type 0} (o : Outcome A S) (v : Outcome A T) (f : A → S → Outcome B S) (g : A → T → Outcome B T)
+      → seen_as see o ≡ v → ((a : A) (s : S) → seen_as see (f a s) ≡ g a (see s)) → seen_as see (and_then o f) ≡ and_then v g
+  then_seen (Ok p) v f g h later = later p.0 p.1 ∙ ap (λ w. and_then w g) h
+  then_seen (Err r) v f g h later = ap (λ w. and_then w g) h
+
+  -- a progress and an end, by what is seen of their states
+  abbrev seen_of : Progress S → Progress T
+  seen_of p = reached (see p.state) p.spawned
+
+  abbrev ended_of : Ended S → Ended T
+  ended_of e = record { progress = seen_of e.progress; refused = e.refused }
+
+  all_seen : (q : ℕ) (s : S) (es : List Entity) (r : Option (ℕ × Refusal)) → seen_as see (all_or_refused q s es r) ≡ all_or_refused q (see s) es r
+  all_seen q s es None = refl
+  all_seen q s es (Some r) = refl
+
+  module _ (first : Act S) (second : Act T) (each : (s : S) (c : Command) → seen_as see (first s c) ≡ second (see s) c) where
+    known_seen : (s : S) (c : Option Command) → seen_as see (act_known first s c) ≡ act_known second (see s) c
+    known_seen s None = refl
+    known_seen s (Some c) = each s c
+
+    -- the commands of a queue
+    play_seen : (i : ℕ) (rs : List Request) (p : Progress S) → ended_of (play_from first i rs p) ≡ play_from second i rs (seen_of p)
+    play_seen i [] p = refl
+    play_seen i (r ∷ rs) p = from (request first r p) (request second r (seen_of p)) (known_seen p.state (r p.spawned)) (λ q. play_seen (i + 1) rs q)
+      where
+        from : (o : Outcome (Option Entity) S) (v : Outcome (Option Entity) T) → seen_as see o ≡ v
+            → ((q : Progress S) → ended_of (play_from first (i + 1) rs q) ≡ play_from second (i + 1) rs (seen_of q))
+            → ended_of (unless_refused i p o (play_from first (i + 1) rs)) ≡ unless_refused i (seen_of p) v (play_from second (i + 1) rs)
+        from (Ok a) v h later =
+            later (reached a.1 (and_spawned p.spawned a.0)) ∙ ap (λ w. unless_refused i (seen_of p) w (play_from second (i + 1) rs)) h
+        from (Err e) v h later = ap (λ w. unless_refused i (seen_of p) w (play_from second (i + 1) rs)) h
+
+    -- a queue
+    pub queue_seen : (q : ℕ) (rs : List Request) (s : S) → seen_as see (queue first q rs s) ≡ queue second q rs (see s)
+    queue_seen q rs s =
+        let e = play_from first 0 rs (reached s []) in
+        all_seen q e.progress.state e.progress.spawned e.refused ∙ ap (whole_or_refused q) (play_seen 0 rs (reached s []))
+
+    -- the queues of a frame
+    pub queues_seen : (q : ℕ) (rss : List (List Request)) (s : S) → seen_as see (queues_from first q rss s) ≡ queues_from second q rss (see s)
+    queues_seen q [] s = refl
+    queues_seen q (rs ∷ rss) s =
+        then_seen (queue first q rs s) _ _ _ (queue_seen q rs s)
+        (λ es t. then_seen (queues_from first (q + 1) rss t) _ _ _ (queues_seen (q + 1) rss t) (λ fs u. refl))
+
+-- ---- of the world of a stage
 
 noted_world : {A N : Type 0} (s : Staged N) (notes : List N) (f : A → Option Entity) (o : Outcome A World) → on_world (answering f (noting s notes o)) ≡ answering f o
 noted_world s notes f (Ok p) = refl
@@ -30,14 +76,8 @@ if_alive : {N : Type 0} (s : Staged N) (notes : List N) (b : Bool) (o : Outcome 
 if_alive s notes true o = noted_world s notes (λ a. None) o
 if_alive s notes false o = refl
 
--- some entities before those of an outcome
-after_world : {N : Type 0} (es : List Entity) (o : Outcome (List Entity) (Staged N))
-    → on_world (and_then o (λ fs u. Ok (es ++ fs, u))) ≡ and_then (on_world o) (λ fs u. Ok (es ++ fs, u))
-after_world es (Ok p) = refl
-after_world es (Err r) = refl
-
 module _ {N : Type 0} (note : Note N) where
-  act_world : (s : Staged N) (c : Command) → on_world (act note s c) ≡ perform s.world c
+  pub act_world : (s : Staged N) (c : Command) → on_world (act note s c) ≡ perform s.world c
   act_world s (Spawn cells) = noted_world s (note s.world (Spawn cells)) Some (spawn s.world cells)
   act_world s (Despawn e) = noted_world s (note s.world (Despawn e)) (λ a. None) (despawn s.world e)
   act_world s (DespawnRecursive e) = noted_world s (note s.world (DespawnRecursive e)) (λ a. None) (despawn_recursive s.world e)
@@ -49,45 +89,13 @@ module _ {N : Type 0} (note : Note N) where
   act_world s (PutResource name value) = noted_world s (note s.world (PutResource name value)) (λ a. None) (put_resource s.world name value)
   act_world s (RemoveResource name) = noted_world s (note s.world (RemoveResource name)) (λ a. None) (remove_resource s.world name)
 
-  known_world : (s : Staged N) (c : Option Command) → on_world (act_known (act note) s c) ≡ act_known perform s.world c
-  known_world s None = refl
-  known_world s (Some c) = act_world s c
-
-  -- the commands of a queue
-  play_world : (i : ℕ) (rs : List Request) (p : Progress (Staged N)) → ended_of (play_from (act note) i rs p) ≡ play_from perform i rs (world_of p)
-  play_world i [] p = refl
-  play_world i (r ∷ rs) p = from (request (act note) r p) (request perform r (world_of p)) (known_world p.state (r p.spawned)) (λ q. play_world (i + 1) rs q)
-    where
-      from : (o : Outcome (Option Entity) (Staged N)) (v : Outcome (Option Entity) World) → on_world o ≡ v
-          → ((q : Progress (Staged N)) → ended_of (play_from (act note) (i + 1) rs q) ≡ play_from perform (i + 1) rs (world_of q))
-          → ended_of (unless_refused i p o (play_from (act note) (i + 1) rs)) ≡ unless_refused i (world_of p) v (play_from perform (i + 1) rs)
-      from (Ok a) v h later =
-          later (reached a.1 (and_spawned p.spawned a.0)) ∙ ap (λ w. unless_refused i (world_of p) w (play_from perform (i + 1) rs)) h
-      from (Err e) v h later = ap (λ w. unless_refused i (world_of p) w (play_from perform (i + 1) rs)) h
-
-  all_world : (q : ℕ) (s : Staged N) (es : List Entity) (r : Option (ℕ × Refusal)) → on_world (all_or_refused q s es r) ≡ all_or_refused q s.world es r
-  all_world q s es None = refl
-  all_world q s es (Some r) = refl
-
   -- a queue
   pub queue_world : (q : ℕ) (rs : List Request) (s : Staged N) → on_world (queue (act note) q rs s) ≡ queue perform q rs s.world
-  queue_world q rs s =
-      let e = play_from (act note) 0 rs (reached s []) in
-      all_world q e.progress.state e.progress.spawned e.refused ∙ ap (whole_or_refused q) (play_world 0 rs (reached s []))
+  queue_world = queue_seen (λ s. s.world) (act note) perform act_world
 
   -- the queues of a frame
   pub queues_world : (q : ℕ) (rss : List (List Request)) (s : Staged N) → on_world (queues_from (act note) q rss s) ≡ queues_from perform q rss s.world
-  queues_world q [] s = refl
-  queues_world q (rs ∷ rss) s = from (queue (act note) q rs s) (queue perform q rs s.world) (queue_world q rs s) (λ t. queues_world (q + 1) rss t)
-    where
-      from : (o : Outcome (List Entity) (Staged N)) (v : Outcome (List Entity) World) → on_world o ≡ v
-          → ((t : Staged N) → on_world (queues_from (act note) (q + 1) rss t) ≡ queues_from perform (q + 1) rss t.world)
-          → on_world (and_then o (λ es t. and_then (queues_from (act note) (q + 1) rss t) (λ fs u. Ok (es ++ fs, u))))
-          ≡ and_then v (λ es t. and_then (queues_from perform (q + 1) rss t) (λ fs u. Ok (es ++ fs, u)))
-      from (Ok p) v h later =
-          after_world p.0 (queues_from (act note) (q + 1) rss p.1) ∙ ap (λ o. and_then o (λ fs u. Ok (p.0 ++ fs, u))) (later p.1)
-          ∙ ap (λ w. and_then w (λ es t. and_then (queues_from perform (q + 1) rss t) (λ fs u. Ok (es ++ fs, u)))) h
-      from (Err e) v h later = ap (λ w. and_then w (λ es t. and_then (queues_from perform (q + 1) rss t) (λ fs u. Ok (es ++ fs, u)))) h
+  queues_world = queues_seen (λ s. s.world) (act note) perform act_world
 
   -- a queue of a frame of its own, whole
   pub whole_world : (rs : List Request) (s t : Staged N) (es : List Entity) → play (act note) rs s ≡ whole (reached t es) → queue perform 0 rs s.world ≡ Ok (es, t.world)

@@ -20,7 +20,11 @@ ArePassed {S} act rss old new =
     (count : ℕ) × ((mid : S) × ((es : List Entity) × ((queues_from act 0 (take count rss) old ≡ Ok (es, mid))
     × ((next : ℕ) × IsLeft act (get_or rss count []) next mid new))))
 
+-- what a state came to, as what is seen of it came to
+abbrev pub seen_as : {A S T : Type 0} → (S → T) → Outcome A S → Outcome A T
+seen_as see (Ok p) = Ok (p.0, see p.1)
+seen_as see (Err r) = Err r
+
 -- what a stage came to, as what its world came to
 abbrev pub on_world : {A N : Type 0} → Outcome A (Staged N) → Outcome A World
-on_world (Ok p) = Ok (p.0, p.1.world)
-on_world (Err r) = Err r
+on_world o = seen_as (λ s. s.world) o
