@@ -19,21 +19,29 @@ abbrev pub IsMade : World → ℕ → SystemRule → Made → Type 0
 IsMade w at rule (Ok made) = IsMadeOf w rule made.0 made.1.commands
 IsMade w at rule (Err r) = r ≢ refusal_of NoMemory → Overflows w at rule r
 
--- a system's turn with a worker: where it is the worker's it is run, and only elsewhere may it be left out
-abbrev pub IsTurn : (workers worker : ℕ) → World → ℕ → SystemRule → Option Made → Type 0
-IsTurn workers worker w at rule None = at % workers ≢ worker
-IsTurn workers worker w at rule (Some made) = IsMade w at rule made
+-- what holds once a worker passed a gate before a system
+abbrev pub Passed : Type 1
+Passed = ℕ → ℕ → Type 0
+
+-- a system's turn with a worker: just where it is the worker's it is run, behind the gate
+abbrev pub IsTurn : Passed → (workers worker : ℕ) → World → ℕ → SystemRule → Option Made → Type 0
+IsTurn passed workers worker w at rule None = at % workers ≢ worker
+IsTurn passed workers worker w at rule (Some made) = (at % workers ≡ worker) × passed worker at × IsMade w at rule made
 
 -- the turns of a worker with the systems from a place on
-abbrev pub AreTurns : (workers worker : ℕ) → World → ℕ → List SystemRule → List (Option Made) → Type 0
-AreTurns workers worker w at rules turns =
-    (i : ℕ) (rule : SystemRule) → at ≤ i → slice_get rules i ≡ Some rule → IsTurn workers worker w i rule (slice_index_or turns i None)
+abbrev pub AreTurns : Passed → (workers worker : ℕ) → World → ℕ → List SystemRule → List (Option Made) → Type 0
+AreTurns passed workers worker w at rules turns =
+    (i : ℕ) (rule : SystemRule) → at ≤ i → slice_get rules i ≡ Some rule → IsTurn passed workers worker w i rule (slice_index_or turns i None)
 
 -- the same of each worker whose turns could be held
-abbrev pub AreLeft : {E : Type 0} → World → ℕ → List SystemRule → List (Result (List (Option Made)) E) → Type 0
-AreLeft {E} w at rules left =
+abbrev pub AreLeft : {E : Type 0} → Passed → World → ℕ → List SystemRule → List (Result (List (Option Made)) E) → Type 0
+AreLeft {E} passed w at rules left =
     (worker : ℕ) (slot : Result (List (Option Made)) E) → worker < length left → slot ≡ slice_index_or left worker slot
-    → IfOk slot (AreTurns (length left) worker w at rules)
+    → IfOk slot (AreTurns passed (length left) worker w at rules)
+
+-- each of so many systems was run behind the gate, by the worker whose number its place leaves
+abbrev pub ArePassed : Passed → ℕ → ℕ → Type 0
+ArePassed passed workers count = (at : ℕ) → at < count → passed (at % workers) at
 
 -- the turn of a place, where a worker's turns could be held
 abbrev pub turn_in : {E : Type 0} → Result (List (Option Made)) E → ℕ → Option Made

@@ -5,6 +5,7 @@ ghost use Rattle.scene_kinds.specs.declared.fault.Fault.TheVariants.{NoMemory};
 ghost use Rattle.scene_model.specs.Perform.{perform};
 ghost use Rattle.scene_schedule.specs.Output.{IsOutputOf};
 ghost use Rattle.scene_schedule.specs.Systems.{systems_from};
+ghost use Rattle.scene_schedule.specs.Turns.{ArePassed};
 
 use crate::gate::Gate;
 use crate::output::PhaseOutput;
@@ -54,6 +55,7 @@ pub fn run_phase<R: Threads + Sync, G: Gate + Sync>(
     requires kinds { world.now.world.schema ≡ schedule.now.schema }
     requires workers { (0 < workers) × (workers ≤ 16) }
     ensures output { IfOk result (λ output. IsOutputOf output world.now.world (slice_index_or schedule.now.phases phase [])) }
+    ensures passed { IfOk result (λ output. ArePassed (G.passed gate.now) workers (length (slice_index_or schedule.now.phases phase []))) }
     ensures refused { IfErr result (λ r. r ≢ refusal_of NoMemory
         → systems_from perform (λ w. w) 0 (slice_index_or schedule.now.phases phase []) world.now.world ≡ Err r) }
 {

@@ -3,13 +3,12 @@ ghost use Rattle.std.specs.Prelude.{◌≡◌, ◌≢◌, ◌≤◌, ◌<◌, �
 ghost use Rattle.scene_schedule.specs.Sound.{IsSoundPhase};
 ghost use Rattle.scene_schedule.specs.Turns.{AreTurns, IsTurn};
 
-use crate::gate::Gate;
+use crate::gate::{Gate, Gated};
 use crate::output::RowChanges;
 use crate::systems::system_output;
 use scene_kinds::Refusal;
 use scene_queue::Queue;
 use scene_rules::SystemRule;
-use scene_world::World;
 use std::alloc::{AllocError, Global};
 use std::marker::Model;
 
@@ -42,43 +41,41 @@ impl Turns {
     }
 }
 
-/// Runs a system where it is the worker's.
+/// Runs a system where it is the worker's, once its gate is passed.
 fn turn<G: Gate>(
     alloc: Global,
-    world: &World,
+    gated: &Gated<G>,
     at: usize,
     rule: &SystemRule,
     workers: usize,
     worker: usize,
-    gate: &G,
 ) -> Option<Result<(RowChanges, Queue), Refusal>>
     requires workers { (worker < workers) × (workers ≤ 16) }
     requires few { (at < 64) × (length rule.now.steps ≤ 16) }
-    ensures { IsTurn workers worker world.now.world at rule.now result }
+    ensures { IsTurn (G.passed gated.now.gate.now) workers worker gated.now.world.now.world at rule.now result }
 {
     if at % workers != worker {
         return None;
     }
-    gate.pass(worker as u32, at as u32);
+    let world = gated.pass(worker as u32, at as u32);
     Some(system_output(alloc, world, at as u32, rule))
 }
 
 /// Runs the systems of a worker, one after another, each on the opening world.
 pub(crate) fn make_turns<G: Gate>(
     alloc: Global,
-    world: &World,
+    gated: &Gated<G>,
     rules: &[SystemRule],
     workers: usize,
     worker: usize,
-    gate: &G,
 ) -> Result<Turns, AllocError>
     requires workers { (worker < workers) × (workers ≤ 16) }
-    requires sound { IsSoundPhase world.now.world.schema rules.now }
-    ensures { IfOk result (AreTurns workers worker world.now.world 0 rules.now) }
+    requires sound { IsSoundPhase gated.now.world.now.world.schema rules.now }
+    ensures { IfOk result (AreTurns (G.passed gated.now.gate.now) workers worker gated.now.world.now.world 0 rules.now) }
 {
     let mut list = Vec::new(alloc);
     'systems: for at in 0..rules.len() {
-        list.push(turn(alloc, world, at, &rules[at], workers, worker, gate))?;
+        list.push(turn(alloc, gated, at, &rules[at], workers, worker))?;
     }
     Ok(Turns { list })
 }

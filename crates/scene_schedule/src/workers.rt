@@ -1,5 +1,5 @@
 //! The systems of a phase on several threads.
-ghost use Rattle.std.specs.Prelude.{◌≡◌, ◌≢◌, ◌≤◌, ◌<◌, ◌+◌, None, Some, Err, IfOk, IfErr, length, slice_get};
+ghost use Rattle.std.specs.Prelude.{◌≡◌, ◌≢◌, ◌≤◌, ◌<◌, ◌+◌, ◌%◌, None, Some, Err, IfOk, IfErr, length, slice_get};
 ghost use Rattle.scene_kinds.specs.Answers.{refusal_of};
 ghost use Rattle.scene_kinds.specs.declared.fault.Fault.TheVariants.{NoMemory};
 ghost use Rattle.scene_model.specs.Perform.{perform};
@@ -7,9 +7,9 @@ ghost use Rattle.scene_schedule.specs.AtOnce.{IsMadeOf, Overflows};
 ghost use Rattle.scene_schedule.specs.Output.{IsOutputOf};
 ghost use Rattle.scene_schedule.specs.Sound.{IsSoundPhase};
 ghost use Rattle.scene_schedule.specs.Systems.{systems_from};
-ghost use Rattle.scene_schedule.specs.Turns.{AreLeft, AreTurns, emptied, turn_in};
+ghost use Rattle.scene_schedule.specs.Turns.{AreLeft, ArePassed, AreTurns, emptied, turn_in};
 
-use crate::gate::Gate;
+use crate::gate::{Gate, Gated};
 use crate::output::{PhaseOutput, RowChanges};
 use crate::turns::{Turns, make_turns};
 use scene_kinds::{Fault, Refusal};
@@ -34,9 +34,10 @@ fn taken(
     }
 }
 
-/// What the system at a place made, taken out of its worker's turns.
-fn next_output(
+/// What the system at a place made behind the gate, taken out of its worker's turns.
+fn next_output<G: Gate>(
     world: &World,
+    gate: &G,
     rules: &[SystemRule],
     at: usize,
     rule: &SystemRule,
@@ -44,10 +45,11 @@ fn next_output(
 ) -> Result<(RowChanges, Queue), Refusal>
     requires rule { slice_get rules.now at ≡ Some rule.now }
     requires workers { 0 < length left.old.items }
-    requires left { AreLeft world.now.world at rules.now left.old.items }
+    requires left { AreLeft (G.passed gate.now) world.now.world at rules.now left.old.items }
     ensures made { IfOk result (λ made. IsMadeOf world.now.world rule.now made.0 made.1.commands) }
+    ensures passed { IfOk result (λ made. G.passed gate.now (at % length left.old.items) at) }
     ensures refused { IfErr result (λ r. r ≢ refusal_of NoMemory → Overflows world.now.world at rule.now r) }
-    ensures left { AreLeft world.now.world (at + 1) rules.now left.new.items }
+    ensures left { AreLeft (G.passed gate.now) world.now.world (at + 1) rules.now left.new.items }
     ensures workers { length left.new.items ≡ length left.old.items }
 {
     let worker = at % left.len();
@@ -57,17 +59,19 @@ fn next_output(
     }
 }
 
-/// Puts together, by system, what the workers made.
-fn gathered(
+/// Puts together, by system, what the workers made behind the gate.
+fn gathered<G: Gate>(
     alloc: Global,
     world: &World,
+    gate: &G,
     rules: &[SystemRule],
     done: Vec<Result<Turns, AllocError>>,
 ) -> Result<PhaseOutput, Refusal>
     requires sound { IsSoundPhase world.now.world.schema rules.now }
     requires workers { 0 < length done.items }
-    requires left { AreLeft world.now.world 0 rules.now done.items }
+    requires left { AreLeft (G.passed gate.now) world.now.world 0 rules.now done.items }
     ensures output { IfOk result (λ output. IsOutputOf output world.now.world rules.now) }
+    ensures passed { IfOk result (λ output. ArePassed (G.passed gate.now) (length done.items) (length rules.now)) }
     ensures refused { IfErr result (λ r. r ≢ refusal_of NoMemory → systems_from perform (λ w. w) 0 rules.now world.now.world ≡ Err r) }
 {
     let _tick = world.tick();
@@ -75,7 +79,7 @@ fn gathered(
     let mut rows = Vec::new(alloc);
     let mut queues = Vec::new(alloc);
     'systems: for at in 0..rules.len() {
-        match next_output(world, rules, at, &rules[at], &mut left) {
+        match next_output(world, gate, rules, at, &rules[at], &mut left) {
             Ok((changes, queue)) => {
                 rows.push(changes)?;
                 queues.push(queue)?;
@@ -101,12 +105,13 @@ pub(crate) fn run_systems<R: Threads + Sync, G: Gate + Sync>(
     requires workers { (0 < workers) × (workers ≤ 16) }
     requires sound { IsSoundPhase world.now.world.schema rules.now }
     ensures output { IfOk result (λ output. IsOutputOf output world.now.world rules.now) }
+    ensures passed { IfOk result (λ output. ArePassed (G.passed gate.now) workers (length rules.now)) }
     ensures refused { IfErr result (λ r. r ≢ refusal_of NoMemory → systems_from perform (λ w. w) 0 rules.now world.now.world ≡ Err r) }
 {
     let work = |worker: usize| -> Result<Turns, AllocError>
         requires { (worker < workers) × ((workers ≤ 16) × IsSoundPhase world.now.world.schema rules.now) }
-        ensures { IfOk result (AreTurns workers worker world.entry.now.world 0 rules.entry.now) }
-    { make_turns(alloc, world, rules, workers, worker, gate) };
+        ensures { IfOk result (AreTurns (G.passed gate.entry.now) workers worker world.entry.now.world 0 rules.entry.now) }
+    { make_turns(alloc, &Gated::new(world, gate), rules, workers, worker) };
     let done = thread::map_indices(rt, alloc, workers, &work)?;
-    gathered(alloc, world, rules, done)
+    gathered(alloc, world, gate, rules, done)
 }

@@ -1,4 +1,6 @@
 //! Phases on several threads: what they make, and what is refused, hangs neither on the workers nor on the gate.
+ghost use Rattle.std.specs.Prelude.{⊤};
+
 use super::schedule_tests::{Do, L, N, P, System, V, kinds, needs, schedule};
 use scene_kinds::{Entity, Fault, Place, Refusal, Value};
 use scene_schedule::{Gate, OpenGate, PhaseOutput, Schedule, run_phase, run_phase_alone};
@@ -10,18 +12,75 @@ use std::test::*;
 use std::thread;
 use std::thread::Threads;
 
-/// A gate that holds each system until two have come, for a bounded number of turns.
+/// How often a system came to the gate, and by which worker at last.
 #[derive(Drop)]
-struct Meeting {
-    came: AtomicU64,
-    gave_up: AtomicU64,
+struct Noted {
+    times: AtomicU64,
+    worker: AtomicU64,
 }
 
-impl Gate for Meeting {
-    fn pass(&self, _worker: u32, _system: u32) {
+impl Noted {
+    fn new() -> Noted {
+        Noted {
+            times: AtomicU64::new(0),
+            worker: AtomicU64::new(0),
+        }
+    }
+
+    fn note(&self, worker: u32) {
+        self.times.fetch_add(1, Ordering::SeqCst);
+        self.worker.store(u64::from(worker), Ordering::SeqCst);
+    }
+
+    /// Whether it came once, by this worker.
+    fn is_once_by(&self, worker: u64) -> bool {
+        self.times.load(Ordering::SeqCst) == 1 && self.worker.load(Ordering::SeqCst) == worker
+    }
+}
+
+/// A gate that notes which worker runs which system, and holds each system until so many have come, for a bounded number of turns.
+#[derive(Drop)]
+struct Watch {
+    wanted: u64,
+    came: AtomicU64,
+    gave_up: AtomicU64,
+    systems: [Noted; 3],
+}
+
+impl Watch {
+    fn new(wanted: u64) -> Watch {
+        Watch {
+            wanted,
+            came: AtomicU64::new(0),
+            gave_up: AtomicU64::new(0),
+            systems: [Noted::new(), Noted::new(), Noted::new()],
+        }
+    }
+
+    /// Whether so many systems came, each once, by the worker whose number its place leaves, and none waited in vain.
+    fn saw(&self, systems: usize, workers: usize) -> bool {
+        if self.came.load(Ordering::SeqCst) != systems as u64 || workers == 0 {
+            return false;
+        }
+        for (at, noted) in self.systems.iter().enumerate().take(systems) {
+            if !noted.is_once_by((at % workers) as u64) {
+                return false;
+            }
+        }
+        self.gave_up.load(Ordering::SeqCst) == 0
+    }
+}
+
+impl Gate for Watch {
+    ghost passed = { λ gate worker system. ⊤ };
+
+    fn pass(&self, worker: u32, system: u32) {
+        if let Some(noted) = self.systems.get(system as usize) {
+            noted.note(worker);
+        }
         self.came.fetch_add(1, Ordering::SeqCst);
         for _ in 0..10_000_000u32 {
-            if self.came.load(Ordering::SeqCst) >= 2 {
+            if self.came.load(Ordering::SeqCst) >= self.wanted {
                 return;
             }
             thread::yield_now();
@@ -126,35 +185,26 @@ fn shown_alone(alloc: Global, world: &World, schedule: &Schedule) -> Result<Stri
     Ok(format!(in alloc; "{made:?}")?)
 }
 
-/// So many workers make what one thread makes.
-fn makes<R: Threads + Abort + Sync, G: Gate + Sync>(
+/// So many workers come to the gate with their own of so many systems, and make what one thread makes.
+fn makes<R: Threads + Abort + Sync>(
     rt: &R,
     alloc: Global,
     world: &World,
     schedule: &Schedule,
     workers: usize,
-    gate: &G,
+    systems: usize,
+    gate: &Watch,
 ) {
     let shown = shown_on(rt, alloc, world, schedule, workers, gate).expect(rt, "a text");
     let wanted = shown_alone(alloc, world, schedule).expect(rt, "a text");
     assert_eq!(rt; shown, wanted, "{workers} workers");
+    assert!(rt; gate.saw(systems, workers), "{workers} workers");
 }
 
-/// Two workers meet at the gate, and make what one thread makes.
-fn meet<R: Threads + Abort + Sync>(rt: &R, alloc: Global, world: &World, schedule: &Schedule) {
-    let gate = Meeting {
-        came: AtomicU64::new(0),
-        gave_up: AtomicU64::new(0),
-    };
-    makes(rt, alloc, world, schedule, 2, &gate);
-    assert_eq!(rt; gate.came.load(Ordering::SeqCst), 2);
-    assert_eq!(rt; gate.gave_up.load(Ordering::SeqCst), 0);
-}
-
-/// Each number of workers makes what one thread makes.
+/// Each number of workers makes of three systems what one thread makes.
 fn compare<R: Threads + Abort + Sync>(rt: &R, alloc: Global, world: &World, schedule: &Schedule) {
-    for workers in [1, 2, 3, 16] {
-        makes(rt, alloc, world, schedule, workers, &OpenGate);
+    for workers in [1, 2, 3, 8, 16] {
+        makes(rt, alloc, world, schedule, workers, 3, &Watch::new(0));
     }
 }
 
@@ -194,7 +244,7 @@ fn refuse<R: Threads + Abort + Sync>(rt: &R, alloc: Global, world: &World, sched
         }),
     };
     assert_eq!(rt; fault_alone(alloc, world, schedule), Some(wanted));
-    for workers in [1, 2, 3, 16] {
+    for workers in [1, 2, 3, 8, 16] {
         let fault = fault_on(rt, alloc, world, schedule, workers);
         assert_eq!(rt; fault, Some(wanted), "{workers} workers");
     }
@@ -217,7 +267,7 @@ impl Trial {
         schedule: &Schedule,
     ) {
         match self {
-            Trial::Meets => meet(rt, alloc, world, schedule),
+            Trial::Meets => makes(rt, alloc, world, schedule, 2, 2, &Watch::new(2)),
             Trial::Compares => compare(rt, alloc, world, schedule),
             Trial::Refuses => refuse(rt, alloc, world, schedule),
         }

@@ -11,7 +11,7 @@ use Rattle.scene_schedule.proofs.turns.make_turns.Goals as goal
 pub turn-requires-clause-few : goal.turn-requires-clause-few
 turn-requires-clause-few g c = (
   omega (arith, c.systems-test.true, c.requires.sound.few),
-  few_steps c.args.world.now.world.schema c.args.rules.now c.systems.at c.index-rules-at.result c.requires.sound (omega (arith, c.systems-test.true)) c.index-rules-at.is,
+  few_steps c.args.gated.now.world.now.world.schema c.args.rules.now c.systems.at c.index-rules-at.result c.requires.sound (omega (arith, c.systems-test.true)) c.index-rules-at.is,
 )
 
 pub systems-preserved : goal.systems-preserved
@@ -20,9 +20,9 @@ systems-preserved g c =
     let pushed = c.in_ok-push.ensures.items in
     record {
       count = ap length pushed ∙ length-append turns (c.turn.result ∷ []) ∙ ap (λ n. n + 1) c.systems.invariant.count;
-      turns = subst (λ list. (i : ℕ) (r : SystemRule) → i < c.systems.at + 1 → slice_get c.args.rules.now i ≡ Some r → IsTurn c.args.workers c.args.worker c.args.world.now.world i r (get_or list i None))
+      turns = subst (λ list. (i : ℕ) (r : SystemRule) → i < c.systems.at + 1 → slice_get c.args.rules.now i ≡ Some r → IsTurn (g.G.Gate.passed c.args.gated.now.gate.now) c.args.workers c.args.worker c.args.gated.now.world.now.world i r (get_or list i None))
           (sym pushed)
-          (turn_pushed c.args.workers c.args.worker c.args.world.now.world c.systems.at c.args.rules.now turns c.index-rules-at.result c.turn.result c.systems.invariant.count
+          (turn_pushed (g.G.Gate.passed c.args.gated.now.gate.now) c.args.workers c.args.worker c.args.gated.now.world.now.world c.systems.at c.args.rules.now turns c.index-rules-at.result c.turn.result c.systems.invariant.count
           (omega (arith, c.systems-test.true)) c.index-rules-at.is c.turn.ensures c.systems.invariant.turns);
     }
 

@@ -8,5 +8,5 @@ abbrev pub invariant-systems : goal.invariant-systems
 invariant-systems g l = record {
   count : length l.list.items ≡ l.at;
   turns : (i : ℕ) (rule : SystemRule) → i < l.at → slice_get l.rules i ≡ Some rule
-      → IsTurn l.workers l.worker l.world.world i rule (slice_index_or l.list.items i None);
+      → IsTurn (g.G.Gate.passed l.gated.gate.now) l.workers l.worker l.gated.world.now.world i rule (slice_index_or l.list.items i None);
 }
