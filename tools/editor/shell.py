@@ -1,6 +1,7 @@
 """The program's shell as a process: lines go in, and each is answered by a line of JSON (docs/SHELL.md, "JSON")."""
 import json
 import subprocess
+import sys
 import threading
 from collections import deque
 
@@ -12,6 +13,14 @@ LINES_TOLD = 20
 
 class Gone(Exception):
     """That the shell has ended, so that what became of the lines isn't known."""
+
+
+def pass_on(line):
+    """Says a line on standard error. Where nobody can hear it, the shell is heard on."""
+    try:
+        print(line.decode(errors="replace").rstrip("\n"), file=sys.stderr, flush=True)
+    except (OSError, ValueError):
+        pass
 
 
 class Shell:
@@ -49,10 +58,13 @@ class Shell:
         self.on_end(self)
 
     def hear_trouble(self):
-        """Keeps the last lines of standard error, but for those that tell bad lines, which are answered too."""
+        """Keeps the last lines of standard error that may tell why it ends. Others, as how long a store took to open,
+        are passed on, but for those of bad lines, which are answered too."""
         for line in self.process.stderr:
-            if not line.startswith(b"scene: line "):
+            if line.startswith(b"scene: fault ") or not line.startswith(b"scene: "):
                 self.told.append(line)
+            elif not line.startswith(b"scene: line "):
+                pass_on(line)
 
     def next_line(self):
         with self.news:
