@@ -53,9 +53,10 @@ def frame_words(lines):
 
 class Call:
     """A call's lines: what is sent of them, and its answers. `turn` is a line to send before those that do more than
-    ask, if one is needed; it is kept in the store, as they are."""
+    ask, if one is needed; it is kept in the store, as they are. `ends_at` is for the setup alone: it gives of lines the
+    place of that which ends it, before which there can be no turn."""
 
-    def __init__(self, lines, turn=None, is_setup=False):
+    def __init__(self, lines, turn=None, ends_at=None):
         # The shell drops a carriage return at the end of a line, but for a space behind it.
         lines = [f"{line} " if line.endswith("\r") else line for line in lines]
         words = list(frame_words(lines))
@@ -67,9 +68,19 @@ class Call:
             self.answers = [bad(UNBALANCED)] * len(lines)
         else:
             own = [place for place, answer in enumerate(self.answers) if answer is None]
-            # in the setup the hub asks nothing, since that would end it
+            setup, own = self.parted(own, lines, ends_at)
             turns = turn is not None and any(words[place] not in ASKING for place in own)
-            self.send([Sent(turn, None)] if turns else [], own, lines, words, () if is_setup else CURSOR)
+            sent = [Sent(lines[place], place) for place in setup] + [Sent(turn, None)] * turns
+            # in the setup the hub asks nothing, since that would end it
+            self.send(sent, own, lines, words, () if ends_at else CURSOR)
+
+    @staticmethod
+    def parted(own, lines, ends_at):
+        """The places of the lines of the setup, and of those behind it."""
+        if ends_at is None:
+            return [], own
+        place = ends_at([lines[place] for place in own])
+        return (own, []) if place is None else (own[:place], own[place:])
 
     def send(self, sent, own, lines, words, cursor):
         """Looks by the cursor behind frames, before an undo or a redo spoils it and at the end, and marks anew then."""

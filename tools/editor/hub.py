@@ -9,6 +9,7 @@ from events import Events, event_bytes
 from model import Model
 from played_scene import Trouble
 from sessions import Sessions
+from setup_end import place_of_end
 from shell import Gone, Shell
 from stored import log_of, store_fault
 from texts import json_text
@@ -180,9 +181,9 @@ class Hub:
             self.seat(session)
             if not self.is_here:
                 return json_text({"gone": True})
-            needs_turn = session != self.model.turn and not self.model.in_setup
-            call = Call(lines, f"as {session}" if needs_turn else None, self.model.in_setup)
+            turn = f"as {session}" if session != self.model.turn else None
             try:
+                call = Call(lines, turn, self.place_of_end if self.model.in_setup else None)
                 self.play(call)
             except Gone:
                 return json_text({"gone": True})
@@ -192,6 +193,9 @@ class Hub:
                 shell.close()
                 return json_text({"gone": True})
             return json_text({"answers": call.answers})
+
+    def place_of_end(self, lines):
+        return place_of_end(self.program, self.model.kinds, lines)
 
     def play(self, call):
         if not call.sent:

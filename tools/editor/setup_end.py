@@ -1,0 +1,29 @@
+"""Which line ends the setup. Before that one a tab says who it is, since to say so ends the setup too."""
+import json
+import subprocess
+
+from commands import first_word
+from follower import SETUP
+from played_scene import Trouble
+
+NO_END = ("bad", "nothing")
+
+
+def place_of_end(program, kinds, lines):
+    """The place of the line that ends a setup which has these kinds, or None. A bad line doesn't, and a shell without
+    a store says which lines are bad."""
+    if all(first_word(line) in SETUP for line in lines):
+        return None
+    known = [f"kind {name} {shape}" for name, shape in kinds]
+    given = "".join(f"{line}\n" for line in (*known, *lines)).encode()
+    try:
+        played = subprocess.run([program, "shell", "--json"], input=given, capture_output=True, check=False)
+    except OSError as error:
+        raise Trouble(f"{program} can't be run: {error.strerror}") from None
+    answers = played.stdout.split(b"\n")[len(known) : -1]
+    if len(answers) != len(lines):
+        raise Trouble("the program can't say which line ends the setup")
+    for place, (line, answer) in enumerate(zip(lines, answers)):
+        if first_word(line) not in SETUP and json.loads(answer)["answer"] not in NO_END:
+            return place
+    return None
