@@ -2,7 +2,6 @@
 """`scene edit`: serves the editor of a store to a browser on this machine."""
 import secrets
 import signal
-import subprocess
 import sys
 import threading
 from pathlib import Path
@@ -10,30 +9,14 @@ from pathlib import Path
 sys.path.insert(0, str(Path(__file__).resolve().parent.parent))
 
 from hub import Hub  # noqa: E402
-from played_scene import PROGRAM, TOP, CommandLine, Trouble, ended  # noqa: E402
+from new_store import make_store  # noqa: E402
+from played_scene import PROGRAM, TOP, CommandLine, Trouble  # noqa: E402
 from server import Server  # noqa: E402
-from stored import StoreFault, store_fault  # noqa: E402
+from stored import StoreFault  # noqa: E402
 
 TOKEN_BYTES = 24  # which are 32 characters
 BUILT = TOP / "crates" / "scene" / "out" / "scene"
 UNBUILT = "the proved program isn't built, and the editor needs it; './scene build' builds it"
-
-
-def play_script(words):
-    """Plays the script of `--from` into a store, which has to be new."""
-    if words.store.exists():
-        raise Trouble(f"{words.store} isn't new, so no script is played into it")
-    try:
-        script = ended(Path(words.script).read_bytes())
-    except OSError as error:
-        raise Trouble(f"{words.script} can't be read: {error.strerror}") from None
-    command = [words.program, "shell", "--json", "--store", str(words.store)]
-    played = subprocess.run(command, input=script, capture_output=True, check=False)
-    for line in played.stderr.decode(errors="replace").split("\n"):
-        if line.startswith("scene: line "):
-            print(f"{line} ({words.script})", file=sys.stderr)
-    if played.returncode not in (0, 1):
-        raise store_fault(words.store, played.stderr)
 
 
 def serve(words):
@@ -60,11 +43,13 @@ def serve(words):
 
 def edit(words):
     """The exit status: 2 where nothing could be begun, 3 where the store is at fault."""
+    # Until it serves, an end from outside is an exception, behind which nothing is half made.
+    signal.signal(signal.SIGTERM, signal.default_int_handler)
     try:
         if words.program == PROGRAM and not BUILT.exists():
             raise Trouble(UNBUILT)
         if words.script is not None:
-            play_script(words)
+            make_store(words.program, words.store, words.script)
         serve(words)
     except StoreFault as fault:
         line, _, said = str(fault).rpartition("\n")
@@ -73,6 +58,8 @@ def edit(words):
     except Trouble as trouble:
         print(f"scene: edit: {trouble}", file=sys.stderr)
         return 2
+    except KeyboardInterrupt:
+        print("scene: edit: it was interrupted before it served", file=sys.stderr)
     return 0
 
 

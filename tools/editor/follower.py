@@ -15,7 +15,7 @@ class Follower:
     An answer is its word with the entities of a `done`."""
 
     def __init__(self):
-        self.in_setup, self.depth = True, None
+        self.in_setup, self.is_loaded, self.depth = True, False, None
         self.set_kinds([])
         self.phases, self.turn, self.frame = [], 0, None
 
@@ -55,6 +55,7 @@ class Follower:
             self.set_kinds([*self.kinds, line.split()[1:3]])
         elif word == "load":
             self.set_kinds(json.loads(line.partition("load")[2])["kinds"])
+            self.is_loaded = True
         elif word == "depth":
             self.depth = int(line.split()[1])
         self.on_setup()

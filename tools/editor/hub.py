@@ -17,6 +17,7 @@ from texts import json_text
 MOST_BEGUN, SECONDS_BEGUN = 2, 10
 SECONDS_TO_CLOSE = 5
 READS = ("dumpall", "dump")
+SCRIPTS_TURN = "as 0"
 
 
 def read_all(shell, model):
@@ -28,6 +29,12 @@ def read_all(shell, model):
             model.load(scene["text"])
             return
     raise Trouble("the world's text is too long for the editor")
+
+
+def end_loaded_setup(shell, model):
+    """Ends a setup in which a scene was loaded: its kinds are complete, and it is to be seen."""
+    if model.in_setup and model.is_loaded:
+        model.hear_own(SCRIPTS_TURN, *shell.ask([SCRIPTS_TURN]))
 
 
 class Hub:
@@ -54,6 +61,7 @@ class Hub:
         try:
             # An empty line ends no setup, and tells whether the store could be opened.
             shell.ask([""])
+            end_loaded_setup(shell, model)
             if not model.in_setup:
                 read_all(shell, model)
             model.news = None
@@ -207,6 +215,7 @@ class Hub:
             else:
                 self.model.hear(line, answer)
                 call.answers[place] = answer
+        end_loaded_setup(self.shell, self.model)
         gets = self.model.to_get()
         for line, answer in zip(gets, self.shell.ask(gets)):
             self.model.hold_row(line, answer)

@@ -1,23 +1,20 @@
-"""How the editor begins and ends: with a new store and an old one, with a script, and where it can't."""
+"""How the editor begins and ends: with a new store and an old one, and where it can't."""
 import os
 import signal
 import subprocess
-import sys
 import time
 
 from asking import Asker
-from editor_process import EDIT, EditorProcess, saved
+from editor_process import SECONDS, EditorProcess, edit, program_of, saved, try_each, wait_until
 
-SCRIPT = "kind Name Text\nkind Health Int\nspawn Name=cat Health=9\njump\nbegin\nspawn Name=kitten\nparent +0 0v1\n"
-SECONDS = 60
-
-
-def edit(program, *words):
-    """A run of the editor that ends by itself: its status and what it told."""
-    command = [sys.executable, "-B", str(EDIT), "--program", str(program), *map(str, words)]
-    ended = subprocess.run(command, capture_output=True, timeout=SECONDS, check=False)
-    assert not ended.stdout, ended.stdout
-    return ended.returncode, ended.stderr.decode()
+# Lines of a tab of which one ends the setup, and their answers.
+FIRST_CHANGES = (
+    (["spawn Name=a"], ["done"]),
+    (["jump", "kind Health Int", "spawn Nome=a", "spawn Name=a Health=1"], ["bad", "ok", "bad", "done"]),
+    (["show", "spawn Name=a"], ["world", "done"]),
+    (["", "# a", "begin", "spawn Name=a", "commit", "kind B Int"], "nothing nothing ok queued done bad".split()),
+)  # fmt: skip
+NOTE = "scene: the store has 300,000 lines, which took 9 s to play"
 
 
 def try_bad_words(program, room):
@@ -44,11 +41,13 @@ def try_setup(program, room):
         assert asker.told("kind Name Text", "jump", "", "kind Name Int") == ["ok", "bad", "nothing", "refused"]
         whole = stream.until("whole")[-1]
         assert whole["words"] == "the setup changed" and whole["scene"]["kinds"] == [["Name", "Text"]], whole
-        assert asker.told("depth 2", "begin", "spawn Name=a", "commit") == ["ok", "ok", "queued", "done"]
+        assert asker.told("spawn Nome=a", "depth 2") == ["bad", "ok"], "a bad line ended the setup"
+        assert asker.told("begin", "spawn Name=a", "commit") == ["ok", "queued", "done"]
+        stream.until("whole")
         whole = stream.until("whole")[-1]
         assert whole["words"] == "the setup has ended" and not whole["scene"]["setup"], whole
         frames = whole["scene"]["frames"]
-        assert frames == [{"session": 0, "words": ['spawn Name="a" as 0v1']}], frames
+        assert frames == [{"session": asker.session, "words": ['spawn Name="a" as 0v1']}], frames
         told = asker.told("kind B Int", "spawn", "spawn", "undo", "undo", "undo")
         assert told == "bad done done undone undone refused".split(), told
         frames = [event for event in stream.until("undo") if event["sort"] == "frame"]
@@ -60,25 +59,54 @@ def try_setup(program, room):
         assert [frame["session"] for frame in scene["frames"]] == [1, 1]
 
 
-def try_script(program, room):
-    """A script is played into a new store, and into no other; a bad line of it and an open frame are left out."""
-    script, store = room / "from.scene", room / "from.db"
-    script.write_text(SCRIPT)
-    with EditorProcess(program, store, script) as editor:
-        scene = Asker(editor.address).join()["scene"]
-        assert len(scene["frames"]) == 1 and not scene["setup"], scene
-        assert "scene: line 4: " in editor.errors(), editor.errors()
-        before = store.read_bytes()
-        status, told = edit(program, store, "--from", script)
-        assert status == 2 and "isn't new" in told and store.read_bytes() == before, (status, told)
-        try_in_use(program, store)
-    assert saved(program, store)["tick"] == 1
+def try_first_change(program, room):
+    """Who ends the setup by a change is who made it, wherever the line stands and whatever came before it."""
+    for number, (lines, told) in enumerate(FIRST_CHANGES):
+        store = room / f"first_{number}.db"
+        with EditorProcess(program, store) as editor:
+            other, asker = Asker(editor.address), Asker(editor.address)
+            other.join()
+            asker.join()
+            other.told("kind Name Text")
+            assert asker.told(*lines) == told, (lines, told)
+            frames = asker.join()["scene"]["frames"]
+            assert [frame["session"] for frame in frames] == [2], (lines, frames)
+        made = [line for line in log_of(program, store) if "-> done" in line]
+        assert len(made) == 1 and " as 2: " in made[0], (lines, made)
 
 
-def try_in_use(program, store):
-    status, told = edit(program, store)
-    assert status == 3, (status, told)
-    assert told == f"scene: fault 60 StoreInUse\nscene: edit: {store.name} is in use by another shell\n", told
+def log_of(program, store):
+    return subprocess.run([program, "log", store], capture_output=True, check=True).stdout.decode().split("\n")
+
+
+def in_use(store):
+    return f"scene: fault 60 StoreInUse\nscene: edit: {store.name} is in use by another shell\n"
+
+
+def try_in_use(program, room):
+    store = room / "used.db"
+    with EditorProcess(program, store):
+        status, told = edit(program, store)
+        assert (status, told) == (3, in_use(store))
+
+
+def try_notes(program, room):
+    """What the shell notes as it opens is passed on, and is no reason of its end; a fault behind it is."""
+    noting = program_of(room, "noting", f"echo '{NOTE}' >&2\nexec \"{program}\" \"$@\"")
+    store = room / "notes.db"
+    with EditorProcess(noting, store) as editor:
+        asker = Asker(editor.address)
+        asker.join()
+        assert asker.told("spawn") == ["done"]
+        stream = asker.events(asker.join()["scene"]["sequence"])
+        wait_until(lambda: NOTE in editor.errors(), "the note is passed on")
+        editor.kill_shell()
+        gone = stream.until("shell")[-1]
+        assert gone["words"] == "the shell was killed by signal 9", gone
+        stream.until("whole")
+        stream.close()
+        status, told = edit(noting, store)
+        assert status == 3 and told.endswith(in_use(store)), (status, told)
 
 
 def fault_of_log(program, store):
@@ -144,9 +172,6 @@ def has_ended(process):
 
 def try_beginnings(program, room):
     """All of these."""
-    for tried in (try_bad_words, try_setup, try_script, try_no_store, try_ends, try_hangs):
-        try:
-            tried(program, room)
-        except AssertionError as error:
-            raise AssertionError(f"{tried.__name__}: {error}") from None
-    return "new and old stores, a script, and stores that can't be used were begun and ended"
+    parts = try_bad_words, try_setup, try_first_change, try_in_use, try_notes, try_no_store, try_ends, try_hangs
+    try_each(parts, program, room)
+    return "new and old stores, and stores that can't be used, were begun and ended"

@@ -6,6 +6,7 @@ import signal
 import subprocess
 import sys
 import tempfile
+import time
 from pathlib import Path
 
 TOP = Path(__file__).resolve().parent.parent.parent
@@ -68,8 +69,43 @@ class EditorProcess:
         os.kill(shells[0], signal.SIGKILL)
 
 
-def saved(program, store):
-    """The scene that a store holds, as `dumpall` prints it."""
+def edit(program, *words):
+    """A run of the editor that ends by itself: its status and what it told."""
+    command = [sys.executable, "-B", str(EDIT), "--program", str(program), *map(str, words)]
+    try:
+        ended = subprocess.run(command, capture_output=True, timeout=SECONDS, check=False)
+    except subprocess.TimeoutExpired:
+        raise AssertionError(f"the editor serves, where it has to refuse {words}") from None
+    assert not ended.stdout, ended.stdout
+    return ended.returncode, ended.stderr.decode()
+
+
+def program_of(room, name, text):
+    """A program in place of the true one, as lines of the system's shell."""
+    program = room / name
+    program.write_text(f"#!/bin/sh\n{text}\n")
+    program.chmod(0o755)
+    return program
+
+
+def wait_until(asked, what, seconds=SECONDS):
+    end = time.monotonic() + seconds
+    while not asked():
+        assert time.monotonic() < end, f"not in {seconds} s: {what}"
+        time.sleep(0.01)
+
+
+def saved(program, store, line="dumpall"):
+    """The scene that a store holds, as `dumpall` or `dump` prints it."""
     words = [str(program), "shell", "--json", "--store", str(store)]
-    ended = subprocess.run(words, input=b"dumpall\n", capture_output=True, check=True)
+    ended = subprocess.run(words, input=f"{line}\n".encode(), capture_output=True, check=True)
     return json.loads(ended.stdout)["text"]
+
+
+def try_each(parts, program, room):
+    """Does all parts, of which a fault says in which it was."""
+    for part in parts:
+        try:
+            part(program, room)
+        except AssertionError as error:
+            raise AssertionError(f"{part.__name__}: {error}") from None
