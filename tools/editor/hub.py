@@ -141,23 +141,25 @@ class Hub:
     def tell_sessions(self):
         self.tell({"sort": "sessions", "sessions": self.sessions.numbers()})
 
-    def join(self, wanted):
+    def join(self, tab, wanted):
+        """Gives a tab its session. `tab` is an id by which it has the same one again, or None."""
         with self.lock:
-            session = self.sessions.join(wanted)
+            session = self.sessions.join(tab, wanted)
             if session is None:
                 return json_text({"refused": "seven tabs are open at most"})
             self.tell_sessions()
-            return f'{{"session":{session},"scene":{self.whole(self.events.last)}}}'
+            seat = self.sessions.seats[session].number
+            return f'{{"session":{session},"seat":{seat},"scene":{self.whole(self.events.last)}}}'
 
-    def leave(self, session):
+    def leave(self, seat):
         with self.lock:
-            if self.sessions.leave(session):
+            if self.sessions.leave(seat):
                 self.tell_sessions()
 
     def seat(self, session):
         """The place of a tab, which may have been away so long that it was free."""
         if session not in self.sessions.seats:
-            self.sessions.take(session)
+            self.sessions.take_again(session)
             self.tell_sessions()
         return self.sessions.seats[session]
 

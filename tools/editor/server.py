@@ -24,6 +24,7 @@ HEADERS = {
     "X-Frame-Options": "DENY", "Content-Security-Policy": ALLOWED,
 }  # fmt: skip
 MOST_BODY = 16 * 2**20
+MOST_TAB = 64
 SECONDS_IDLE = 60
 SECONDS_ALIVE = 10
 
@@ -167,8 +168,10 @@ class Handler(BaseHTTPRequestHandler):
 
     @staticmethod
     def join(hub, body):
-        wanted = body.get("session")
-        return hub.join(wanted if wanted is None else session_of(wanted))
+        tab, wanted = body.get("tab"), body.get("session")
+        if tab is not None and not (isinstance(tab, str) and 0 < len(tab) <= MOST_TAB):
+            raise Refusal(400, f"tab has to be a text of 1 to {MOST_TAB} characters")
+        return hub.join(tab, wanted if wanted is None else session_of(wanted))
 
     @staticmethod
     def call(hub, body):
@@ -179,7 +182,10 @@ class Handler(BaseHTTPRequestHandler):
 
     @staticmethod
     def leave(hub, body):
-        hub.leave(session_of(body.get("session")))
+        seat = body.get("seat")
+        if isinstance(seat, bool) or not isinstance(seat, int):
+            raise Refusal(400, "seat has to be the number that a join gave")
+        hub.leave(seat)
         return "{}"
 
     # Events

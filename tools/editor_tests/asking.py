@@ -13,7 +13,7 @@ class Asker:
         parts = urlsplit(address)
         self.host, self.path = parts.netloc, parts.path
         self.connection = http.client.HTTPConnection(self.host, timeout=SECONDS)
-        self.session, self.scene = None, None
+        self.session, self.seat, self.scene = None, None, None
 
     def ask(self, method, name, body=None, headers=None, path=None):
         """The status, the headers and the content of an answer."""
@@ -27,10 +27,13 @@ class Asker:
         assert status == 200, (name, status, content)
         return json.loads(content)
 
-    def join(self):
-        answer = self.post("join", {})
-        self.session, self.scene = answer.get("session"), answer.get("scene")
+    def join(self, **body):
+        answer = self.post("join", body)
+        self.session, self.seat, self.scene = map(answer.get, ("session", "seat", "scene"))
         return answer
+
+    def leave(self):
+        self.post("leave", {"seat": self.seat})
 
     def call(self, *lines):
         """The answers to lines, or None where the shell was gone."""

@@ -59,7 +59,7 @@ class Client:
     """What a tab knows: all at its join, and then by events alone."""
 
     def __init__(self, hub):
-        joined = json.loads(hub.join(None))
+        joined = json.loads(hub.join(None, None))
         self.hub, self.session = hub, joined["session"]
         self.take(joined["scene"])
 

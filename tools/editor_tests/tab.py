@@ -78,6 +78,16 @@ class Tab:
     def reload(self):
         self.call("Page.reload")
 
+    def reload_often(self, pauses):
+        """Asks for reloads without waiting for one, so many seconds apart. In between pages the browser refuses some."""
+        for pause in pauses:
+            self.remote.send("Page.reload", self.session)
+            time.sleep(pause)
+
+    def open_copy(self):
+        """Opens a further tab with what this one has stored, which is `copied` then."""
+        self.call("Runtime.evaluate", expression="window.copied = open(location.href)", userGesture=True)
+
     def evaluate(self, expression):
         """The value of an expression of JavaScript, awaited where it is a promise."""
         answer = self.call("Runtime.evaluate", expression=expression, returnByValue=True, awaitPromise=True)

@@ -12,7 +12,7 @@ from editor_process import EditorProcess  # noqa: E402
 from events import MOST_BYTES, MOST_EVENTS, Events  # noqa: E402
 
 SCRIPT = "kind Name Text\nkind Health Int\nspawn Name=cat Health=9\n"
-MANY, LINES = 20_000, 300
+MANY, LINES, RELOADS = 20_000, 300, 24
 SECONDS_TO_FREE = 8
 
 
@@ -20,20 +20,55 @@ def try_seven(editor):
     """Seven tabs have a session each; one that leaves, or whose stream is closed, makes room."""
     tabs = [Asker(editor.address) for _ in range(8)]
     assert [tab.join().get("session") for tab in tabs] == [1, 2, 3, 4, 5, 6, 7, None]
-    assert tabs[7].join() == {"refused": "seven tabs are open at most"}
+    assert tabs[7].join(tab="eighth") == {"refused": "seven tabs are open at most"}
     streams = {number: tabs[number - 1].events() for number in (1, 2)}
-    tabs[3].post("leave", {"session": 4})
+    tabs[3].leave()
     assert tabs[7].join()["session"] == 4
-    # a session that has a stream is another tab's, and one that hasn't is had again
-    assert tabs[7].post("join", {"session": 2}) == {"refused": "seven tabs are open at most"}
-    assert tabs[7].post("join", {"session": 7})["session"] == 7
+    assert "refused" in tabs[3].join(session=2)
     streams[2].close()
     told = wait_for_sessions(streams[1], [1, 3, 4, 5, 6, 7])
     assert 3 < told < SECONDS_TO_FREE, f"a session was free after {told:.1f} s"
-    assert tabs[7].post("join", {"session": 2})["session"] == 2
-    for number in range(1, 8):
-        tabs[0].post("leave", {"session": number})
+    tabs[5].leave()
+    assert tabs[3].join(session=6)["session"] == 6, "the session that is wanted was free"
+    assert tabs[1].join(session=6)["session"] == 2, "the session that is wanted is another tab's"
     streams[1].close()
+
+
+def try_reloads(editor):
+    """A tab that is loaded anew has its session again, however often: also while its old page listens on, and where
+    that page's leave comes late or never."""
+    other, tab, streams = Asker(editor.address), Asker(editor.address), []
+    assert [other.join(tab="other")["session"], tab.join(tab="tab")["session"]] == [1, 2]
+    for reload in range(RELOADS):
+        seat = tab.seat
+        if reload % 3 == 0:
+            streams.append(tab.events())
+        if reload % 4 == 0:
+            tab.leave()
+        assert tab.join(tab="tab")["session"] == 2, f"reload {reload}"
+        if reload % 4 == 2:
+            tab.post("leave", {"seat": seat})
+    for stream in streams:
+        stream.close()
+    assert other.join(tab="other")["scene"]["sessions"] == [1, 2]
+    tab.leave()
+    assert other.join(tab="other")["scene"]["sessions"] == [1]
+
+
+def try_reserved(editor):
+    """The session of a tab that is gone is its own, until all others are taken; then that of the tab gone longest is
+    had first."""
+    tabs = [Asker(editor.address) for _ in range(9)]
+    for number in (1, 2, 3):
+        assert tabs[number].join(tab=f"tab {number}")["session"] == number
+    tabs[2].leave()
+    tabs[1].leave()
+    assert [tabs[number].join(tab=f"tab {number}")["session"] for number in (4, 5, 6, 7)] == [4, 5, 6, 7]
+    assert tabs[1].join(tab="tab 1")["session"] == 1
+    tabs[1].leave()
+    assert tabs[8].join(session=1)["session"] == 2, "the second tab was gone longer than the first"
+    assert tabs[1].join(tab="tab 1")["session"] == 1
+    assert "refused" in tabs[2].join(tab="tab 2")
 
 
 def wait_for_sessions(stream, wanted):
@@ -114,10 +149,11 @@ def try_tabs(program, room):
     script = room / "tabs.scene"
     script.write_text(SCRIPT)
     try_kept_events()
-    for tried in (try_seven, try_cursors, try_slow, try_together):
+    for tried in (try_seven, try_reloads, try_reserved, try_cursors, try_slow, try_together):
         with EditorProcess(program, room / f"{tried.__name__}.db", script) as editor:
             try:
                 tried(editor)
             except AssertionError as error:
                 raise AssertionError(f"{tried.__name__}: {error}") from None
-    return f"seven tabs had a session each, and calls of {MANY:,} lines and a tab that never read stopped nobody"
+    slow = f"calls of {MANY:,} lines and a tab that never read stopped nobody"
+    return f"seven tabs had a session each, also when they were loaded anew, and {slow}"

@@ -6,6 +6,8 @@ from person import Person
 MILL, SMITHY, INN, TAPROOM, NAVE, COTTAGE = "5v1", "11v1", "24v1", "25v1", "33v1", "38v1"
 ALDOUS, GERRIC, MAUD, HOB, MARJORY, TOM, NESS, CAT = "53v1", "56v1", "57v1", "61v1", "65v1", "69v1", "70v1", "80v1"
 BEYOND_DOUBLES = "9007199254740993"
+# Seconds from one to the next, of which some end a page before it has joined.
+QUICK_RELOADS = (0, 0.02, 0.05, 0.1, 0.15, 0.2, 0.3, 0.4, 0.6, 0.8)
 
 
 class Village:
@@ -187,12 +189,29 @@ class Village:
         self.both_show(ALDOUS, "Coins", "1")
 
     def try_reload(self):
-        self.one.evaluate("document.documentElement.dataset.old = '1'")
-        self.one.reload()
-        is_new = "document.readyState === 'complete' && document.documentElement.dataset.old === undefined"
-        self.one.wait(is_new, "a new page")
-        self.one.arrived()
+        """Reloads, also quicker than a page loads: the tab is the session that it was."""
+        number = self.one.session_number()
+        for pauses in ((), QUICK_RELOADS):
+            self.one.reload_often(pauses)
+            self.one.arrived()
+            self.one.evaluate("document.documentElement.dataset.old = '1'")
+            self.one.reload()
+            is_new = "document.readyState === 'complete' && document.documentElement.dataset.old === undefined"
+            self.one.wait(is_new, "a new page")
+            self.one.arrived()
+            assert self.one.session_number() == number, "a reload took another session"
+        alone = f"session {number} is here too"
+        self.other.wait_for(lambda: self.other.text("others") == alone, f"the other is told that {alone}")
         self.both_show(ALDOUS, "Age", "66")
+
+    def try_copy(self):
+        """A copy of a tab is a session of its own."""
+        numbers = self.one.session_number(), self.other.session_number()
+        self.one.open_copy()
+        number = self.one.wait("copied.document.getElementById('session')?.textContent.match(/[1-7]/)?.[0]", "a copy")
+        assert int(number) not in numbers, f"the copy is session {number}, as one of {numbers}"
+        self.one.evaluate("copied.close()")
+        self.other.wait_for(lambda: number not in self.other.text("others"), "the copy is gone")
 
 
 NOTE_THE_BANNER = """(() => {
@@ -223,7 +242,7 @@ def try_village(remote, program, room):
         for step in (
             village.try_arrival, village.try_cells, village.try_components, village.try_moves, village.try_despawns,
             village.try_spawns, village.try_resources, village.try_lines, village.try_strip, village.try_kill,
-            village.try_reload,
+            village.try_reload, village.try_copy,
         ):  # fmt: skip
             step()
             village.one.check()

@@ -4,13 +4,32 @@ const AGAIN_AFTER = 1000;
 // A browser keeps six connections to a server, and each tab that listens has one. So one that isn't looked at stops.
 const STOP_HIDDEN_AFTER = 30000;
 
+// The id by which a tab has its session again when it is loaded anew. It is kept only while no page of the tab runs: a
+// copy of the tab finds none, and so isn't taken for it.
+function takeId() {
+  const kept = sessionStorage.getItem("tab");
+  sessionStorage.removeItem("tab");
+  return kept ?? crypto.getRandomValues(new Uint32Array(4)).join("-");
+}
+
 export class Wire {
   // `joined` gets the answer to a join, `heard` each event, and `lost` says in words what is wrong, or null.
   constructor({ joined, heard, lost }) {
     Object.assign(this, { joined, heard, lost, session: null, after: 0, events: null, last: Promise.resolve() });
-    addEventListener("pagehide", () => this.leave());
-    addEventListener("pageshow", (event) => event.persisted && this.join());
+    Object.assign(this, { tab: takeId(), seat: null });
+    addEventListener("pagehide", () => this.hidden());
+    addEventListener("pageshow", (event) => event.persisted && this.shownAgain());
     document.addEventListener("visibilitychange", () => this.looked());
+  }
+
+  hidden() {
+    sessionStorage.setItem("tab", this.tab);
+    this.leave();
+  }
+
+  shownAgain() {
+    this.tab = takeId();
+    this.join();
   }
 
   async post(path, body) {
@@ -19,13 +38,15 @@ export class Wire {
     return answer.json();
   }
 
-  // Joins, as the session that this tab was before where that is free.
+  // Joins, as the session that this tab was before. A server that was begun anew knows no id, so it is told that too.
   async join() {
     const before = sessionStorage.getItem("session");
+    const { tab } = this;
     try {
-      const answer = await this.post("join", before === null ? {} : { session: Number(before) });
+      const answer = await this.post("join", before === null ? { tab } : { tab, session: Number(before) });
       if (answer.refused !== undefined) return void this.lost(`${answer.refused}. Close one, and load this again.`);
       this.session = answer.session;
+      this.seat = answer.seat;
       this.after = answer.scene.sequence;
       sessionStorage.setItem("session", answer.session);
       this.lost(null);
@@ -75,11 +96,13 @@ export class Wire {
     return answer;
   }
 
+  // A page that goes may have lost its stream by then.
   leave() {
-    if (this.events === null) return;
-    this.events.close();
+    this.events?.close();
     this.events = null;
-    navigator.sendBeacon("leave", JSON.stringify({ session: this.session }));
+    if (this.seat === null) return;
+    navigator.sendBeacon("leave", JSON.stringify({ seat: this.seat }));
+    this.seat = null;
   }
 
   looked() {
