@@ -9,6 +9,7 @@ from pathlib import Path
 from urllib.parse import parse_qs
 
 from sessions import TABS
+from strangers import MOST_STRANGERS, Strangers
 
 HERE = Path(__file__).resolve().parent
 SHARED = HERE.parent / "picture"
@@ -48,15 +49,27 @@ class Server(ThreadingHTTPServer):
     """Each connection has a thread, which doesn't keep the process from its end."""
 
     daemon_threads = True
+    request_queue_size = MOST_STRANGERS
 
     def __init__(self, hub, token, port=0):
         super().__init__(("127.0.0.1", port), Handler)
-        self.hub, self.token, self.files = hub, token, page_files()
+        self.hub, self.token, self.files, self.strangers = hub, token, page_files(), Strangers()
         self.hosts = [f"{name}:{self.server_port}" for name in ("127.0.0.1", "localhost")]
+
+    def process_request(self, request, client_address):
+        self.strangers.came(request)
+        super().process_request(request, client_address)
+
+    def service_actions(self):
+        self.strangers.cut_off_late()
+
+    def shutdown_request(self, request):
+        self.strangers.forget(request)
+        super().shutdown_request(request)
 
     def handle_error(self, request, client_address):
         """A browser that goes away is no error."""
-        if not isinstance(sys.exc_info()[1], (ConnectionError, TimeoutError)):
+        if not isinstance(sys.exc_info()[1], (ConnectionError, TimeoutError, socket.timeout)):
             super().handle_error(request, client_address)
 
 
@@ -108,6 +121,7 @@ class Handler(BaseHTTPRequestHandler):
         token, _, name = self.path.removeprefix("/").partition("/")
         if not compare_digest(token.encode(), self.server.token.encode()) or not self.path.startswith("/"):
             raise Refusal(403, "the address has not the token")
+        self.server.strangers.forget(self.connection)
         host, origin, site = map(self.only_header, ("Host", "Origin", "Sec-Fetch-Site"))
         if host not in self.server.hosts:
             raise Refusal(403, "the host is another one")
