@@ -26,6 +26,7 @@ HEADERS = {
 }  # fmt: skip
 MOST_BODY = 16 * 2**20
 MOST_TAB = 64
+MOST_DIGITS = 15
 SECONDS_IDLE = 60
 SECONDS_ALIVE = 10
 
@@ -167,10 +168,11 @@ class Handler(BaseHTTPRequestHandler):
 
     def body(self):
         """The JSON object that was sent."""
-        length = self.headers.get("Content-Length", "")
+        length = self.only_header("Content-Length") or ""
         if not (length.isascii() and length.isdigit()):
             raise Refusal(400, "the body's length isn't said")
-        if int(length) > MOST_BODY:
+        # Python raises at a number of thousands of digits.
+        if len(length) > MOST_DIGITS or int(length) > MOST_BODY:
             raise Refusal(413, "the body is longer than 16 MiB")
         try:
             body = json.loads(self.rfile.read(int(length)))
@@ -241,7 +243,7 @@ class Handler(BaseHTTPRequestHandler):
 
 
 def whole_number(text):
-    if not (text.isascii() and text.isdigit() and len(text) < 16):
+    if not (text.isascii() and text.isdigit() and len(text) <= MOST_DIGITS):
         raise Refusal(400, "a number was asked for")
     return int(text)
 

@@ -87,6 +87,20 @@ def try_no_http(asker):
         assert not answer.startswith(b"HTTP/1.1 2"), (text, answer)
 
 
+def try_lengths(asker):
+    """Lengths of a body that no number of Python's can be, or that are said twice: the connection is closed."""
+    where, port = asker.host.split(":")
+    many = "1" * 5_000, "0" * 5_000, "9" * 60_000
+    for status, lengths in (*((413, [length]) for length in many), (403, ["2", "2"]), (400, ["-1"]), (400, ["2 2"])):
+        said = "".join(f"Content-Length: {length}\r\n" for length in lengths)
+        with socket.create_connection((where, int(port)), timeout=5) as raw:
+            raw.sendall(f"POST {asker.path}call HTTP/1.1\r\nHost: {asker.host}\r\n{said}\r\n".encode())
+            answer = b"".join(iter(lambda: raw.recv(65536), b""))
+        assert answer.startswith(f"HTTP/1.1 {status} ".encode()), (lengths[0][:9], answer)
+        assert b"\r\nConnection: close\r\n" in answer, answer
+    return len(many) + 3
+
+
 def try_lines_not_sent(asker):
     """Lines that the hub answers itself, of which nothing comes to the shell."""
     asker.join()
@@ -110,6 +124,7 @@ def try_refusals(program, room):
         count = try_strangers(asker)
         count += try_no_calls(asker)
         try_no_http(asker)
+        count += try_lengths(asker)
         try_lines_not_sent(asker)
         after = asker.join()["scene"]
         for part in ("text", "frames", "kinds", "phases"):
