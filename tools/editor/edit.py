@@ -15,6 +15,7 @@ from server import Server  # noqa: E402
 from stored import StoreFault  # noqa: E402
 
 TOKEN_BYTES = 24  # which are 32 characters
+SECONDS_TO_LOOK = 1
 BUILT = TOP / "crates" / "scene" / "out" / "scene"
 UNBUILT = "the proved program isn't built, and the editor needs it; './scene build' builds it"
 
@@ -34,7 +35,9 @@ def serve(words):
     thread = threading.Thread(target=server.serve_forever, kwargs={"poll_interval": 0.1}, daemon=True)
     thread.start()
     print(f"http://127.0.0.1:{server.server_port}/{token}/", flush=True)
-    stop.wait()
+    while not stop.wait(SECONDS_TO_LOOK):
+        # A signal that another thread got is seen only when this one wakes.
+        pass
     hub.close()
     server.shutdown()
     thread.join()
