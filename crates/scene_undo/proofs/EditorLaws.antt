@@ -1,5 +1,5 @@
 -- What an editor keeps from one call to the next.
-use Rattle.std.proofs.Common.{◌≡◌, ℕ, zero, suc, List, [], ◌∷◌, take, refl, sym, subst}
+use Rattle.std.proofs.Common.{◌≡◌, ◌≤◌, ℕ, zero, suc, List, [], ◌∷◌, length, take, refl, sym, ap, subst, arith}
 use Rattle.scene_model.specs.World.{World}
 use Rattle.scene_world.specs.Room.{Room}
 use Rattle.scene_journal.specs.Recorder.{Recording, recording}
@@ -44,6 +44,15 @@ pub newest : (room : Room) (depth : ℕ) (rs : List Record) (w : World) → CanU
 newest room zero rs w can = tt
 newest room (suc n) [] w can = tt
 newest room (suc n) (r ∷ rs) w can = (can.0, newest room n rs (undone r w) can.1)
+
+-- and are no more than the depth says
+pub within : (depth d : ℕ) (rs ts : List Record) → ts ≡ take depth rs → d ≡ depth → length ts ≤ d
+within depth d rs ts is same = let few = few_taken depth rs in omega (arith, few, ap length is, same)
+  where
+    few_taken : (n : ℕ) (xs : List Record) → length (take n xs) ≤ n
+    few_taken zero xs = omega arith
+    few_taken (suc n) [] = omega arith
+    few_taken (suc n) (x ∷ xs) = let k = few_taken n xs in omega arith
 
 -- what can be undone and redone, in an equal world with equal room
 pub elsewhere : (room other : Room) (w v : World) (past future : List Record) → other ≡ room → v ≡ w

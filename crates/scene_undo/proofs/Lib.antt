@@ -1,6 +1,8 @@
+pub mod BackAndForth
 pub mod EditorLaws
 pub mod Kept
 pub mod Machines
+pub mod Sizes
 pub mod StackLaws
 pub mod Turns
 pub mod TwoStacks

@@ -1,5 +1,5 @@
 -- What an editor's machine becomes where a record goes to its past, or from it.
-use Rattle.std.proofs.Common.{◌≡◌, ℕ, zero, suc, ◌+◌, true, false, List, [], ◌∷◌, take, refl, ap, sym, subst, ◌∙◌, Ok, nat_eq, if◌then◌else◌}
+use Rattle.std.proofs.Common.{◌≡◌, ◌≤◌, ℕ, zero, suc, ◌+◌, ◌-◌, true, false, List, [], ◌∷◌, length, take, arith, refl, ap, sym, subst, ◌∙◌, Ok, nat_eq, if◌then◌else◌}
 use Rattle.std.proofs.lemmas.Bool.{eqb-true}
 use Rattle.scene_kinds.specs.Answers.{refuse}
 use Rattle.scene_kinds.specs.declared.fault.Fault.TheVariants.{TickFull}
@@ -12,6 +12,11 @@ use Rattle.scene_journal.proofs.Records.{records_come_back}
 use Rattle.scene_undo.specs.Editor.{machine_of, worlds_along}
 use Rattle.scene_undo.specs.Kept.{CanUndo, CanRedo, CanUndoAll, CanRedoAll}
 use Rattle.scene_undo.proofs.Kept.{undone_can, redone_can}
+
+-- records lead to as many worlds
+pub no_more_worlds : (step : Record → World → World) (rs : List Record) (w : World) (depth : ℕ) → length rs ≤ depth → length (worlds_along step rs w) ≤ depth
+no_more_worlds step [] w depth few = few
+no_more_worlds step (r ∷ rs) w depth few = let rest = no_more_worlds step rs (step r w) (depth - 1) (omega (arith, few)) in omega (arith, few, rest)
 
 -- the worlds of the newest records are the newest worlds
 pub along_newest : (step : Record → World → World) (depth : ℕ) (rs : List Record) (w : World)

@@ -1,5 +1,5 @@
 //! Advances: the systems of a schedule as one frame of an editor.
-ghost use Rattle.std.specs.Prelude.{◌≡◌, ◌∷◌, [], take, IfOk, OnErr};
+ghost use Rattle.std.specs.Prelude.{◌≡◌, ◌∷◌, [], take, IfOk, OnOk, OnErr};
 ghost use Rattle.scene_kinds.specs.Answers.{Answers};
 ghost use Rattle.scene_machine.specs.Frame.{Advance as Advancing, call};
 ghost use Rattle.scene_model.specs.Perform.{perform};
@@ -10,6 +10,7 @@ ghost use Rattle.scene_schedule.specs.Calls.{IsRunOf};
 ghost use Rattle.scene_schedule.specs.Sound.{IsSoundPhase};
 ghost use Rattle.scene_schedule.specs.Systems.{advance_of};
 ghost use Rattle.scene_undo.specs.Editor.{IsRecordOf, entities_of, machine_of};
+ghost use Rattle.scene_undo.specs.Size.{IsNewestWithin, advance_size};
 
 use crate::editor::Editor;
 use crate::made::Made;
@@ -21,8 +22,9 @@ use std::thread::Threads;
 
 impl Editor {
     /// Advances by a schedule, all or nothing, on this thread: it raises the world's tick by one and runs the phases in order
-    /// (docs/MODEL.md, "The rule of schedules"). What was undone is forgotten. It costs the matching rows of each system, the
-    /// cells that are written, what the queued commands change, and the records that are forgotten.
+    /// (docs/MODEL.md, "The rule of schedules"). What was undone is forgotten. Its record has at most as many deltas as
+    /// cells are written, commands queued, and descendants taken along. It costs the matching rows of each system, the cells
+    /// that are written, what the queued commands change, and the records that are forgotten.
     ///
     /// Refused, in this order, and then the editor is as it was: `TickFull`; `OtherSchema` where the world has other kinds than
     /// those the schedule was made for; phase by phase `Overflow`, or the first refusal of a queued command, each with its
@@ -34,6 +36,7 @@ impl Editor {
         ensures records { IfOk result (λ m. (r : Record)
             × (IsRecordOf (advance_of (act deltas_of) (λ t. t.world) schedule.now) self.old.world self.new.world m.entities.items r
             × ((self.new.past ≡ take self.old.depth (r ∷ self.old.past)) × (self.new.future ≡ [])))) }
+        ensures few { OnOk result (IsNewestWithin (advance_size schedule.now self.old.world) self.new.past) }
         ensures same { OnErr result (self.new ≡ self.old) }
     {
         let runner = Alone;
@@ -55,6 +58,7 @@ impl Editor {
         ensures records { IfOk result (λ m. (r : Record)
             × (IsRecordOf (advance_of (act deltas_of) (λ t. t.world) schedule.now) self.old.world self.new.world m.entities.items r
             × ((self.new.past ≡ take self.old.depth (r ∷ self.old.past)) × (self.new.future ≡ [])))) }
+        ensures few { OnOk result (IsNewestWithin (advance_size schedule.now self.old.world) self.new.past) }
         ensures same { OnErr result (self.new ≡ self.old) }
     {
         let alloc = self.alloc;

@@ -6,16 +6,18 @@ ghost use Rattle.scene_machine.specs.Frame.{Submit, call, framed};
 ghost use Rattle.scene_machine.specs.Machine.{most_frames, opening, opening_with, redo, submitted, undo};
 ghost use Rattle.scene_world.specs.Room.{IsWider};
 ghost use Rattle.scene_queue.specs.Frames.{frame_of};
-ghost use Rattle.scene_journal.specs.Frames.{frame_record};
+ghost use Rattle.scene_journal.specs.Frames.{frame_record, size};
 ghost use Rattle.scene_deltas.specs.Notes.{deltas_of};
 ghost use Rattle.scene_journal.specs.Records.{Record, undone};
 ghost use Rattle.scene_journal.specs.Recorder.{began, staged_of};
 ghost use Rattle.scene_undo.specs.declared.direction.Direction.TheVariants.{Undo, Redo};
+ghost use Rattle.scene_undo.specs.BackAndForth.{IsWithinDepth, RedoThenUndo, UndoThenRedo};
 ghost use Rattle.scene_undo.specs.Cursor.{cursor_of, since};
 ghost use Rattle.scene_undo.specs.Direction.{AllFit};
 ghost use Rattle.scene_undo.specs.Editor.{IsRecordOf, at_depth, entities_of, machine_of, new_editor};
 ghost use Rattle.scene_undo.specs.Kept.{CanUndo};
 ghost use Rattle.scene_undo.specs.Parts.{NamesFrame};
+ghost use Rattle.scene_undo.specs.Size.{IsNewestWithin};
 ghost use Rattle.scene_undo.specs.Stacks.{IsRedone, IsUndone};
 ghost use Rattle.scene_verdicts.specs.Faults.{FutureFits, IsFaultOf, PastFits};
 
@@ -46,7 +48,7 @@ pub struct Editor {
 }
 
 impl Model for Editor {
-    ghost use Rattle.std.specs.Prelude.{◌≡◌, []};
+    ghost use Rattle.std.specs.Prelude.{◌≡◌, ◌≤◌, [], length};
     ghost use Rattle.scene_undo.specs.Editor.{EditorState};
     ghost use Rattle.scene_undo.specs.Kept.{CanRedoAll, CanUndoAll};
 
@@ -54,9 +56,11 @@ impl Model for Editor {
 
     ghost view = { λ e. record { world = e.recorder.world; past = e.stacks.past; future = e.stacks.future; rewinds = e.rewinds; depth = e.stacks.depth } };
 
-    // No frame is being recorded. Each record can be undone, or redone, at its turn, with the memory that the world has.
+    // No frame is being recorded. Each record can be undone, or redone, at its turn, with the memory that the world has. The
+    // past has no more records than the depth says.
     ghost invariant = { λ e. (e.recorder.frame.deltas ≡ [])
-        × ∥ CanUndoAll e.recorder.room e.stacks.past e.recorder.world × CanRedoAll e.recorder.room e.stacks.future e.recorder.world ∥₁ };
+        × ∥ CanUndoAll e.recorder.room e.stacks.past e.recorder.world × CanRedoAll e.recorder.room e.stacks.future e.recorder.world ∥₁
+        × (length e.stacks.past ≤ e.stacks.depth) };
 }
 
 /// The greatest depth that the lines of a script may set, and that of an editor where none was set.
@@ -264,8 +268,9 @@ impl Editor {
     }
 
     /// Does a frame, all or nothing: it raises the world's tick by one and applies the queues in order
-    /// (docs/MODEL.md, "The rule of frames"). What was undone is forgotten. It costs what the frame changes, refused or not,
-    /// and the records that are forgotten.
+    /// (docs/MODEL.md, "The rule of frames"). What was undone is forgotten. Its record has at most as many deltas as the
+    /// frame has commands and takes descendants along. It costs what the frame changes, refused or not, and the records that
+    /// are forgotten.
     ///
     /// Refused, in this order, and then the editor is as it was: `TickFull`; the first command's refusal, with its
     /// place; `NoMemory`.
@@ -276,6 +281,7 @@ impl Editor {
         ensures copy { IfOk result (λ m. m.copy.items ≡ m.entities.items) }
         ensures records { OnOk result ((self.new.past ≡ take self.old.depth (frame_record (frame_of queues.now) self.old.world ∷ self.old.past))
             × (self.new.future ≡ [])) }
+        ensures few { OnOk result (IsNewestWithin (size (frame_of queues.now) self.old.world) self.new.past) }
         ensures same { OnErr result (self.new ≡ self.old) }
     {
         self.run(&Queues(queues))
@@ -345,5 +351,16 @@ impl Editor {
         self.recorder.redo_record(record)?;
         self.stacks.redo();
         Ok(())
+    }
+    /// A law of every editor: its past has no more frames than the depth says. So an undo and then a redo give the same past,
+    /// world and future. A redo and then an undo give the same world and future, and the same past, but for its oldest frame
+    /// where the redo dropped that. It does nothing.
+    pub fn undo_and_redo_come_back(&self)
+        ensures within { IsWithinDepth (machine_of self.now) }
+        ensures undo_redo { UndoThenRedo (machine_of self.now) }
+        ensures redo_undo { RedoThenUndo (machine_of self.now) }
+    {
+        // This opens the editor to the prover.
+        let _depth = self.stacks.depth();
     }
 }

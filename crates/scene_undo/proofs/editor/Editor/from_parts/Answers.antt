@@ -7,7 +7,7 @@ use Rattle.scene_undo.specs.Direction.{CanAll}
 use Rattle.scene_undo.specs.Kept.{CanUndoAll, CanRedoAll}
 use Rattle.scene_undo.specs.Parts.{IsFirstFault, NamesFrame}
 use Rattle.scene_verdicts.specs.Faults.{IsFaultOf}
-use Rattle.scene_undo.proofs.EditorLaws.{at_rest, newest}
+use Rattle.scene_undo.proofs.EditorLaws.{at_rest, newest, within}
 use Rattle.scene_undo.proofs.TwoStacks.{future_fault, handed_on, in_range, kept, past_fault}
 use Rattle.scene_undo.proofs.Turns.{all_fit}
 use Rattle.scene_undo.proofs.editor.Editor.from_parts.Goals as goal
@@ -39,7 +39,8 @@ invariant_of-result c =
     (newest last.room c.args.depth past w both.0, both.1) in
     let past_kept = subst (λ rs. CanUndoAll last.room rs last.world) (sym c.in_ok-stacks.ensures.past) at.0 in
     let future_kept = subst (λ rs. CanRedoAll last.room rs last.world) (sym c.in_ok-stacks.ensures.future) at.1 in
-    at_rest c.idle-recorder.result last.world last.room c.in_ok-stacks.stacks.past c.in_ok-stacks.stacks.future c.idle-recorder.ensures past_kept future_kept
+    let rest = at_rest c.idle-recorder.result last.world last.room c.in_ok-stacks.stacks.past c.in_ok-stacks.stacks.future c.idle-recorder.ensures past_kept future_kept in
+    (rest.0, rest.1, within c.args.depth c.in_ok-stacks.stacks.depth past c.in_ok-stacks.stacks.past c.in_ok-stacks.ensures.past c.in_ok-stacks.ensures.depth)
 
 pub after_frames-requires : goal.after_frames-requires
 after_frames-requires c = λ frame delta is.

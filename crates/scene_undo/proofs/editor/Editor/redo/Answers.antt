@@ -3,7 +3,7 @@ use Rattle.scene_machine.specs.Machine.{redo}
 use Rattle.scene_journal.specs.Records.{redone}
 use Rattle.scene_undo.specs.Editor.{EditorState, machine_of}
 use Rattle.scene_undo.specs.Kept.{CanRedoAll}
-use Rattle.scene_undo.proofs.EditorLaws.{elsewhere, found, newest, of_equal}
+use Rattle.scene_undo.proofs.EditorLaws.{elsewhere, found, newest, of_equal, within}
 use Rattle.scene_undo.proofs.Machines.{redone_past, machine_redone}
 use Rattle.scene_undo.proofs.editor.Editor.redo.Goals as goal
 
@@ -26,7 +26,7 @@ invariant_of-self c =
     let s = c.self.inside.stacks in
     let at = elsewhere w.room v.room w.world v.world s.past s.future c.redo_record.ensures.room c.in_err-redo_record.ensures.full
     (found w.room s.past s.future w.world c.self.invariant.1) in
-    (c.redo_record.ensures.empty, ∣ (at.0, at.1) ∣₁)
+    (c.redo_record.ensures.empty, ∣ (at.0, at.1) ∣₁, c.self.invariant.2)
 
 pub invariant_of-self-2 : goal.invariant_of-self-2
 invariant_of-self-2 c =
@@ -45,7 +45,7 @@ invariant_of-self-2 c =
     let kept = newest w.room s.depth (r ∷ s.past) (redone r w.world) on in
     let at = of_equal v.room v.world (take s.depth (r ∷ s.past)) t.past t.future t.future moved.1.1 (λ i. t.future)
     (elsewhere w.room v.room (redone r w.world) v.world (take s.depth (r ∷ s.past)) t.future c.redo_record.ensures.room made (kept, from.1)) in
-    (c.redo_record.ensures.empty, ∣ (at.0, at.1) ∣₁)
+    (c.redo_record.ensures.empty, ∣ (at.0, at.1) ∣₁, within s.depth t.depth (r ∷ s.past) t.past moved.1.1 c.redo.ensures.depth)
 
 pub returns-clause-machine : goal.returns-clause-machine
 returns-clause-machine c =

@@ -1,9 +1,9 @@
-use Rattle.std.proofs.Common.{◌≡◌, [], ◌∷◌, take, ap, subst, sym, ◌∙◌, Ok}
+use Rattle.std.proofs.Common.{◌≡◌, [], ◌∷◌, length, take, arith, ap, subst, sym, ◌∙◌, Ok}
 use Rattle.scene_machine.specs.Machine.{submitted}
 use Rattle.scene_machine.specs.Frame.{framed}
 use Rattle.scene_undo.specs.Editor.{EditorState, machine_of}
 use Rattle.scene_undo.specs.Kept.{CanUndoAll, CanRedoAll}
-use Rattle.scene_undo.proofs.EditorLaws.{found, newest, of_equal}
+use Rattle.scene_undo.proofs.EditorLaws.{found, newest, of_equal, within}
 use Rattle.scene_undo.proofs.Kept.{undo_wider, redo_wider}
 use Rattle.scene_undo.proofs.Machines.{machine_framed}
 use Rattle.scene_undo.proofs.editor.Editor.run.Goals as goal
@@ -15,7 +15,7 @@ invariant_of-self g c =
     let t = c.make_room.new.self in
     let at = of_equal w.room w.world s.past t.past s.future t.future c.make_room.ensures.same.past c.make_room.ensures.same.future
     (found w.room s.past s.future w.world c.self.invariant.1) in
-    (c.self.invariant.0, ∣ (at.0, at.1) ∣₁)
+    (c.self.invariant.0, ∣ (at.0, at.1) ∣₁, omega (arith, c.self.invariant.2, ap length c.make_room.ensures.same.past, c.make_room.ensures.same.depth))
 
 pub invariant_of-self-in-Ok : goal.invariant_of-self-in-Ok
 invariant_of-self-in-Ok g c =
@@ -31,7 +31,7 @@ invariant_of-self-in-Ok g c =
     (c.in-Ok.ensures.can, subst (CanUndoAll v.room s.past) (sym c.in-Ok.ensures.back) (undo_wider w.room v.room s.past w.world c.frame.ensures.wide both.0)) in
     let at = of_equal v.room v.world (take s.depth (kept ∷ s.past)) t.past [] t.future onto c.keep.ensures.future
     (newest v.room s.depth (kept ∷ s.past) v.world past, tt) in
-    (c.frame.ensures.empty, ∣ (at.0, at.1) ∣₁)
+    (c.frame.ensures.empty, ∣ (at.0, at.1) ∣₁, within s.depth t.depth (kept ∷ s.past) t.past onto (c.keep.ensures.depth ∙ room.depth))
 
 pub invariant_of-self-in-Err : goal.invariant_of-self-in-Err
 invariant_of-self-in-Err g c =
@@ -44,7 +44,7 @@ invariant_of-self-in-Err g c =
     let at = of_equal v.room v.world s.past t.past s.future t.future c.make_room.ensures.same.past c.make_room.ensures.same.future
     (subst (λ u. CanUndoAll v.room s.past u × CanRedoAll v.room s.future u) (sym c.in-Err.ensures.same)
     (undo_wider w.room v.room s.past w.world wide both.0, redo_wider w.room v.room s.future w.world wide both.1)) in
-    (c.frame.ensures.empty, ∣ (at.0, at.1) ∣₁)
+    (c.frame.ensures.empty, ∣ (at.0, at.1) ∣₁, omega (arith, c.self.invariant.2, ap length c.make_room.ensures.same.past, c.make_room.ensures.same.depth))
 
 pub returns-in-Ok-clause-machine : goal.returns-in-Ok-clause-machine
 returns-in-Ok-clause-machine g c =

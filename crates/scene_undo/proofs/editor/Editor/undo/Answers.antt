@@ -1,4 +1,4 @@
-use Rattle.std.proofs.Common.{Ok, ap, subst, sym, ◌+◌, ◌∙◌, ◌∷◌, ◌≡◌}
+use Rattle.std.proofs.Common.{Ok, ap, arith, length, subst, sym, ◌+◌, ◌∙◌, ◌∷◌, ◌≡◌}
 use Rattle.scene_machine.specs.Machine.{undo}
 use Rattle.scene_journal.specs.Records.{undone}
 use Rattle.scene_undo.specs.Editor.{EditorState, machine_of}
@@ -26,7 +26,7 @@ invariant_of-self c =
     let s = c.self.inside.stacks in
     let at = elsewhere w.room v.room w.world v.world s.past s.future c.undo_record.ensures.room c.in_err-undo_record.ensures.full
     (found w.room s.past s.future w.world c.self.invariant.1) in
-    (c.undo_record.ensures.empty, ∣ (at.0, at.1) ∣₁)
+    (c.undo_record.ensures.empty, ∣ (at.0, at.1) ∣₁, c.self.invariant.2)
 
 pub invariant_of-self-2 : goal.invariant_of-self-2
 invariant_of-self-2 c =
@@ -44,7 +44,7 @@ invariant_of-self-2 c =
     let gone = undone_future w.room r w.world c.world_is_sound.ensures.valid c.world_is_sound.ensures.held s.future from.0 both.1 in
     let at = of_equal v.room v.world t.past t.past (r ∷ s.future) t.future (λ i. t.past) moved.1.1
     (elsewhere w.room v.room (undone r w.world) v.world t.past (r ∷ s.future) c.undo_record.ensures.room made (from.1, gone)) in
-    (c.undo_record.ensures.empty, ∣ (at.0, at.1) ∣₁)
+    (c.undo_record.ensures.empty, ∣ (at.0, at.1) ∣₁, omega (arith, c.self.invariant.2, ap length moved.1.0, c.undo.ensures.depth))
 
 pub returns-clause-machine : goal.returns-clause-machine
 returns-clause-machine c =
