@@ -53,13 +53,12 @@ abbrev pub TriesToWrite : {D Y J : Type 0} → ℕ → List Step → Result (Res
 TriesToWrite session before (Ok reply) after = after ≡ before ++ visit session TakeToChange 0 (put_after reply) 0
 TriesToWrite session before (Err job) after = (after ≡ before) ⊎ (after ≡ before ++ visit session TakeToChange 0 PutAsItWas 0)
 
--- One round of a `write`: it goes in and does its job, or finds the state out, or is turned away by a share and leaves the state
--- wanted
+-- One round of a `write`: it goes in and does its job, or finds the state out, or leaves it wanted
 abbrev pub Attempts : {D Y J : Type 0} → ℕ → List Step → Result (Result D Y) J → List Step → Type 0
 Attempts session before (Ok reply) after = (from : ℕ) × IsFree from × (after ≡ before ++ visit session TakeToChange from (put_after reply) 0)
 Attempts session before (Err job) after = (after ≡ before) ⊎ ((from : ℕ) × IsFree from × (after ≡ before ++ visit session TakeToChange from PutWanted 2))
 
--- rounds that a share turned away, by the words that they found: each leaves the state wanted
+-- rounds that did no job, by the words that they found: each leaves the state wanted
 abbrev pub rounds : ℕ → List ℕ → List Step
 rounds session [] = []
 rounds session (from ∷ rest) = visit session TakeToChange from PutWanted 2 ++ rounds session rest
@@ -78,7 +77,7 @@ abbrev pub shares : ℕ → ℕ → List Step
 shares session zero = []
 shares session (suc n) = shares session n ++ visit session TakeToShare 0 PutAsItWas 0
 
--- a `read`: it takes shares at word 0 alone, more than one only where the first were refused
+-- a `read`: it takes shares at word 0 alone
 abbrev pub Reads : ℕ → List Step → List Step → Type 0
 Reads session before after = (n : ℕ) × (after ≡ before ++ shares session (suc n))
 

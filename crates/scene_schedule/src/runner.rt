@@ -8,7 +8,7 @@ ghost use Rattle.scene_schedule.specs.Sound.{IsSoundPhase};
 ghost use Rattle.scene_schedule.specs.Systems.{systems_from};
 
 use crate::advance::PhaseRunner;
-use crate::gate::OpenGate;
+use crate::gate::Gate;
 use crate::output::PhaseOutput;
 use crate::systems::run_systems_alone;
 use crate::workers::run_systems;
@@ -66,15 +66,17 @@ impl<F: Fn(&World, &[SystemRule]) -> Result<PhaseOutput, Refusal>> PhaseRunner f
 
 /// What the systems of a phase make of the opening world, on so many workers: a number below 1 is taken as 1, and one above 16 as
 /// 16. No more threads are made than there are systems, and none for one system alone, nor in a world of fewer than 16,384
-/// slots. What they make, and what is refused, is the same for every number (docs/MODEL.md, "Many threads, one answer").
+/// slots; where there are threads, each worker passes the gate before each of its systems. What they make, and what is refused,
+/// is the same for every number and gate (docs/MODEL.md, "Many threads, one answer").
 ///
 /// Refused: the first `Overflow`, by system, then by row, placed by the system and the step; `NoMemory`.
-pub fn run_shared<R: Threads + Sync>(
+pub fn run_shared<R: Threads + Sync, G: Gate + Sync>(
     rt: &R,
     alloc: Global,
     world: &World,
     rules: &[SystemRule],
     workers: usize,
+    gate: &G,
 ) -> Result<PhaseOutput, Refusal>
     requires { IsSoundPhase world.now.world.schema rules.now }
     ensures output { IfOk result (λ output. IsOutputOf output world.now.world rules.now) }
@@ -84,5 +86,5 @@ pub fn run_shared<R: Threads + Sync>(
     if workers < 2 || world.slots().len() < SHARED_SLOTS {
         return run_systems_alone(alloc, world, rules);
     }
-    run_systems(rt, alloc, world, rules, workers, &OpenGate)
+    run_systems(rt, alloc, world, rules, workers, gate)
 }

@@ -19,7 +19,7 @@ fn empty_world(alloc: Global) -> Result<World, Refusal> {
     let _number = schema.add(String::from_str(alloc, "Number")?, Shape::Int)?;
     let _place = schema.add(String::from_str(alloc, "Place")?, Shape::Vec3)?;
     let _speed = schema.add(String::from_str(alloc, "Speed")?, Shape::Vec3)?;
-    Ok(World::new(alloc, schema, 4096))
+    Ok(World::new(alloc, schema, 5000))
 }
 
 /// Spawns rows that have the numbers from 0 up, one each.
@@ -104,17 +104,21 @@ fn moves_twice(alloc: Global, world: &mut World) -> Result<bool, Refusal> {
     Ok(made.len() == 1 && is_place(&made[0], [21, -2, 3]))
 }
 
-/// How many rows count up from 5 after 5 was added to numbers from 0, in many threads.
+/// How many rows count up from 1 after 1 was added to numbers from 0, in one thread and in many.
 fn raised<R: Threads + Sync>(
     rt: &R,
     alloc: Global,
     world: &mut World,
     count: i64,
-) -> Result<Option<usize>, Refusal> {
+) -> Result<[Option<usize>; 2], Refusal> {
     spawn_numbers(alloc, world, count)?;
-    let step = RowStep::AddInt { to: NUMBER, by: 5 };
-    let made = map_rows(rt, alloc, world, Filter::all(), [step].as_slice())?;
-    Ok(count_up(made.as_slice(), 5))
+    let step = RowStep::AddInt { to: NUMBER, by: 1 };
+    let alone = map_rows_alone(alloc, world, Filter::all(), [step].as_slice())?;
+    let parted = map_rows(rt, alloc, world, Filter::all(), [step].as_slice())?;
+    Ok([
+        count_up(alone.as_slice(), 1),
+        count_up(parted.as_slice(), 1),
+    ])
 }
 
 /// The first of 3,000 rows with numbers from 0 whose second sum doesn't fit, in one thread and in many.
@@ -144,7 +148,7 @@ fn faults<R: Threads + Sync>(
 enum Trial {
     /// Vectors are added.
     Vectors,
-    /// 5 is added to so many numbers.
+    /// 1 is added to so many numbers.
     Raises(u32),
     /// The first overflow is named.
     Overflows,
@@ -155,8 +159,10 @@ impl Trial {
         let want = Some((first(2500), 1));
         match self {
             Trial::Vectors => moves_twice(alloc, world) == Ok(true),
-            Trial::Raises(count) => raised(rt, alloc, world, i64::from(count))
-                == Ok(Some(count as usize)),
+            Trial::Raises(count) => {
+                let all = Some(count as usize);
+                raised(rt, alloc, world, i64::from(count)) == Ok([all, all])
+            }
             Trial::Overflows => faults(rt, alloc, world) == Ok([want, want]),
         }
     }
@@ -187,7 +193,7 @@ fn rows_of_a_small_table_are_changed(rt: HostRuntime) -> Result<(), Fail> {
 
 #[test]
 fn rows_of_a_parted_table_are_changed(rt: HostRuntime) -> Result<(), Fail> {
-    assert!(rt; holds(&rt, rt.alloc(), Trial::Raises(3000)));
+    assert!(rt; holds(&rt, rt.alloc(), Trial::Raises(5000)));
     Ok(())
 }
 

@@ -16,7 +16,8 @@ use std::thread::Threads;
 
 /// A refusal as a reply, twice; `None` where it is want of memory, which no history enters.
 fn refused(refusal: Refusal) -> Option<(Reply, Reply)>
-    ensures { IfSome result (λ p. (refusal ≢ refusal_of NoMemory) × (p.0 ≡ Refused refusal) × (p.1 ≡ Refused refusal)) }
+    ensures told { IfSome result (λ p. (refusal ≢ refusal_of NoMemory) × (p.0 ≡ Refused refusal) × (p.1 ≡ Refused refusal)) }
+    ensures none { IfNone result (refusal.fault ≡ NoMemory) }
 {
     match refusal.fault {
         Fault::NoMemory => None,

@@ -32,10 +32,10 @@ pub fn empty_schedule(alloc: Global) -> Result<Schedule, Refusal> {
     Schedule::new(alloc, &schema, Vec::new(alloc))
 }
 
-/// A system that adds 1 to the number of each row.
-fn counting_rule(alloc: Global) -> Result<SystemRule, Refusal> {
+/// A system of one step, for each row with a number.
+fn rule(alloc: Global, step: Step) -> Result<SystemRule, Refusal> {
     let mut steps = Vec::new(alloc);
-    steps.push(Step::Row(RowStep::AddInt { to: 0, by: 1 }))?;
+    steps.push(step)?;
     Ok(SystemRule {
         name: Text::from("count".to_string(alloc)?),
         filter: Filter {
@@ -46,29 +46,69 @@ fn counting_rule(alloc: Global) -> Result<SystemRule, Refusal> {
     })
 }
 
-/// A phase of that system.
-fn counting_phase(alloc: Global) -> Result<Phase, Refusal> {
-    let mut phase = Phase::new(alloc);
-    phase.push(counting_rule(alloc)?)?;
-    Ok(phase)
+/// A schedule of one phase for that kind.
+fn schedule(alloc: Global, phase: Phase) -> Result<Schedule, Refusal> {
+    let mut phases = Vec::new(alloc);
+    phases.push(phase)?;
+    Schedule::new(alloc, &one_kind(alloc)?, phases)
 }
 
 /// A schedule that adds 1 to the number of each row.
 pub fn counting_schedule(alloc: Global) -> Result<Schedule, Refusal> {
-    let mut phases = Vec::new(alloc);
-    phases.push(counting_phase(alloc)?)?;
-    let schema = one_kind(alloc)?;
-    Schedule::new(alloc, &schema, phases)
+    let mut phase = Phase::new(alloc);
+    phase.push(rule(alloc, Step::Row(RowStep::AddInt { to: 0, by: 1 }))?)?;
+    schedule(alloc, phase)
 }
 
-/// A state of a world with that kind and no entities, with no history so far.
+/// A system that counts the rows.
+fn row_count(alloc: Global) -> Result<SystemRule, Refusal> {
+    let name = Text::from("rows".to_string(alloc)?);
+    rule(alloc, Step::CountInto { name })
+}
+
+/// A schedule of two systems, which may run at once.
+pub fn two_systems(alloc: Global) -> Result<Schedule, Refusal> {
+    let mut phase = Phase::new(alloc);
+    phase.push(row_count(alloc)?)?;
+    phase.push(row_count(alloc)?)?;
+    schedule(alloc, phase)
+}
+
+/// A schedule of no phases for a world without kinds.
+pub fn schedule_of_other_kinds(alloc: Global) -> Result<Schedule, Refusal> {
+    Schedule::new(alloc, &Schema::new(alloc), Vec::new(alloc))
+}
+
+/// An editor of a world with that kind and no entities.
+pub fn empty_editor(alloc: Global) -> Result<Editor, Refusal> {
+    let world = World::new(alloc, one_kind(alloc)?, 1024);
+    Ok(Editor::new(alloc, world))
+}
+
+/// Spawns so many entities without components.
+fn spawn_empty(world: &mut World, alloc: Global, count: u32) -> Result<(), Refusal> {
+    for _ in 0..count {
+        let _entity = world.spawn(Vec::new(alloc))?;
+    }
+    Ok(())
+}
+
+/// An editor of a world with that kind and so many entities.
+pub fn crowded_editor(alloc: Global, count: u32) -> Result<Editor, Refusal>
+    requires { (1 ≤ count) × (count ≤ 1048576) }
+{
+    let mut world = World::new(alloc, one_kind(alloc)?, count);
+    spawn_empty(&mut world, alloc, count)?;
+    Ok(Editor::new(alloc, world))
+}
+
+/// A state of an empty editor, with no history so far.
 pub fn empty_state(alloc: Global, limit: u32) -> Result<State, Refusal>
     requires { (1 ≤ limit) × (limit ≤ 1048576) }
     ensures legal { IfOk result (λ s. IsLegal s.opening s.history) }
     ensures empty { IfOk result (λ s. s.history ≡ []) }
 {
-    let world = World::new(alloc, one_kind(alloc)?, 1024);
-    Ok(State::new(alloc, Editor::new(alloc, world), limit))
+    Ok(State::new(alloc, empty_editor(alloc)?, limit))
 }
 
 /// A queue that spawns an entity with a number.

@@ -5,14 +5,14 @@ ghost use Rattle.scene_session.specs.Session.{IsSame};
 
 use super::*;
 use scene_commands::Command;
-use scene_kinds::{Entity, Fault, Refusal, Value};
+use scene_kinds::{Entity, Fault, Refusal, Row, Value};
 use scene_lock::{Pass, WordLock};
 use scene_lock_tests::Gate;
 use scene_pass::{CellName, rows};
 use scene_queue::Queue;
-use scene_session::{AddedSince, Call, CursorNow, Entry, Reply, Session, State, Stopped};
-use scene_undo::Cursor;
-use std::alloc::Global;
+use scene_session::{AddedSince, Call, CursorNow, Entry, Reply, RowsOf, Session, State, Stopped};
+use scene_undo::{Cursor, Editor, Made};
+use std::alloc::{AllocError, Global};
 use std::mem::size_of;
 use std::process::Abort;
 use std::sync::Wait;
@@ -46,12 +46,15 @@ enum Trial {
     HasFrames { sessions: u32, frames: u32 },
     /// Its history leads another state to the same.
     Replays,
+    /// It refuses to advance by a schedule for other kinds.
+    Refuses,
 }
 
 impl Trial {
-    fn run(self, rt: &impl Abort, alloc: Global, state: &mut State) {
+    fn run<R: Threads + Abort + Sync>(self, rt: &R, alloc: Global, state: &mut State) {
         match self {
             Trial::Fills => history_fills(rt, state),
+            Trial::Refuses => state_refuses(rt, alloc, state),
             Trial::WasShared => was_shared(rt, state),
             Trial::HasFrames { sessions, frames } => {
                 has_frames(rt, alloc, state, sessions, frames)
@@ -62,7 +65,7 @@ impl Trial {
 }
 
 /// Tries a state, and drops it, which is dear to prove.
-fn try_state(rt: &impl Abort, alloc: Global, state: State, trial: Trial) {
+fn try_state<R: Threads + Abort + Sync>(rt: &R, alloc: Global, state: State, trial: Trial) {
     let mut state = state;
     trial.run(rt, alloc, &mut state);
 }
@@ -70,7 +73,6 @@ fn try_state(rt: &impl Abort, alloc: Global, state: State, trial: Trial) {
 /// What a call came to.
 #[derive(Clone, Copy)]
 enum Told {
-    Done,
     Undone,
     Redone,
     Refused,
@@ -79,8 +81,7 @@ enum Told {
 /// Whether a reply tells just that.
 fn tells(reply: Result<Reply, Stopped>, told: Told) -> bool {
     match (&reply, told) {
-        (Ok(Reply::Done(_)), Told::Done)
-        | (Ok(Reply::Undone), Told::Undone)
+        (Ok(Reply::Undone), Told::Undone)
         | (Ok(Reply::Redone), Told::Redone)
         | (Ok(Reply::Refused(_)), Told::Refused) => true,
         _ => false,
@@ -111,6 +112,119 @@ fn a_full_history_stops_calls(rt: HostRuntime) -> Result<(), Fail> {
     Ok(())
 }
 
+/// Whether an advance was refused, and that entered, as one by a schedule for other kinds.
+fn is_of_other_kinds(reply: &Result<Reply, Stopped>) -> bool {
+    match reply {
+        Ok(Reply::Refused(refusal)) => *refusal == Refusal::from(Fault::OtherSchema),
+        _ => false,
+    }
+}
+
+fn state_refuses<R: Threads + Abort + Sync>(rt: &R, alloc: Global, state: &mut State) {
+    let schedule = schedule_of_other_kinds(alloc).expect(rt, "a schedule");
+    let alone = state.perform(0, Call::Advance(schedule));
+    assert!(rt; is_of_other_kinds(&alone));
+    let schedule = schedule_of_other_kinds(alloc).expect(rt, "a schedule");
+    let on_threads = state.perform_with(rt, 0, Call::Advance(schedule), 2);
+    assert!(rt; is_of_other_kinds(&on_threads));
+    assert_eq!(rt; state.history().len(), 2);
+    assert_eq!(rt; state.editor().world().tick(), 0);
+}
+
+#[test]
+fn a_state_refuses_a_schedule_for_other_kinds(rt: HostRuntime) -> Result<(), Fail> {
+    let state = empty_state(rt.alloc(), 2).expect(&rt, "a state");
+    try_state(&rt, rt.alloc(), state, Trial::Refuses);
+    Ok(())
+}
+
+/// Why an editor refused, if it did.
+fn refusal_of(answer: Result<Made, Refusal>) -> Option<Refusal> {
+    match answer {
+        Ok(_) => None,
+        Err(refusal) => Some(refusal),
+    }
+}
+
+fn editor_refuses<R: Threads + Abort + Sync>(rt: &R, alloc: Global, editor: &mut Editor) {
+    let schedule = schedule_of_other_kinds(alloc).expect(rt, "a schedule");
+    let wanted = Some(Refusal::from(Fault::OtherSchema));
+    assert_eq!(rt; refusal_of(editor.advance_alone(&schedule)), wanted);
+    assert_eq!(rt; refusal_of(editor.advance(rt, &schedule, 2)), wanted);
+    assert_eq!(rt; (editor.undo_len(), editor.world().tick()), (0, 0));
+}
+
+#[test]
+fn an_advance_shared_by_two_workers_starts_both(rt: HostRuntime) -> Result<(), Fail> {
+    let alloc = rt.alloc();
+    let schedule = two_systems(alloc).expect(&rt, "a schedule");
+    let mut editor = crowded_editor(alloc, 16_384).expect(&rt, "an editor");
+    let gate = TwoWorkers::new();
+    let made = advance_past(&rt, alloc, &mut editor, &schedule, &gate);
+    assert_eq!(rt; refusal_of(made), None);
+    assert!(rt; gate.have_met());
+    Ok(())
+}
+
+#[test]
+fn an_editor_refuses_a_schedule_for_other_kinds(rt: HostRuntime) -> Result<(), Fail> {
+    let mut editor = empty_editor(rt.alloc()).expect(&rt, "an editor");
+    editor_refuses(&rt, rt.alloc(), &mut editor);
+    Ok(())
+}
+
+/// Whether a frame was done, and spawned just so many entities, the first ones of a world.
+fn has_spawned(reply: &Result<Reply, Stopped>, count: u32) -> bool {
+    match reply {
+        Ok(Reply::Done(spawned)) => {
+            spawned.len() == count as usize
+                && spawned.iter().zip(0..count).all(|(entity, index)| {
+                    let generation = 1;
+                    *entity == Entity { index, generation }
+                })
+        }
+        _ => false,
+    }
+}
+
+/// Whether the one row is the first entity's, with the number 5, added and changed at tick 1.
+fn is_first_row(rows: &Result<Vec<Row>, AllocError>) -> bool {
+    let Ok(rows) = rows else {
+        return false;
+    };
+    let [row] = rows.as_slice() else {
+        return false;
+    };
+    let first = Entity {
+        index: 0,
+        generation: 1,
+    };
+    match row.cells.get(0) {
+        Some(cell) => {
+            row.entity == first
+                && matches!(cell.value, Value::Int(5))
+                && (cell.added, cell.changed) == (1, 1)
+        }
+        None => false,
+    }
+}
+
+/// A frame spawns the first entity, with the number 5, and the session lists it.
+fn spawn_first<'a, R: Threads + Wait + Abort + Sync>(
+    rt: &R,
+    alloc: Global,
+    session: Session<'a>,
+) -> Session<'a>
+    ensures { IsSame session.entry result }
+{
+    let queues = spawning(alloc, 5).expect(rt, "queues");
+    let (session, reply) = session.submit(rt, alloc, queues);
+    assert!(rt; has_spawned(&reply, 1));
+    let (session, rows) = session.ask(rt, alloc, &RowsOf(ALL));
+    assert!(rt; is_first_row(&rows));
+    session
+}
+
 /// The first session submits a frame, the second undoes it, and they meet.
 fn submit_and_undo<'a, R: Threads + Wait + Abort + Sync>(
     rt: &R,
@@ -119,10 +233,9 @@ fn submit_and_undo<'a, R: Threads + Wait + Abort + Sync>(
     one: Session<'a>,
 ) -> (Session<'a>, Session<'a>)
     requires { one.lock ≡ zero.lock }
-    ensures { IsSame zero.entry result.0 }
+    ensures { IsSame zero.entry result.0 × IsSame one.entry result.1 }
 {
-    let (zero, listed) = submit_one(rt, alloc, zero, 1);
-    assert!(rt; listed);
+    let zero = spawn_first(rt, alloc, zero);
     let (one, reply) = one.undo(rt, alloc);
     assert!(rt; tells(reply, Told::Undone));
     Session::meet(zero, one)
@@ -137,9 +250,9 @@ fn try_calls<'a>(rt: &impl Abort, alloc: Global, session: Session<'a>) -> Sessio
     let cursor = cursor.expect(rt, "an answer");
     assert_eq!(rt; (cursor.rewinds, cursor.tick), (1, 0));
     let (session, reply) = session.try_submit(alloc, Vec::new(alloc));
-    assert!(rt; tells(reply, Told::Done));
+    assert!(rt; has_spawned(&reply, 0));
     let (session, reply) = session.try_advance(alloc, schedule);
-    assert!(rt; tells(reply, Told::Done));
+    assert!(rt; has_spawned(&reply, 0));
     let (session, reply) = session.try_undo(alloc);
     assert!(rt; tells(reply, Told::Undone));
     let (session, reply) = session.try_redo(alloc);
@@ -147,12 +260,13 @@ fn try_calls<'a>(rt: &impl Abort, alloc: Global, session: Session<'a>) -> Sessio
     session
 }
 
-/// Two sessions share a state. The pass of the first.
+/// Two sessions share a state. The pass of the first, or of the second.
 fn share<R: Threads + Wait + Abort + Sync>(
     rt: &R,
     alloc: Global,
     lock: &WordLock<State>,
     passes: Vec<Pass<State>>,
+    second: bool,
 ) -> Pass<State>
     requires { All (IsPassOf lock.now) passes.items }
     ensures { IsPassOf lock.now result }
@@ -162,8 +276,8 @@ fn share<R: Threads + Wait + Abort + Sync>(
     let zero = Session::new(lock, passes.pop().expect(rt, "a first pass"));
     let (zero, one) = submit_and_undo(rt, alloc, zero, one);
     let zero = try_calls(rt, alloc, zero);
-    let _over = one.into_pass();
-    zero.into_pass()
+    let (zero, one) = (zero.into_pass(), one.into_pass());
+    if second { one } else { zero }
 }
 
 fn was_shared(rt: &impl Abort, state: &State) {
@@ -178,14 +292,20 @@ fn was_shared(rt: &impl Abort, state: &State) {
     );
 }
 
+/// The state that two sessions have shared, by the pass of the first, or of the second.
+fn shared<R: Threads + Wait + Abort + Sync>(rt: &R, alloc: Global, second: bool) -> State {
+    let (lock, passes) = new_lock(rt, alloc, 2, 1000);
+    let pass = share(rt, alloc, &lock, passes, second);
+    lock.finish(pass)
+        .expect(rt, "the state, once all have ended")
+}
+
 #[test]
 fn two_sessions_share_a_state(rt: HostRuntime) -> Result<(), Fail> {
-    let (lock, passes) = new_lock(&rt, rt.alloc(), 2, 1000);
-    let zero = share(&rt, rt.alloc(), &lock, passes);
-    let state = lock
-        .finish(zero)
-        .expect(&rt, "the state, once all have ended");
-    try_state(&rt, rt.alloc(), state, Trial::WasShared);
+    for second in [false, true] {
+        let state = shared(&rt, rt.alloc(), second);
+        try_state(&rt, rt.alloc(), state, Trial::WasShared);
+    }
     Ok(())
 }
 
@@ -387,14 +507,6 @@ fn are_numbers(names: &Result<Vec<CellName>, Refusal>, indexes: &[u32]) -> bool 
         })
 }
 
-/// How many entities a frame spawned, if it was done.
-fn spawned(reply: Result<Reply, Stopped>) -> Option<usize> {
-    match reply {
-        Ok(Reply::Done(spawned)) => Some(spawned.len()),
-        _ => None,
-    }
-}
-
 /// Spawns two entities, and advances between them. The cursor is that before the advance.
 fn spawn_twice<'a, R: Threads + Wait + Abort + Sync>(
     rt: &R,
@@ -405,7 +517,7 @@ fn spawn_twice<'a, R: Threads + Wait + Abort + Sync>(
     let (session, _) = submit_one(rt, alloc, session, 5);
     let (session, cursor) = session.ask(rt, alloc, &CursorNow);
     let (session, reply) = session.advance(rt, alloc, schedule, 2);
-    assert_eq!(rt; spawned(reply), Some(0));
+    assert!(rt; has_spawned(&reply, 0));
     let (session, listed) = submit_one(rt, alloc, session, 6);
     assert!(rt; listed);
     (session, cursor)

@@ -16,7 +16,7 @@ use crate::editor::Editor;
 use crate::made::Made;
 use scene_kinds::Refusal;
 use scene_rules::SystemRule;
-use scene_schedule::{Advance, Alone, PhaseOutput, RunBy, Schedule, run_shared};
+use scene_schedule::{Advance, Alone, OpenGate, PhaseOutput, RunBy, Schedule, run_shared};
 use scene_world::World;
 use std::thread::Threads;
 
@@ -65,7 +65,7 @@ impl Editor {
         let call = |world: &World, rules: &[SystemRule]| -> Result<PhaseOutput, Refusal>
             requires { IsSoundPhase world.now.world.schema rules.now }
             ensures { IsRunOf world.now.world rules.now result }
-        { run_shared(rt, alloc, world, rules, workers) };
+        { run_shared(rt, alloc, world, rules, workers, &OpenGate) };
         let runner = RunBy { call };
         self.run(&Advance { schedule, runner })
     }
