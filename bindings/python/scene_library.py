@@ -11,16 +11,14 @@ from __future__ import annotations
 import ctypes
 import json
 import os
-import re
 import threading
 from ctypes import POINTER, byref, c_char_p, c_int64, c_size_t, c_uint32, c_void_p
 from pathlib import Path
 from typing import Any, Callable, Dict, List, Mapping, NamedTuple, Optional, Tuple, Union, overload
 
-from scene import BadLine, Calls, Entity, Given, Refused, Value, written
+from scene import BadLine, Calls, Entity, Given, Refused, Value, entity_named, kind_named, target_named
 
 DONE, NO_MEMORY, CLOSED, REFUSED, BAD, UNTOLD, LOST = range(7)
-SHAPES = ("Tag", "Int", "Vec3", "Text", "Link")
 TAG, INT, VEC3, TEXT, LINK = range(5)
 
 # The faults that a call without a text can be refused with (docs/MODEL.md, "Faults").
@@ -44,7 +42,7 @@ FAULTS = {
     20: "NoMemory",
     24: "QueueFull",
 }
-NOT_PRESENT, NO_SUCH_KIND, HISTORY_FULL = 3, 5, 17
+NO_SUCH_KIND, HISTORY_FULL = 5, 17
 
 # A kind that no scene has: there are at most 64.
 NO_KIND = 255
@@ -185,28 +183,25 @@ class Library:
             self.close()
 
 
-def number(text: str, least: int, most: int) -> int:
-    """A whole number as a line writes it: without a plus sign or leading zeros."""
-    if not re.fullmatch(r"0|-?[1-9][0-9]*", text) or not least <= int(text) <= most:
-        raise BadLine(text)
-    return int(text)
-
-
-def entity_of(text: str) -> RawEntity:
-    """The entity of a text."""
-    index, mark, generation = text.partition("v")
-    if not mark:
-        raise BadLine(text)
-    return RawEntity(number(index, 0, 2**32 - 1), number(generation, 0, 2**32 - 1))
-
-
-def target_of(text: str) -> RawEntity:
+def raw_target(given: str) -> RawEntity:
     """What a command is about: an entity, or `+K` for the k-th spawn of the frame."""
-    if text.startswith("+"):
-        return RawEntity(number(text[1:], 0, 2**32 - 1), 0)
-    entity = entity_of(text)
+    target = target_named(given)
+    if target.startswith("+"):
+        return RawEntity(int(target[1:]), 0)
+    entity = Entity(target)
     # With generation 0 it would be a spawn; it is never alive, and so is this one.
-    return entity if entity.generation else NOBODY
+    return RawEntity(entity.index, entity.generation) if entity.generation else NOBODY
+
+
+def raw_component(kind: int, value: Value) -> Union[RawCell, bytes]:
+    """A component as the library takes it: its kind and its numbers, or its text."""
+    if isinstance(value, Entity):
+        return RawCell(kind, LINK, value.index, value.generation)
+    if isinstance(value, str):
+        return value.encode()
+    if isinstance(value, tuple):
+        return RawCell(kind, VEC3, *value)
+    return RawCell(kind, TAG) if value is True else RawCell(kind, INT, value)
 
 
 def shown(entity: RawEntity) -> Entity:
@@ -219,17 +214,16 @@ class LibraryScene(Calls):
 
     def __init__(self, kinds: Optional[Mapping[str, str]] = None, library: Union[str, Path, None] = None) -> None:
         self._scene = Library(library)
-        # The kinds by name, each with its number and the number of its shape; and their names by number.
-        self._kinds: Dict[str, Tuple[int, int]] = {}
+        # The kinds by name, each with its number and its shape; and their names by number.
+        self._kinds: Dict[str, Tuple[int, str]] = {}
         self._names: List[str] = []
         self._in_frame = False
         # Whether want of memory left components for a spawn that didn't come.
         self._is_stuck = False
         self._declare_all(kinds)
 
-    def close(self) -> int:
+    def close(self) -> None:
         self._scene.close()
-        return 0
 
     # ---- lines
 
@@ -246,7 +240,7 @@ class LibraryScene(Calls):
 
     def line(self, text: str) -> List[str]:
         if "\n" in text:
-            raise ValueError("a line has no line break")
+            raise BadLine("a line has no line break")
         code, answer = self.play(text.encode())
         self._came(code, text)
         return self._lines(answer)
@@ -272,11 +266,14 @@ class LibraryScene(Calls):
             self._set_kinds(json.loads(rest)["kinds"])
         elif command == "kind":
             name, shape = rest.split()
-            self._set_kinds([*((known, SHAPES[self._kinds[known][1]]) for known in self._names), (name, shape)])
+            self._set_kinds([*((known, self._kinds[known][1]) for known in self._names), (name, shape)])
 
     def _set_kinds(self, kinds: List[Any]) -> None:
         self._names = [name for name, _ in kinds]
-        self._kinds = {name: (at, SHAPES.index(shape)) for at, (name, shape) in enumerate(kinds)}
+        self._kinds = {name: (at, shape) for at, (name, shape) in enumerate(kinds)}
+
+    def shape_of(self, kind: str) -> Optional[str]:
+        return self._kinds.get(kind_named(kind), (NO_KIND, None))[1]
 
     # ---- calls
 
@@ -330,36 +327,13 @@ class LibraryScene(Calls):
             told += f" at {raw.phase}.{raw.queue}.{raw.command}"
         return Refused(told)
 
-    def _component(self, name: str, value: Given) -> Tuple[int, Union[RawCell, bytes]]:
-        """A component as the library takes it: its kind, and its numbers or its text. It is read as a line's is."""
-        if name not in self._kinds:
-            raise BadLine(f"no kind is named {name}")
-        kind, shape = self._kinds[name]
-        text = written(value)
-        if (shape == TAG) != (value is True):
-            raise BadLine(f"{name}={text}")
-        if shape == TEXT:
-            return kind, text.encode()
-        numbers: List[int] = []
-        if shape == INT:
-            numbers = [number(text, -(2**63), 2**63 - 1)]
-        elif shape == VEC3:
-            numbers = [number(part, -(2**63), 2**63 - 1) for part in text.split(",")]
-            if len(numbers) != 3:
-                raise BadLine(f"{name}={text}")
-        elif shape == LINK:
-            linked = entity_of(text)
-            numbers = [linked.index, linked.generation]
-        return kind, RawCell(kind, shape, *numbers)
+    def _components(self, cells: Mapping[str, Given]) -> List[Tuple[int, Union[RawCell, bytes]]]:
+        """Components as the library takes them, with the numbers of their kinds."""
+        numbered = [(self._kinds[name][0], value) for name, value in self._fitting(cells).items()]
+        return [(kind, raw_component(kind, value)) for kind, value in numbered]
 
-    def _kind(self, name: str) -> int:
-        if name not in self._kinds:
-            raise BadLine(f"no kind is named {name}")
-        return self._kinds[name][0]
-
-    def spawn(self, **cells: Given) -> Optional[Entity]:
-        # All are read before the first one is given, so that none is left where one is bad.
-        components = [self._component(*one) for one in cells.items()]
+    def spawn(self, /, **cells: Given) -> Optional[Entity]:
+        components = self._components(cells)
         with self._scene.lock:
             try:
                 for kind, value in components:
@@ -374,10 +348,9 @@ class LibraryScene(Calls):
             made = RawEntity()
             return shown(made) if self._scene.call("spawned", 0, byref(made)) == DONE else None
 
-    def insert(self, entity: str, **cells: Given) -> None:
-        for one in cells.items():
-            target = target_of(entity)
-            kind, value = self._component(*one)
+    def insert(self, entity: str, /, **cells: Given) -> None:
+        target = raw_target(entity)
+        for kind, value in self._components(cells):
             with self._scene.lock:
                 if isinstance(value, bytes):
                     self._call("insert_text", target, kind, value, len(value))
@@ -385,19 +358,24 @@ class LibraryScene(Calls):
                     self._call("insert", target, value)
 
     def remove(self, entity: str, kind: str) -> None:
+        self._known_shape(kind)
         with self._scene.lock:
-            self._call("remove", target_of(entity), self._kind(kind))
+            self._call("remove", raw_target(entity), self._kinds[kind][0])
 
     def despawn(self, entity: str) -> None:
         with self._scene.lock:
-            self._call("despawn_all", target_of(entity))
+            self._call("despawn", raw_target(entity))
+
+    def despawn_all(self, entity: str) -> None:
+        with self._scene.lock:
+            self._call("despawn_all", raw_target(entity))
 
     def set_parent(self, child: str, parent: Optional[str]) -> None:
         with self._scene.lock:
-            if parent:
-                self._call("set_parent", target_of(child), target_of(parent))
+            if parent is None:
+                self._call("remove_parent", raw_target(child))
             else:
-                self._call("remove_parent", target_of(child))
+                self._call("set_parent", raw_target(child), raw_target(parent))
 
     def undo(self) -> None:
         with self._scene.lock:
@@ -416,18 +394,19 @@ class LibraryScene(Calls):
     def get(self, entity: str, kind: Optional[str] = None) -> Value:
         if kind is None:
             return super().get(entity)
-        named = entity_of(entity)
+        named = entity_named(entity)
+        number = self._kinds.get(kind_named(kind), (NO_KIND, ""))[0]
         with self._scene.lock:
             if self._in_frame:
                 # The library would answer, but no line does.
-                raise BadLine("get")
+                raise BadLine("a frame is open: only commands and queue come before its commit")
             cell = RawCell()
             try:
-                self._call("get", named, self._kinds.get(kind, (NO_KIND, TAG))[0], byref(cell))
+                self._call("get", RawEntity(named.index, named.generation), number, byref(cell))
             except Refused as refused:
-                if refused.number != NO_SUCH_KIND:
-                    raise
-                raise Refused(f"refused {NOT_PRESENT} {FAULTS[NOT_PRESENT]}") from None
+                if refused.number == NO_SUCH_KIND:
+                    raise BadLine(f"no kind is named {kind}") from None
+                raise
             return self._value(cell)
 
     def _value(self, cell: RawCell) -> Value:

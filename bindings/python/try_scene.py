@@ -6,18 +6,23 @@ that; there lines.py plays all examples too. The last line counts what was tried
 as it has to be.
 """
 import json
+import logging
 import os
+import pickle
+import re
+import signal
 import subprocess
 import sys
 import tempfile
+import textwrap
 import threading
 import traceback
 from contextlib import contextmanager
 from pathlib import Path
-from typing import Any, Callable, Iterator, List, Optional, Tuple
+from typing import Any, Callable, Dict, Iterator, List, Optional, Tuple, Type, TypeVar
 
 import scene
-from scene import BadLine, Calls, Entity, Refused
+from scene import BadLine, Calls, Ended, Entity, KindsDiffer, Refused, StoreError
 
 TOP = Path(__file__).resolve().parents[2]
 KINDS = {"Name": "Text", "Health": "Int", "At": "Vec3", "Hidden": "Tag", "Target": "Link"}
@@ -25,18 +30,25 @@ PROGRAM = str(TOP / "crates/scene/out/scene")
 EXAMPLES = TOP / "examples"
 # Texts that something on the way could spoil.
 UNUSUAL = ("", '"', "\\", "a=b", "@1/1", "\r", "a\r", "\t\x01\x1f\x7f", "\x85\u2028", "\u65e5\U0001f415", "\0", "+0")
+UNUSUAL += (Entity("7v9"),)
 
-# Makes a scene with KINDS, or with none.
+# Makes a scene with KINDS, or with others.
 Begin = Callable[..., Calls]
+Raised = TypeVar("Raised", bound=BaseException)
+
+
+def error_of(kind: Type[Raised], call: Callable[..., Any], *words: Any, **cells: Any) -> Raised:
+    """The error of a call, which has to be of this kind."""
+    try:
+        call(*words, **cells)
+    except kind as error:
+        return error
+    raise AssertionError("the call was accepted")
 
 
 def refusal(call: Callable[..., Any], *words: Any, **cells: Any) -> Refused:
     """The refusal of a call, which has to be refused."""
-    try:
-        call(*words, **cells)
-    except Refused as refused:
-        return refused
-    raise AssertionError("the call was accepted")
+    return error_of(Refused, call, *words, **cells)
 
 
 def is_bad(call: Callable[..., Any], *words: Any, **cells: Any) -> bool:
@@ -83,7 +95,10 @@ def commands(begin: Begin) -> None:
         world.set_parent(dog, None)
         assert told(refusal(world.parent, dog, None)) == (9, "NoParent", [], (0, 0, 0))
         world.parent(dog, cat)
-        world.despawn(cat)
+        before = world.show()
+        assert told(refusal(world.despawn, cat)) == (2, "HasChildren", [], (0, 0, 0))
+        assert world.show() == before
+        world.despawn_all(cat)
         assert refusal(world.get, cat).name == refusal(world.get, dog).name == "NoSuchEntity"
         assert not world.rows()
         assert world.spawn() == "0v2"
@@ -149,7 +164,7 @@ def reads(begin: Begin) -> None:
         assert [row.entity for row in world.rows()] == [lamp, cat]
         assert world.rows()[1] == world.row(cat) and world.rows()[0].cells == {}
         assert told(refusal(world.get, lamp, "Name")) == (3, "NotPresent", [], None)
-        assert told(refusal(world.get, lamp, "Nothing")) == (3, "NotPresent", [], None)
+        assert "Nothing" in str(error_of(BadLine, world.get, lamp, "Nothing"))
         assert told(refusal(world.get, "7v9", "Name")) == (1, "NoSuchEntity", [], None)
         assert is_bad(world.get, "7", "Name") and is_bad(world.get, "+0", "Name")
         assert (cat.index, cat.generation) == (0, 1)
@@ -157,36 +172,79 @@ def reads(begin: Begin) -> None:
 
 def bad_values(begin: Begin) -> None:
     """What no line says is bad over both, and leaves nothing behind."""
+    bad: List[Dict[str, Any]] = [
+        *(
+            {"Health": value}
+            for value in ("five", "", "05", "-0", "\u0665", 2**63, -(2**63) - 1, 10**5000, "1" * 5000)
+        ),
+        *({"At": value} for value in ((1, 2), (1, 2, 3, 4), "1,2", "1,2,x", (1, 2, 2**63), ())),
+        *({"Target": value} for value in ("cat", "", "4294967296v1", "+0", "0v01")),
+        *({name: True} for name in ("Nothing", "Nothing=1", "no kind", "")),
+        {"Name": "\ud800"},
+    ]
     with begin() as world:
         cat = spawned(world, Health="5", At="1,2,3", Name=7)
         assert world.row(cat).values() == {"Name": "7", "Health": 5, "At": (1, 2, 3)}
         before = world.show()
-        for cells in (
-            {"Health": "five"},
-            {"Health": 2**63},
-            {"Health": "05"},
-            {"Health": "-0"},
-            {"Health": True},
-            {"Health": False},
-            {"Health": "\u0665"},
-            {"At": (1, 2)},
-            {"At": (1, 2, 3, 4)},
-            {"At": 5},
-            {"Hidden": 1},
-            {"Hidden": ""},
-            {"Name": True},
-            {"Target": "cat"},
-            {"Target": "4294967296v1"},
-            {"Nothing": 1},
-        ):
-            assert is_bad(world.spawn, **{"Hidden": True, **cells}), cells
-            assert is_bad(world.insert, cat, **cells), cells
-        for entity in ("", "0", "v", "00v1", "0v1v1", "+", "+-1", "0v4294967296"):
-            assert is_bad(world.despawn, entity) and is_bad(world.set_parent, entity, cat), entity
-        assert is_bad(world.remove, cat, "Nothing")
+        for cells in bad:
+            for call in (world.spawn, lambda **cells: world.insert(cat, **cells)):
+                words = str(error_of(BadLine, call, **{"Hidden": True, **cells}))
+                assert all(name in words for name in cells), words
+        for entity in ("", "0", "v", "00v1", "0v1v1", "+", "+-1", "0v4294967296", "0v1 A=1", "-1v1"):
+            for command in (world.despawn, world.despawn_all, world.get, lambda it: world.insert(it, Health=1)):
+                assert is_bad(command, entity), entity
+            assert is_bad(world.set_parent, entity, cat) and is_bad(world.set_parent, cat, entity), entity
+        assert "Nothing" in str(error_of(BadLine, world.remove, cat, "Nothing"))
         assert world.show() == before
         assert refusal(world.insert, "0v0", Health=1).name == refusal(world.despawn, "0v0").name == "NoSuchEntity"
         assert world.spawn() == "1v1"
+
+
+def wrong_types(begin: Begin) -> None:
+    """A value of a type that no value of its kind has is a TypeError, which names the kind."""
+    wrong = {
+        "Health": (None, 1.5, True, False, (1, 2, 3), b"5"),
+        "At": (None, 1.5, True, 5, (1, 2.0, 3), (1, True, 3), (None, 2, 3), b"abc", {1: 1, 2: 2, 3: 3}),
+        "Hidden": (None, 1.5, False, 1, "", "True"),
+        "Name": (None, 1.5, True, False, (1, 2, 3), b"cat"),
+        "Target": (None, 1.5, True, 7, (0, 1)),
+    }
+    with begin() as world:
+        cat = spawned(world, Health=5)
+        before = world.show()
+        for name, values in wrong.items():
+            for value in values:
+                for call in (world.spawn, lambda **cells: world.insert(cat, **cells)):
+                    assert name in str(error_of(TypeError, call, **{name: value})), (name, value)
+        for entity in (None, 7, 1.5, b"0v1"):
+            calls = (world.get, world.despawn, world.despawn_all, lambda it: world.insert(it, Health=1))
+            for command in (*calls, lambda it: world.remove(it, "Health"), lambda it: world.set_parent(it, cat)):
+                assert repr(entity) in str(error_of(TypeError, command, entity))
+        for command in (world.shape_of, lambda it: world.remove(cat, it), lambda it: world.declare(it, "Tag")):
+            error_of(TypeError, command, None)
+        error_of(TypeError, world.insert, cat, Health=6, Name=None)
+        assert world.show() == before
+
+
+def names_of_kinds(begin: Begin) -> None:
+    """A kind may have the name of a parameter, and tells its shape."""
+    names = {"entity": "Int", "self": "Tag", "cells": "Text", "value": "Vec3", "name": "Link"}
+    with begin(names) as world:
+        row = spawned(world, entity=1, self=True)
+        world.insert(row, entity=2, cells="a", value=(1, 2, 3), name=row)
+        assert world.row(row).values() == {"entity": 2, "self": True, "cells": "a", "value": (1, 2, 3), "name": row}
+        with world.frame():
+            assert {name: world.shape_of(name) for name in names} == names
+            assert world.shape_of("Entity") is None and world.shape_of("no kind") is None
+    for asked, number in (({"9": "Tag"}, 30), ({"a b": "Tag"}, 5), ({"Health": "Float"}, None)):
+        error = error_of(KindsDiffer, begin, asked)
+        assert error.number == number and [*asked][0] in str(error), error
+    for wrong in ({"Health": int}, {"Health": None}, {5: "Int"}, ["Health"], 5):
+        error_of(TypeError, begin, wrong)
+    with begin({}) as world:
+        assert is_bad(world.declare, "Health", "Float")
+        world.declare("Health", "Int")
+        assert world.shape_of("Health") == "Int"
 
 
 def texts(begin: Begin) -> None:
@@ -218,12 +276,8 @@ def texts_on_lines(begin: Begin) -> None:
     with begin() as world:
         for text in (" ", "two words", "a\nb"):
             for call in (world.spawn, lambda **cells: world.insert("0v1", **cells)):
-                try:
-                    call(Name=text)
-                    raise AssertionError("a text was cut")
-                except ValueError:
-                    pass
-        assert not world.rows()
+                assert "Name" in str(error_of(BadLine, call, Name=text))
+        assert is_bad(world.line, "show\nshow") and not world.rows()
 
 
 def undo_and_redo(begin: Begin) -> None:
@@ -315,13 +369,35 @@ def closes(begin: Begin) -> None:
     """A closed scene takes nothing more."""
     world = begin()
     world.spawn()
-    assert world.close() == 0
-    for call in (world.spawn, world.show, lambda: world.get("0v1", "Name")):
-        try:
-            call()
-            raise AssertionError("a closed scene was called")
-        except ValueError:
-            pass
+    world.close()
+    for call in (world.spawn, lambda: world.spawn(Health=1), world.show, lambda: world.get("0v1", "Name")):
+        assert "closed" in str(error_of(ValueError, call))
+    world.close()
+
+
+def reasons(begin: Begin) -> None:
+    """Of a bad line the shell tells why."""
+    with begin() as world:
+        assert str(error_of(BadLine, world.line, "jump")) == "no command is named jump"
+        assert str(error_of(BadLine, world.line, "get 7")) == "`7` is no entity, as 0v1"
+        world.show()
+        assert str(error_of(BadLine, world.declare, "Late", "Tag")).startswith("the setup has ended")
+        with world.frame():
+            assert str(error_of(BadLine, world.undo)).startswith("a frame is open")
+            long = "x" * 300_000
+            assert long in str(error_of(BadLine, world.line, f"{long} {long}"))
+            world.spawn(Health=1)
+        assert len(world.rows()) == 1
+
+
+@contextmanager
+def wrapped(program: str, before: str) -> Iterator[Tuple[str, Path]]:
+    """A program that does something before it becomes another one, and a folder for stores."""
+    with tempfile.TemporaryDirectory() as room:
+        path = Path(room) / "wrapped"
+        path.write_text(f'#!/bin/sh\ncd {room}\n{before}\nexec {program} "$@"\n')
+        path.chmod(0o700)
+        yield str(path), Path(room)
 
 
 def stores(program: str) -> None:
@@ -332,16 +408,193 @@ def stores(program: str) -> None:
             cat = spawned(world, Name="cat", Health=9)
             world.insert(cat, Health=5)
             shown = world.show()
-            try:
-                with scene.Scene(path, KINDS, program) as other:
-                    other.show()
-                raise AssertionError("two shells have one store")
-            except ConnectionError:
-                pass
+            for kinds_asked in (KINDS, None):
+                error = error_of(StoreError, scene.Scene, path, kinds_asked, program)
+                assert (error.number, error.name, error.status) == (60, "StoreInUse", 3), error
+            copy = pickle.loads(pickle.dumps(error))
+            assert (copy.number, str(copy)) == (60, str(error))
         with scene.open(path, KINDS, program) as again:
             assert again.show() == shown
             again.undo()
             assert again.get(cat) == 'row 0v1 Name="cat"@1/1 Health=9@1/1'
+        Path(path).write_text("no store")
+        assert error_of(StoreError, scene.open, path, KINDS, program).number == 61
+        assert error_of(StoreError, scene.open, room, KINDS, program).number == 64
+        assert error_of(Ended, scene.open, "", KINDS, program).status == 2
+
+
+def kinds_of_stores(program: str) -> None:
+    """Kinds that a store has are asked for again without a word; others are told, and leave it as it was."""
+    with tempfile.TemporaryDirectory() as room:
+        path = f"{room}/level.db"
+        with scene.open(path, {"Health": "Int"}, program):
+            pass
+        # It is still in its setup.
+        differs = error_of(KindsDiffer, scene.open, path, {"Name": "Text", "Health": "Text"}, program)
+        assert (differs.number, differs.name) == (31, "KindTaken") and "Health" in str(differs)
+        with scene.open(path, KINDS, program) as world:
+            assert {name: world.shape_of(name) for name in KINDS} == KINDS
+            world.spawn(Health=1)
+            shown = world.show()
+        differs = error_of(KindsDiffer, scene.open, path, {"Name": "Text", "Health": "Text"}, program)
+        assert (differs.number, differs.name) == (31, "KindTaken") and "Health" in str(differs)
+        differs = error_of(KindsDiffer, scene.open, path, {**KINDS, "Late": "Tag"}, program)
+        assert (differs.number, differs.name) == (5, "NoSuchKind") and "Late" in str(differs)
+        with scene.open(path, program=program) as world:
+            assert world.show() == shown and world.shape_of("Late") is None
+            assert "Helth" in str(error_of(BadLine, world.spawn, Helth=1))
+            world.spawn(Health=2)
+        # A scene that is loaded brings its own kinds.
+        with scene.open(kinds={"A": "Int"}, program=program) as world:
+            text = world.line("dump")[0]
+        with scene.open(kinds={"A": "Text", "B": "Text"}, program=program) as world:
+            assert (world.shape_of("A"), world.shape_of("B")) == ("Text", "Text")
+            world.load(text)
+            assert (world.shape_of("A"), world.shape_of("B")) == ("Int", None)
+
+
+def full_stores(program: str) -> None:
+    """A store that can't grow ends the scene by its fault, which a `with` raises, and has what was answered."""
+    # A file that passes a megabyte gives an error, and no signal.
+    with wrapped(program, "trap '' XFSZ; ulimit -f 2048") as (limited, room):
+        path, count = room / "level.db", 0
+
+        def fill() -> None:
+            nonlocal count
+            with scene.open(path, KINDS, limited) as world:
+                for count in range(100_000):
+                    world.spawn(Name="a" * 50_000)
+
+        error = error_of(StoreError, fill)
+        assert error.number in (65, 66) and 0 < count < 1000, error
+        with scene.open(path, KINDS, program) as world:
+            assert len(world.rows()) in (count, count + 1)
+
+
+def ended_programs(program: str) -> None:
+    """A program that has ended is told by each call and by `with`, once, and hides no other error."""
+    with wrapped(program, "echo $$ > pid") as (noted, room):
+
+        def end(world: Calls) -> Calls:
+            os.kill(int((room / "pid").read_text()), signal.SIGKILL)
+            return world
+
+        def leave(fail: Callable[[Calls], Any]) -> None:
+            with scene.open(kinds=KINDS, program=noted) as world:
+                fail(end(world))
+
+        for call in (lambda world: world.spawn(Health=1), Calls.show, Calls.undo, lambda world: None):
+            error = error_of(Ended, leave, call)
+            assert error.status == -9 and error.number is None and not isinstance(error, StoreError), error
+        error_of(ZeroDivisionError, leave, lambda world: 1 // 0)
+        world = end(scene.open(kinds=KINDS, program=noted))
+        error_of(Ended, world.show)
+        error_of(Ended, world.show)
+        world.close()
+        error_of(Ended, end(scene.open(kinds=KINDS, program=noted)).close)
+    error = error_of(Ended, scene.open, program=program, options=["--frobnicate"])
+    assert error.status == 2 and "bad command line" in str(error), error
+    error_of(FileNotFoundError, scene.open, program=f"{program}_that_is_not_there")
+
+
+def interrupted_calls(program: str) -> None:
+    """An answer that comes too late for its call isn't another one's: the program is ended."""
+    with wrapped(program, "read line; echo; exec sleep 20") as (slow, _):
+
+        def interrupt(number: int, frame: object) -> None:
+            raise TimeoutError
+
+        usual = signal.signal(signal.SIGALRM, interrupt)
+        try:
+            world = scene.open(program=slow)
+            signal.setitimer(signal.ITIMER_REAL, 0.1)
+            error_of(TimeoutError, world.show)
+            assert error_of(Ended, world.show).status == -signal.SIGKILL
+            world.close()
+        finally:
+            signal.signal(signal.SIGALRM, usual)
+
+
+class Notes(logging.Handler):
+    """What is logged."""
+
+    def __init__(self) -> None:
+        super().__init__()
+        self.said: List[str] = []
+
+    def emit(self, record: logging.LogRecord) -> None:
+        self.said.append(record.getMessage())
+
+
+def notes(program: str) -> None:
+    """What the program says beside its answers goes to the log, where it is slow before its answer."""
+    log, kept = logging.getLogger("scene"), Notes()
+    log.addHandler(kept)
+    log.propagate = False
+    try:
+        with wrapped(program, "echo 'scene: a note' >&2") as (talking, _):
+            with scene.open(kinds=KINDS, program=talking) as world:
+                assert is_bad(world.line, "jump") and kept.said == ["scene: a note"], kept.said
+        with wrapped(program, "echo 'scene: another' >&2; sleep 3; echo 'scene: fault 66 DiskFault' >&2; exit 3 #") as (
+            slow,
+            _,
+        ):
+            error = error_of(StoreError, scene.open, kinds=KINDS, program=slow)
+            assert str(error) == "fault 66 DiskFault" and kept.said[1:] == ["scene: another"], kept.said
+    finally:
+        log.removeHandler(kept)
+        log.propagate = True
+
+
+def examples_twice(program: str) -> None:
+    """The examples of README.md and of the module run twice on the same store without a word on standard error."""
+    codes = [code for code in fenced() if "library=" not in code]
+    shown = re.search(r"\n((?:    .*\n)+)", str(scene.__doc__))
+    assert len(codes) == 1 and shown is not None
+    for code in (*codes, "import scene\n" + textwrap.dedent(shown[1])):
+        with tempfile.TemporaryDirectory() as room:
+            os.symlink(program, f"{room}/scene")
+            for _ in range(2):
+                run_example(code, room)
+            with scene.open(f"{room}/level.db", program=program) as world:
+                assert world.shape_of("Health") == "Int"
+
+
+def library_example(library: str) -> None:
+    """The example of README.md for a library runs without a word on standard error."""
+    codes = [code for code in fenced() if "library=" in code]
+    assert len(codes) == 1
+    with tempfile.TemporaryDirectory() as room:
+        os.symlink(Path(library).parent, f"{room}/FOLDER")
+        run_example(f"import scene\n{codes[0]}", room)
+
+
+def all_files() -> None:
+    """Every Python file of the repository is for the version that README.md names."""
+    sys.path.append(str(TOP / "tools"))
+    from python_version import faults
+
+    found, count = faults()
+    assert count and not found, found
+
+
+def fenced() -> List[str]:
+    """The examples in Python of README.md."""
+    return re.findall(r"```python\n(.*?)```", (TOP / "README.md").read_text(), re.DOTALL)
+
+
+def run_example(code: str, room: str) -> None:
+    """Runs an example in a folder, which has to end well and silently."""
+    paths = {"PYTHONPATH": str(Path(__file__).parent), "PATH": f"{room}:{os.environ['PATH']}"}
+    done = subprocess.run(
+        [sys.executable, "-B", "-W", "error", "-c", code],
+        cwd=room,
+        env={**os.environ, **paths},
+        stdout=subprocess.PIPE,
+        stderr=subprocess.PIPE,
+        check=False,
+    )
+    assert done.returncode == 0 and done.stderr == b"", done.stderr.decode()
 
 
 def plays(library: str, name: str) -> None:
@@ -365,7 +618,7 @@ def is_run(name: str) -> bool:
 
 @contextmanager
 def quiet() -> Iterator[List[str]]:
-    """Keeps back what shells say on standard error, as of bad lines: the list then has it."""
+    """Keeps back what is said on standard error, where nothing should be: the list then has it."""
     said: List[str] = []
     sys.stderr.flush()
     usual = os.dup(2)
@@ -386,6 +639,8 @@ BOTH = (
     frames_that_fail,
     reads,
     bad_values,
+    wrong_types,
+    names_of_kinds,
     texts,
     undo_and_redo,
     changes,
@@ -393,6 +648,16 @@ BOTH = (
     saves,
     threads,
     closes,
+)
+SHELL = (texts_on_lines, reasons)
+PROGRAMS = (
+    stores,
+    kinds_of_stores,
+    full_stores,
+    ended_programs,
+    interrupted_calls,
+    notes,
+    examples_twice,
 )
 
 
@@ -406,16 +671,17 @@ def main() -> int:
     def library(kinds: Any = None) -> Calls:
         return scene.open(kinds=KINDS if kinds is None else kinds, library=f"{folder}/libscene.so")
 
-    tried: List[Tuple[str, Callable[..., None], Tuple[Any, ...]]] = []
+    tried: List[Tuple[str, Callable[..., None], Tuple[Any, ...]]] = [("the version", all_files, ())]
     if Path(program).exists():
-        tried += [("the shell", one, (shell,)) for one in (*BOTH, texts_on_lines)]
-        tried += [("the shell", stores, (program,))]
+        tried += [("the shell", one, (shell,)) for one in (*BOTH, *SHELL)]
+        tried += [("the shell", one, (program,)) for one in PROGRAMS]
     else:
         tried += [("the shell", missing, (program,))]
     if folder is None:
         print("Python: the library isn't tried, as SCENE_LIB_DIR names no folder; `./scene library FOLDER` makes one")
     else:
         tried += [("the library", one, (library,)) for one in (*BOTH, texts_with_spaces)]
+        tried += [("the library", library_example, (f"{folder}/libscene.so",))]
         names = sorted(path.stem for path in EXAMPLES.glob("*.scene") if is_run(path.stem))
         tried += [("lines.py", plays, (f"{folder}/libscene.so", name)) for name in names]
     failed = 0
@@ -426,10 +692,10 @@ def main() -> int:
                 wrong = ""
             except Exception:  # pylint: disable=broad-except
                 wrong = traceback.format_exc(limit=-3)
-        if wrong:
+        if wrong or said != [""]:
             failed += 1
             what = " ".join([one.__name__, *words[1:]])
-            print(f"Python, {over}, {what}: {wrong}{''.join(said)}", file=sys.stderr)
+            print(f"Python, {over}, {what}: {wrong or 'standard error has '}{''.join(said)}", file=sys.stderr)
     print(f"Python: {len(tried) - failed} are as they have to be, {failed} aren't")
     return 1 if failed else 0
 
