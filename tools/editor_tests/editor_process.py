@@ -35,7 +35,7 @@ class EditorProcess:
     def __exit__(self, kind, error, trace):
         self.process.send_signal(signal.SIGTERM)
         try:
-            status = self.process.wait(timeout=10)
+            status = self.process.wait(timeout=SECONDS)
         except subprocess.TimeoutExpired:
             self.process.kill()
             status = self.process.wait()

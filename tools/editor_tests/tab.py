@@ -5,6 +5,7 @@ import time
 
 WIDTH, HEIGHT = 1280, 800
 SECONDS = 20
+SECONDS_TO_DRAG = 5
 PAUSE = 0.01
 BETWEEN_CLICKS = 0.05
 ALT, CONTROL, META, SHIFT = 1, 2, 4, 8
@@ -177,8 +178,10 @@ class Tab:
         self.mouse("mousePressed", x, y, button="left", clickCount=1)
         for step in (6, 12):
             self.mouse("mouseMoved", x + step, y + step, button="left", buttons=1)
-        self.remote.hear(0.2)
-        self.remote.hear_all()
+        # Where many processes run, the browser says late that it is a drag.
+        end = time.monotonic() + SECONDS_TO_DRAG
+        while not self.drags and time.monotonic() < end:
+            self.remote.hear(PAUSE)
         to = dict(zip("xy", self.center(target())))
         for sort in ("dragEnter", "dragOver", "drop") if self.drags else ():
             self.call("Input.dispatchDragEvent", type=sort, data=self.drags[0], **to)
