@@ -2,21 +2,22 @@
  * change can be taken back. What a line does and answers, docs/SCRIPTS.md says; what is proved of these calls,
  * docs/PROVED.md.
  *
- *     scene *s = NULL;
- *     scene_open(&s);
+ *     scene *s;
+ *     if (scene_open(&s) != SCENE_DONE) return 1;
  *     scene_line(&s, (const uint8_t *)"kind At Vec3", 12);
  *     scene_with(&s, (scene_cell){.kind = 0, .shape = SCENE_VEC3, .x = 1});
  *     scene_spawn(&s);
  *     scene_undo(&s);
  *     scene_close(&s);
  *
- * A `scene *` begins as NULL, and holds NULL or what scene_open put there; only the library writes it. Each call
- * takes the address of that variable. A scene belongs to one thread, and to one call at a time; two scenes know
- * nothing of each other, so two threads can have one each. No call starts a thread, waits, or reads a file or the
- * clock.
+ * A `scene *` holds what scene_open put there, or NULL; only the library writes it. Each other call takes the address
+ * of that variable. A scene belongs to one thread, and to one call at a time; two scenes know nothing of each other, so
+ * two threads can have one each. No call starts a thread, waits, or reads a file or the clock. There may be as many
+ * calls as a counter of 64 bits holds.
  *
  * The caller owns all bytes that it passes, which are read during the call alone, and all that it is given, which are
- * copies. A pointer to bytes isn't NULL, not even for 0 bytes. */
+ * copies. A pointer to bytes that are read isn't NULL, not even for 0 bytes; one to room for a text may be NULL where
+ * the room is 0: so the length of a text can be asked for. */
 #ifndef SCENE_H
 #define SCENE_H
 
@@ -30,25 +31,30 @@ extern "C" {
 /* Only ever a pointer: what it points to is the library's. */
 typedef struct scene scene;
 
+/* The version of this header: 10,000 times its first number, 100 times its second, and its third. scene_version gives
+ * that of the library. */
+#define SCENE_VERSION 100
+
 /* What a call came to. But for SCENE_DONE and SCENE_UNTOLD nothing was done. */
-enum {
+typedef enum scene_code {
     SCENE_DONE = 0,      /* done; or a question, answered */
     SCENE_NO_MEMORY = 1, /* memory was wanting; where the call would have ended the setup, the setup may be over */
     SCENE_CLOSED = 2,    /* the pointer is NULL; bad arguments, and reads of the last answer, give 4 first */
     SCENE_REFUSED = 3,   /* refused, by the rules of the world: scene_refused says why */
     SCENE_BAD = 4,       /* there is no such call here, as a commit without a begin, or its arguments name nothing */
-    SCENE_UNTOLD = 5,    /* done, but memory was wanting for the text of the answer */
+    SCENE_UNTOLD = 5,    /* answered, but memory was wanting for the text alone: scene_refused says if it was refused,
+                            scene_spawned and scene_named what it made. Only of scene_line, scene_load and scene_save */
     SCENE_LOST = 6       /* memory was wanting, and the kinds or the scene that the setup had are lost */
-};
+} scene_code;
 
 /* The shapes of components, and the numbers of a scene_cell that they use. */
-enum {
+typedef enum scene_shape {
     SCENE_TAG = 0,  /* none */
     SCENE_INT = 1,  /* x */
     SCENE_VEC3 = 2, /* x, y and z */
     SCENE_TEXT = 3, /* none: the text comes apart */
     SCENE_LINK = 4  /* x is the index of an entity, y its generation */
-};
+} scene_shape;
 
 /* An entity. Its generation is 1 or more, and an index that is used again has a greater one: so an old entity never
  * names a newer one. With generation 0 it is, in a command, the entity that the open frame's queue spawned `index`
@@ -91,97 +97,114 @@ typedef struct {
 
 /* ---- a scene, line by line */
 
-/* Puts a new scene into *out, which is NULL or a scene, which is then closed. SCENE_DONE or SCENE_NO_MEMORY, where
- * *out is as it was. It is in the setup: kinds and limits are declared, or a scene text is loaded, before the first
- * other call. */
-uint32_t scene_open(scene **out);
+/* Writes a new scene to *out, or NULL where no memory was found: SCENE_DONE or SCENE_NO_MEMORY. What *out was before
+ * isn't read, so a scene there has to be closed first. It is in the setup: kinds and limits are declared, or a scene
+ * text is loaded, before the first other call. */
+scene_code scene_open(scene **out);
 
 /* Closes it: frees all of it, and puts NULL into *s. NULL is fine. */
 void scene_close(scene **s);
 
-/* Plays a line of a script: `len` bytes of UTF-8 without the line break. The text of its answer is kept. Of a line
- * that asks for a text of the world (get, show, dump, dumpall) the code is SCENE_DONE, also where that text is a
- * refusal's or a fault's. */
-uint32_t scene_line(scene **s, const uint8_t *line, size_t len);
+/* Plays a line of a script: `len` bytes of UTF-8 without the line break. The text of its answer is kept. SCENE_BAD is a
+ * bad line, of which scene_bad_reason says why. */
+scene_code scene_line(scene **s, const uint8_t *line, size_t len);
 
-/* The length of the text that is kept; its first `room` bytes go to `at`, which isn't NULL. scene_line, scene_load,
- * scene_save and scene_get of a text keep a text, and other calls that are answered an empty one. The text before
- * stays where nothing was done for want of memory or since the arguments name nothing, where a component is given to
- * a spawn, and where the last answer is read (this call, scene_spawned, scene_named, scene_refused). */
+/* The length of the text that is kept; its first `room` bytes go to `at`, which may be NULL where `room` is 0.
+ * scene_line, scene_load, scene_save, scene_bad_reason and scene_get of a text keep a text, and other calls that are
+ * answered an empty one. The text before stays where nothing was done for want of memory or since the arguments name
+ * nothing, where a component is given to a spawn, where a frame is dropped, and where the last answer is read (this
+ * call, scene_spawned, scene_named, scene_refused). */
 size_t scene_answer(scene **s, uint8_t *at, size_t room);
+
+/* Says in words why the last call that was answered was SCENE_BAD, as a bad line, or a commit without a begin: the
+ * words are the text of its answer then. SCENE_BAD where it wasn't, and SCENE_NO_MEMORY: then the text before stays. */
+scene_code scene_bad_reason(scene **s);
+
+/* The length of the name of a fault of docs/MODEL.md, by its number, as `NoSuchEntity` for 1; its first `room` bytes go
+ * to `at`, which may be NULL where `room` is 0. It is ASCII, at most 32 bytes, without a byte 0 at the end, and empty
+ * where no fault of a scene has the number. */
+size_t scene_fault_name(uint32_t fault, uint8_t *at, size_t room);
+
+/* The version of the library, as SCENE_VERSION. */
+uint32_t scene_version(void);
 
 /* ---- saving and loading */
 
-/* Keeps, as the text of the answer, the scene with all that can be undone and redone. A scene text begins with `{`:
- * where it would be longer than 67,108,864 bytes, the text is the line `fault 56 TooLong` in its place, and the code
- * SCENE_DONE. */
-uint32_t scene_save(scene **s);
+/* Keeps, as the text of the answer, the scene with all that can be undone and redone. SCENE_REFUSED where that would be
+ * longer than 67,108,864 bytes: the text of the answer is `fault 56 TooLong` then, and scene_refused says nothing. */
+scene_code scene_save(scene **s);
 
 /* Loads such a text, or one of a world alone, in the setup. SCENE_REFUSED: the text of the answer says why, and
- * scene_refused nothing. */
-uint32_t scene_load(scene **s, const uint8_t *text, size_t len);
+ * scene_refused nothing. SCENE_BAD for bytes that are no UTF-8. */
+scene_code scene_load(scene **s, const uint8_t *text, size_t len);
 
 /* ---- frames: commands that are done together, all or none, and can be undone together */
 
 /* Opens a frame. SCENE_BAD where one is open. */
-uint32_t scene_begin(scene **s);
+scene_code scene_begin(scene **s);
 
 /* Does the open frame. SCENE_REFUSED: none of it is done, and the frame is gone. SCENE_BAD where none is open. */
-uint32_t scene_commit(scene **s);
+scene_code scene_commit(scene **s);
 
 /* The entity at a place, from 0, of those that the last frame spawned; SCENE_BAD, and *out is as it was, behind the
  * last one. Ask before the next call that does something. */
-uint32_t scene_spawned(scene **s, size_t at, scene_entity *out);
+scene_code scene_spawned(scene **s, size_t at, scene_entity *out);
+
+/* Drops the open frame with its commands: nothing of it is done, and no call is made. SCENE_BAD where none is open. The
+ * last answer stays, and so do components that were given to a spawn. It needs no memory. */
+scene_code scene_drop_frame(scene **s);
 
 /* Takes the newest frame back; does the newest one that was taken back again. */
-uint32_t scene_undo(scene **s);
-uint32_t scene_redo(scene **s);
+scene_code scene_undo(scene **s);
+scene_code scene_redo(scene **s);
 
 /* ---- commands: put into the open frame, or, where none is open, a frame each */
 
-/* Gives the next spawn a component. They are gone with that spawn, whatever becomes of it. */
-uint32_t scene_with(scene **s, scene_cell cell);
-uint32_t scene_with_text(scene **s, uint32_t kind, const uint8_t *text, size_t len);
+/* Gives the next spawn a component. They are gone with that spawn, whatever becomes of it. In each call that takes a
+ * text, SCENE_BAD is one that is no UTF-8, or a kind of 256 or more; SCENE_NO_MEMORY comes only of others. */
+scene_code scene_with(scene **s, scene_cell cell);
+scene_code scene_with_text(scene **s, uint32_t kind, const uint8_t *text, size_t len);
 
 /* Spawns an entity with these components. */
-uint32_t scene_spawn(scene **s);
+scene_code scene_spawn(scene **s);
 
 /* Despawns an entity that has no children; and one with all below it. */
-uint32_t scene_despawn(scene **s, scene_entity entity);
-uint32_t scene_despawn_all(scene **s, scene_entity entity);
+scene_code scene_despawn(scene **s, scene_entity entity);
+scene_code scene_despawn_all(scene **s, scene_entity entity);
 
 /* Gives an entity a component, or writes the one of that kind that it has. */
-uint32_t scene_insert(scene **s, scene_entity entity, scene_cell cell);
-uint32_t scene_insert_text(scene **s, scene_entity entity, uint32_t kind, const uint8_t *text, size_t len);
+scene_code scene_insert(scene **s, scene_entity entity, scene_cell cell);
+scene_code scene_insert_text(scene **s, scene_entity entity, uint32_t kind, const uint8_t *text, size_t len);
 
 /* Takes the component of a kind away. */
-uint32_t scene_remove(scene **s, scene_entity entity, uint32_t kind);
+scene_code scene_remove(scene **s, scene_entity entity, uint32_t kind);
 
 /* Makes an entity the last child of another; takes it from its parent. */
-uint32_t scene_set_parent(scene **s, scene_entity child, scene_entity parent);
-uint32_t scene_remove_parent(scene **s, scene_entity child);
+scene_code scene_set_parent(scene **s, scene_entity child, scene_entity parent);
+scene_code scene_remove_parent(scene **s, scene_entity child);
 
 /* ---- reading: scene_spawned, scene_named and scene_refused tell of the last call that was answered, not of one that
- * was SCENE_BAD for its arguments, gave a component to a spawn, or found no memory */
+ * was SCENE_BAD for its arguments, gave a component to a spawn, dropped a frame, or found no memory */
 
 /* Reads a component: into *out, and a text as the text of the answer. SCENE_REFUSED where there is none, and *out is
  * as it was: the entity isn't alive, there is no such kind, or it hasn't this component; SCENE_BAD for a kind of 256
  * or more. It ends the setup. */
-uint32_t scene_get(scene **s, scene_entity entity, uint32_t kind, scene_cell *out);
+scene_code scene_get(scene **s, scene_entity entity, uint32_t kind, scene_cell *out);
 
 /* Notes this moment. */
-uint32_t scene_mark(scene **s);
+scene_code scene_mark(scene **s);
 
 /* Lists the components that were changed since the mark, or since the beginning where there was none. SCENE_REFUSED
  * where something was undone since. */
-uint32_t scene_changed(scene **s);
+scene_code scene_changed(scene **s);
 
 /* The component at a place, from 0, of those that the last answer lists; SCENE_BAD, and *out is as it was, behind the
  * last. */
-uint32_t scene_named(scene **s, size_t at, scene_name *out);
+scene_code scene_named(scene **s, size_t at, scene_name *out);
 
-/* Why the last call was refused; SCENE_BAD, and *out is as it was, where it wasn't. */
-uint32_t scene_refused(scene **s, scene_refusal *out);
+/* Why the last call was refused; SCENE_BAD, and *out is as it was, where it wasn't, or where a scene text has the
+ * fault, which the text of the answer tells. */
+scene_code scene_refused(scene **s, scene_refusal *out);
 
 #ifdef __cplusplus
 }

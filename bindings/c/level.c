@@ -35,7 +35,7 @@ struct text {
 
 /* ---- what calls come to */
 
-static const char *meaning(uint32_t code)
+static const char *meaning(scene_code code)
 {
     switch (code) {
     case SCENE_DONE: return "it is done";
@@ -43,21 +43,31 @@ static const char *meaning(uint32_t code)
     case SCENE_CLOSED: return "there is no scene";
     case SCENE_REFUSED: return "it is refused";
     case SCENE_BAD: return "there is no such call here";
-    case SCENE_UNTOLD: return "it is done, but memory was wanting for its text";
+    case SCENE_UNTOLD: return "memory was wanting for the text of its answer";
     case SCENE_LOST: return "memory was wanting, and the scene is lost";
-    default: return "an unknown code";
     }
+    return "an unknown code";
+}
+
+/* Prints a fault by its number and its name. */
+static void print_fault(FILE *stream, uint32_t fault)
+{
+    uint8_t name[32];
+    size_t len = scene_fault_name(fault, name, sizeof name);
+    fprintf(stream, "fault %" PRIu32 " %.*s", fault, (int)len, (const char *)name);
 }
 
 /* Whether a call came to the code that it has to; else standard error says what it came to, and tells the call by the
  * name before its bracket. */
-static bool came_to(uint32_t wanted, uint32_t code, scene **s, const char *call)
+static bool came_to(scene_code wanted, scene_code code, scene **s, const char *call)
 {
     scene_refusal why;
     if (code == wanted) return true;
     fprintf(stderr, "level: %.*s: %s", (int)strcspn(call, "("), call, meaning(code));
-    if (code == SCENE_REFUSED && scene_refused(s, &why) == SCENE_DONE)
-        fprintf(stderr, ", by fault %" PRIu32, why.fault);
+    if (code == SCENE_REFUSED && scene_refused(s, &why) == SCENE_DONE) {
+        fputs(", by ", stderr);
+        print_fault(stderr, why.fault);
+    }
     fputc('\n', stderr);
     return false;
 }
@@ -77,7 +87,8 @@ static bool is_fault(scene **s, uint32_t fault)
         fprintf(stderr, "level: fault %" PRIu32 " where fault %" PRIu32 " was to come\n", why.fault, fault);
         return false;
     }
-    printf("refused by fault %" PRIu32, why.fault);
+    fputs("refused by ", stdout);
+    print_fault(stdout, why.fault);
     if (why.has_place) printf(" at %" PRIu32 ".%" PRIu32 ".%" PRIu32, why.phase, why.queue, why.command);
     putchar('\n');
     return true;
@@ -121,8 +132,7 @@ static bool with_name(scene **s, const char *name)
 /* Copies the text of the last answer. Where that is true, the caller frees it. */
 static bool copy_answer(scene **s, struct text *text)
 {
-    uint8_t none;
-    text->len = scene_answer(s, &none, 0);
+    text->len = scene_answer(s, NULL, 0);
     text->at = malloc(text->len + 1);
     if (text->at == NULL) {
         fputs("level: memory was wanting for a text\n", stderr);
@@ -173,7 +183,7 @@ static bool print_row(scene **s, scene_entity entity)
     print_entity(entity);
     for (uint32_t kind = 0; kind < KINDS; kind++) {
         scene_cell cell;
-        uint32_t code = scene_get(s, entity, kind, &cell);
+        scene_code code = scene_get(s, entity, kind, &cell);
         if (code == SCENE_REFUSED && is_not_present(s)) continue;
         if (!came_to(SCENE_DONE, code, s, "scene_get") || !print_cell(s, cell)) return false;
     }
@@ -243,6 +253,25 @@ static bool change(scene **s, const struct level *level)
     return print_level(s, level);
 }
 
+/* A frame that is dropped does nothing, and isn't a call: there is nothing more to undo. */
+static bool drop(scene **s, const struct level *level)
+{
+    if (!DONE(scene_begin(s)) || !DONE(scene_despawn_all(s, level->room)) || !DONE(scene_drop_frame(s))) return false;
+    puts("a frame that would have emptied the room is dropped");
+    return print_level(s, level);
+}
+
+/* A word that no line begins with: the library says what is wrong with it. */
+static bool be_bad(scene **s)
+{
+    struct text text;
+    if (!came_to(SCENE_BAD, scene_line(s, bytes("jump"), 4), s, "scene_line")) return false;
+    if (!DONE(scene_bad_reason(s)) || !copy_answer(s, &text)) return false;
+    printf("a line is bad: %.*s\n", (int)text.len, (const char *)text.at);
+    free(text.at);
+    return true;
+}
+
 /* What is refused leaves all as it was: of a frame nothing is done, also not what stands before the refused command. */
 static bool be_refused(scene **s, const struct level *level)
 {
@@ -306,7 +335,8 @@ static bool play(scene **first, scene **second, struct text *text)
     struct level level = {SCENE_NONE, SCENE_NONE, SCENE_NONE};
     scene **s = first;
     if (!DONE(scene_open(s)) || !declare_kinds(s)) return false;
-    if (!make(s, &level) || !change(s, &level) || !be_refused(s, &level) || !undo_and_redo(s, &level)) return false;
+    if (!make(s, &level) || !change(s, &level) || !be_refused(s, &level)) return false;
+    if (!drop(s, &level) || !be_bad(s) || !undo_and_redo(s, &level)) return false;
     if (!save(s, text) || !load(second, text) || !saves_as(second, text)) return false;
     puts("a second scene loads what the first one saves, and saves the same");
     if (!empty_room(second, &level)) return false;

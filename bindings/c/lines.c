@@ -1,6 +1,6 @@
 /* Plays the lines of standard input one by one, and prints each answer: the bytes that `scene run` prints of the same
- * script (docs/SCRIPTS.md). The status is 1 where a line was bad, 3 where memory was wanting or a stream failed, and
- * else 0. */
+ * script (docs/SCRIPTS.md). Why a line is bad, standard error says. The status is 1 where a line was bad, 3 where
+ * memory was wanting or a stream failed, and else 0. */
 #define _POSIX_C_SOURCE 200809L
 #include "scene.h"
 
@@ -44,15 +44,36 @@ static bool has_room(struct room *room, size_t size)
 }
 
 /* Prints the text of the last answer; false where there is no memory for it. */
-static bool print_answer(scene **s, struct room *room)
+static bool print_answer(scene **s, struct room *room, FILE *stream)
 {
     size_t len = scene_answer(s, room->at, room->size);
     if (len > room->size) {
         if (!has_room(room, len)) return false;
         scene_answer(s, room->at, room->size);
     }
-    fwrite(room->at, 1, len, stdout);
+    if (len > 0) fwrite(room->at, 1, len, stream);
     return true;
+}
+
+/* Says why the last line is bad; false where there is no memory for it. */
+static bool print_reason(scene **s, struct room *room, unsigned long number)
+{
+    if (scene_bad_reason(s) != SCENE_DONE) return false;
+    fprintf(stderr, "lines: line %lu: ", number);
+    bool is_printed = print_answer(s, room, stderr);
+    fputc('\n', stderr);
+    return is_printed;
+}
+
+/* Plays a line, and prints its answer; false where memory was wanting. */
+static bool play_line(scene **s, struct room *room, const char *line, size_t len, unsigned long number, int *status)
+{
+    scene_code code = scene_line(s, (const uint8_t *)line, len);
+    if (code == SCENE_NO_MEMORY || code == SCENE_UNTOLD || code == SCENE_LOST) return false;
+    if (!print_answer(s, room, stdout)) return false;
+    if (code != SCENE_BAD) return true;
+    *status = STATUS_BAD;
+    return print_reason(s, room, number);
 }
 
 /* Plays all lines, and gives the exit status. `line` has `size` bytes of room, and is as getline leaves it. */
@@ -60,14 +81,10 @@ static int play(scene **s, struct room *room, char **line, size_t *size)
 {
     int status = 0;
     ssize_t len;
-    /* The room of an answer is never NULL, not even before the first one. */
-    if (!has_room(room, 4096) || scene_open(s) != SCENE_DONE) return fault("memory was wanting");
-    while (errno = 0, (len = getline(line, size, stdin)) >= 0) {
-        uint32_t code = scene_line(s, (const uint8_t *)*line, without_break(*line, (size_t)len));
-        if (code == SCENE_NO_MEMORY || code == SCENE_UNTOLD || code == SCENE_LOST) return fault("memory was wanting");
-        if (code == SCENE_BAD) status = STATUS_BAD;
-        if (!print_answer(s, room)) return fault("memory was wanting");
-    }
+    if (scene_open(s) != SCENE_DONE) return fault("memory was wanting");
+    for (unsigned long number = 1; errno = 0, (len = getline(line, size, stdin)) >= 0; number++)
+        if (!play_line(s, room, *line, without_break(*line, (size_t)len), number, &status))
+            return fault("memory was wanting");
     if (!feof(stdin)) return fault(strerror(errno));
     return fflush(stdout) == 0 && !ferror(stdout) ? status : fault(strerror(errno));
 }

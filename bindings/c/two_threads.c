@@ -28,15 +28,15 @@ struct work {
     size_t len;
 };
 
-static bool fails(const char *what, uint32_t code)
+static bool fails(const char *what, scene_code code)
 {
-    fprintf(stderr, "two_threads: %s: code %" PRIu32 "\n", what, code);
+    fprintf(stderr, "two_threads: %s: code %d\n", what, (int)code);
     return false;
 }
 
 /* Whether a call is done. */
 #define DONE(call) is_done((call), #call)
-static bool is_done(uint32_t code, const char *call)
+static bool is_done(scene_code code, const char *call)
 {
     return code == SCENE_DONE || fails(call, code);
 }
@@ -100,9 +100,8 @@ static bool play_frames(scene **s, const struct work *work)
 
 static bool keep_text(scene **s, struct work *work)
 {
-    uint8_t none;
     if (!DONE(scene_save(s))) return false;
-    work->len = scene_answer(s, &none, 0);
+    work->len = scene_answer(s, NULL, 0);
     work->text = malloc(work->len + 1);
     if (work->text == NULL) {
         fputs("two_threads: memory was wanting for a text\n", stderr);

@@ -4,7 +4,7 @@
     bindings/python/lines.py [LIBRARY] < SCRIPT
 
 Without a path, the library is libscene.so in the folder that SCENE_LIB_DIR names. The status is 0, and 1 where a line
-was bad; 3 where memory was wanting. Why a line is bad, the program alone tells.
+was bad; 3 where memory was wanting. Why a line is bad, standard error tells.
 """
 import sys
 
@@ -21,7 +21,7 @@ def without_break(line: bytes) -> bytes:
 def main() -> int:
     scene = Library(sys.argv[1] if len(sys.argv) > 1 else None)
     status = 0
-    for line in sys.stdin.buffer:
+    for number, line in enumerate(sys.stdin.buffer, 1):
         code, answer = scene.play(without_break(line))
         if code not in (DONE, REFUSED, BAD):
             print(f"lines: code {code}, for want of memory", file=sys.stderr)
@@ -29,6 +29,7 @@ def main() -> int:
         sys.stdout.buffer.write(answer)
         if code == BAD:
             status = 1
+            print(f"lines: line {number}: {scene.reason()}", file=sys.stderr)
     sys.stdout.buffer.flush()
     return status
 

@@ -483,7 +483,7 @@ class Calls(ABC):
             raise
 
     def _drop_frame(self) -> None:
-        """Ends the open frame. No line drops one, so it gets a command that is always refused."""
+        """Ends the open frame without doing it. No line drops one, so it gets a command that is always refused."""
         try:
             self.line(f"despawn {NOBODY}")
             self.line("commit")

@@ -12,6 +12,7 @@ import ctypes
 import json
 import os
 import threading
+from contextlib import suppress
 from ctypes import POINTER, byref, c_char_p, c_int64, c_size_t, c_uint32, c_void_p
 from pathlib import Path
 from typing import Any, Callable, Dict, List, Mapping, NamedTuple, Optional, Tuple, Union, overload
@@ -21,27 +22,6 @@ from scene import BadLine, Calls, Entity, Given, Refused, Value, entity_named, k
 DONE, NO_MEMORY, CLOSED, REFUSED, BAD, UNTOLD, LOST = range(7)
 TAG, INT, VEC3, TEXT, LINK = range(5)
 
-# The faults that a call without a text can be refused with (docs/MODEL.md, "Faults").
-FAULTS = {
-    1: "NoSuchEntity",
-    2: "HasChildren",
-    3: "NotPresent",
-    4: "WrongShape",
-    5: "NoSuchKind",
-    6: "DuplicateKind",
-    7: "SelfParent",
-    8: "Cycle",
-    9: "NoParent",
-    11: "EntitiesFull",
-    12: "BadLocal",
-    13: "TickFull",
-    15: "NothingToUndo",
-    16: "NothingToRedo",
-    17: "HistoryFull",
-    18: "Rewound",
-    20: "NoMemory",
-    24: "QueueFull",
-}
 NO_SUCH_KIND, HISTORY_FULL = 5, 17
 
 # A kind that no scene has: there are at most 64.
@@ -76,13 +56,15 @@ class RawRefusal(ctypes.Structure):
 NOBODY = RawEntity(2**32 - 1, 2**32 - 1)
 
 HANDLE = POINTER(c_void_p)
-# What the calls of scene.h take behind the scene, but for the three declared below. Nothing compares the two.
+# What the calls of scene.h take behind the scene, but for those declared below. Nothing compares the two.
 TAKES: Dict[str, List[Any]] = {
     "line": [c_char_p, c_size_t],
+    "bad_reason": [],
     "save": [],
     "load": [c_char_p, c_size_t],
     "begin": [],
     "commit": [],
+    "drop_frame": [],
     "spawned": [c_size_t, POINTER(RawEntity)],
     "undo": [],
     "redo": [],
@@ -116,6 +98,8 @@ def load_library(path: Union[str, Path, None] = None) -> ctypes.CDLL:
     library.scene_open.argtypes, library.scene_open.restype = [HANDLE], c_uint32
     library.scene_close.argtypes, library.scene_close.restype = [HANDLE], None
     library.scene_answer.argtypes, library.scene_answer.restype = [HANDLE, c_void_p, c_size_t], c_size_t
+    library.scene_fault_name.argtypes, library.scene_fault_name.restype = [c_uint32, c_void_p, c_size_t], c_size_t
+    library.scene_version.argtypes, library.scene_version.restype = [], c_uint32
     for name, takes in TAKES.items():
         call = getattr(library, f"scene_{name}")
         call.argtypes, call.restype = [HANDLE, *takes], c_uint32
@@ -172,6 +156,23 @@ class Library:
             code = self.call("line", line, len(line))
             return Played(code, self.answer() if code in (DONE, REFUSED, BAD) else b"")
 
+    def reason(self) -> str:
+        """Why the last call was bad, in words, which are the text of its answer then; empty where that isn't known."""
+        with self.lock:
+            return self.answer().decode() if self.call("bad_reason") == DONE else ""
+
+    def fault_name(self, number: int) -> str:
+        """The name of a fault, by its number (docs/MODEL.md, "Faults"); empty where no fault of a scene has it."""
+        room = ctypes.create_string_buffer(int(self._library.scene_fault_name(number, None, 0)))
+        self._library.scene_fault_name(number, room, len(room))
+        return room.raw.decode()
+
+    @property
+    def version(self) -> Tuple[int, int, int]:
+        """The version of the library."""
+        number = int(self._library.scene_version())
+        return number // 10_000, number // 100 % 100, number % 100
+
     def close(self) -> None:
         """Frees the scene. Once more is fine."""
         with self.lock:
@@ -225,6 +226,11 @@ class LibraryScene(Calls):
     def close(self) -> None:
         self._scene.close()
 
+    @property
+    def version(self) -> Tuple[int, int, int]:
+        """The version of the library."""
+        return self._scene.version
+
     # ---- lines
 
     def play(self, line: bytes) -> Played:
@@ -241,17 +247,13 @@ class LibraryScene(Calls):
     def line(self, text: str) -> List[str]:
         if "\n" in text:
             raise BadLine("a line has no line break")
-        code, answer = self.play(text.encode())
-        self._came(code, text)
-        return self._lines(answer)
-
-    @staticmethod
-    def _lines(answer: bytes) -> List[str]:
-        """The lines of an answer. They tell each refusal, and the code not that of a `get`, a `dump` or a save."""
-        lines = answer.decode().split("\n")[:-1]
-        if lines and lines[0].startswith(("refused ", "fault ")):
-            raise Refused(lines[0])
-        return lines
+        with self._scene.lock:
+            code, answer = self.play(text.encode())
+            lines = answer.decode().split("\n")[:-1]
+            if code == REFUSED:
+                raise Refused(lines[0])
+            self._came(code, text)
+            return lines
 
     def _note(self, line: bytes, code: int) -> None:
         """Keeps what a good line said that this side has to know: the kinds, and whether a frame is open."""
@@ -278,11 +280,11 @@ class LibraryScene(Calls):
     # ---- calls
 
     def _came(self, code: int, what: str) -> None:
-        """Raises what a code says, if anything."""
+        """Raises what the code of the last call says, if anything."""
         if code in (DONE, REFUSED):
             return
         if code == BAD:
-            raise BadLine(what)
+            raise BadLine(self._scene.reason() or what)
         if code == CLOSED:
             raise ValueError("the scene is closed")
         if code == UNTOLD:
@@ -293,18 +295,31 @@ class LibraryScene(Calls):
         raise MemoryError(what)
 
     def _settle(self) -> None:
-        """Lets go what was given for a spawn that didn't come: it goes with a spawn in a frame that is refused."""
+        """Lets go what was given for a spawn that didn't come: it goes with a spawn in a frame that isn't done."""
         if not self._is_stuck:
             return
-        # The call is bad where a frame is open.
-        if self._scene.call("begin") not in (DONE, BAD):
+        if not self._in_frame and self._scene.call("begin") != DONE:
             raise MemoryError("begin")
         self._scene.call("spawn")
-        if self._scene.call("despawn", NOBODY) != DONE:
+        if not self._in_frame:
+            self._scene.call("drop_frame")
+        elif self._scene.call("despawn", NOBODY) != DONE:
+            # By this the open frame, which has a spawn too many now, will be refused.
             raise MemoryError("despawn")
-        if not self._in_frame and self._scene.call("commit") != REFUSED:
-            raise MemoryError("commit")
         self._is_stuck = False
+
+    def drop_frame(self) -> bool:
+        """Drops the open frame: nothing of it is done, and no call is made. Whether one was open."""
+        with self._scene.lock:
+            code = self._scene.call("drop_frame")
+            self._in_frame = False
+            if code != BAD:
+                self._came(code, "drop_frame")
+            return code == DONE
+
+    def _drop_frame(self) -> None:
+        with suppress(ValueError):
+            self.drop_frame()
 
     def _call(self, name: str, *arguments: Any) -> None:
         """Makes a call, and raises why it wasn't done."""
@@ -319,7 +334,7 @@ class LibraryScene(Calls):
         raw = RawRefusal()
         if self._scene.call("refused", byref(raw)) != DONE:
             return Refused(self._scene.answer().decode().rstrip("\n"))
-        told = f"refused {raw.fault} {FAULTS.get(raw.fault, 'Unknown')}"
+        told = f"refused {raw.fault} {self._scene.fault_name(raw.fault)}"
         if raw.fault == HISTORY_FULL:
             # Its field is the length of the history, which a call without a text doesn't tell.
             told += self.line("history")[0][len("history") :]
@@ -441,7 +456,7 @@ class LibraryScene(Calls):
     def save(self) -> str:
         with self._scene.lock:
             self._call("save")
-            return self._lines(self._scene.answer())[0]
+            return self._scene.answer().decode().rstrip("\n")
 
     def load(self, text: str) -> None:
         with self._scene.lock:

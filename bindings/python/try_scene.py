@@ -19,10 +19,13 @@ import threading
 import traceback
 from contextlib import contextmanager
 from pathlib import Path
-from typing import Any, Callable, Dict, Iterator, List, Optional, Tuple, Type, TypeVar
+from typing import TYPE_CHECKING, Any, Callable, Dict, Iterator, List, Optional, Tuple, Type, TypeVar
 
 import scene
 from scene import BadLine, Calls, Ended, Entity, KindsDiffer, Refused, StoreError
+
+if TYPE_CHECKING:
+    from scene_library import LibraryScene
 
 TOP = Path(__file__).resolve().parents[2]
 KINDS = {"Name": "Text", "Health": "Int", "At": "Vec3", "Hidden": "Tag", "Target": "Link"}
@@ -376,7 +379,7 @@ def closes(begin: Begin) -> None:
 
 
 def reasons(begin: Begin) -> None:
-    """Of a bad line the shell tells why."""
+    """A bad line tells why it is bad."""
     with begin() as world:
         assert str(error_of(BadLine, world.line, "jump")) == "no command is named jump"
         assert str(error_of(BadLine, world.line, "get 7")) == "`7` is no entity, as 0v1"
@@ -388,6 +391,67 @@ def reasons(begin: Begin) -> None:
             assert long in str(error_of(BadLine, world.line, f"{long} {long}"))
             world.spawn(Health=1)
         assert len(world.rows()) == 1
+
+
+def dropped_frames(begin: Begin) -> None:
+    """A frame that is dropped does nothing, and isn't a call."""
+    from scene_library import LibraryScene
+
+    with begin() as world:
+        assert isinstance(world, LibraryScene)
+        cat = spawned(world, Health=9)
+        before = world.show(), world.line("history")
+        assert not world.drop_frame()
+        for _ in range(2):
+            world.line("begin")
+            world.insert(cat, Health=5)
+            assert world.drop_frame() and not world.drop_frame()
+        error_of(ZeroDivisionError, fail_in_frame, world)
+        assert (world.show(), world.line("history")) == before
+        # Its `with` finds no frame any more.
+        error = error_of(BadLine, drop_in_frame, world)
+        assert "no frame is open" in str(error)
+        world.undo()
+        assert not world.rows()
+        world.close()
+        assert "closed" in str(error_of(ValueError, world.drop_frame))
+
+
+def fail_in_frame(world: Calls) -> None:
+    """A frame that an error ends."""
+    with world.frame():
+        world.spawn(Health=1)
+        raise ZeroDivisionError
+
+
+def drop_in_frame(world: "LibraryScene") -> None:
+    """A frame that is dropped before its end."""
+    with world.frame():
+        world.spawn(Health=1)
+        world.drop_frame()
+
+
+def refused_lines(begin: Begin) -> None:
+    """What is refused is told also of a line that asks."""
+    with begin() as world:
+        for line in ("get 7v9", "despawn 7v9"):
+            assert refusal(world.line, line).name == "NoSuchEntity"
+        assert refusal(world.get, "7v9").number == 1
+
+
+def names_of_faults(library: str) -> None:
+    """The library has the name of each fault that a scene can have, and its version is that of VERSION."""
+    from scene_library import Library
+
+    known = re.findall(r"^\| (\d+) \| (\w+)", (TOP / "docs/MODEL.md").read_text(), re.MULTILINE)
+    names = {int(number): name for number, name in known if int(number) < 60}
+    scene_of = Library(library)
+    assert len(names) > 30 and names[1] == "NoSuchEntity"
+    for number in (*range(300), 2**32 - 1):
+        assert scene_of.fault_name(number) == names.get(number, ""), number
+    version = (TOP / "VERSION").read_text().split()[1]
+    assert ".".join(map(str, scene_of.version)) == version
+    scene_of.close()
 
 
 @contextmanager
@@ -601,8 +665,13 @@ def plays(library: str, name: str) -> None:
     """lines.py prints of an example what the program prints, and ends as it does."""
     script = (EXAMPLES / f"{name}.scene").read_bytes()
     words = [sys.executable, "-B", str(Path(__file__).with_name("lines.py")), library]
-    done = subprocess.run(words, input=script, stdout=subprocess.PIPE, check=False)
+    done = subprocess.run(words, input=script, stdout=subprocess.PIPE, stderr=subprocess.PIPE, check=False)
     assert done.stdout == (EXAMPLES / f"{name}.out").read_bytes(), "other bytes"
+    # The program tells of the first bad lines alone why they are bad.
+    told = EXAMPLES / f"{name}.err"
+    wanted = re.findall(r"^scene: (line \d+: .*)", told.read_text() if told.exists() else "", re.MULTILINE)
+    found = re.findall(r"^lines: (line \d+: .*)", done.stderr.decode(), re.MULTILINE)
+    assert found[: len(wanted)] == wanted, "other reasons"
     status = EXAMPLES / f"{name}.status"
     assert done.returncode == (int(status.read_text()) if status.exists() else 0), f"status {done.returncode}"
 
@@ -648,8 +717,11 @@ BOTH = (
     saves,
     threads,
     closes,
+    reasons,
+    refused_lines,
 )
-SHELL = (texts_on_lines, reasons)
+SHELL = (texts_on_lines,)
+LIBRARY = (texts_with_spaces, dropped_frames)
 PROGRAMS = (
     stores,
     kinds_of_stores,
@@ -680,8 +752,8 @@ def main() -> int:
     if folder is None:
         print("Python: the library isn't tried, as SCENE_LIB_DIR names no folder; `./scene library FOLDER` makes one")
     else:
-        tried += [("the library", one, (library,)) for one in (*BOTH, texts_with_spaces)]
-        tried += [("the library", library_example, (f"{folder}/libscene.so",))]
+        tried += [("the library", one, (library,)) for one in (*BOTH, *LIBRARY)]
+        tried += [("the library", one, (f"{folder}/libscene.so",)) for one in (library_example, names_of_faults)]
         names = sorted(path.stem for path in EXAMPLES.glob("*.scene") if is_run(path.stem))
         tried += [("lines.py", plays, (f"{folder}/libscene.so", name)) for name in names]
     failed = 0

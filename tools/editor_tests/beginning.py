@@ -80,7 +80,8 @@ def log_of(program, store):
 
 
 def in_use(store):
-    return f"scene: fault 60 StoreInUse\nscene: edit: {store.name} is in use by another shell\n"
+    used = f'scene: fault 60 StoreInUse "{store}": another program has it open'
+    return f"{used}\nscene: edit: {store.name} is in use by another shell\n"
 
 
 def try_in_use(program, room):

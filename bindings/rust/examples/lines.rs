@@ -1,7 +1,7 @@
 //! Plays the script on standard input line by line, and prints what `scene run` prints of it.
 //!
-//! The status is 0, and 1 where a line was bad; 3 where memory was wanting or a stream failed. Why a line is bad, the
-//! program alone tells.
+//! The status is 0, and 1 where a line was bad; 3 where memory was wanting or a stream failed. Why a line is bad,
+//! standard error tells.
 use scene::{Outcome, Scene};
 use std::io::{self, BufRead, Write};
 use std::process::ExitCode;
@@ -21,11 +21,17 @@ fn play() -> Result<bool, Box<dyn std::error::Error>> {
     let mut output = io::BufWriter::new(io::stdout().lock());
     let mut all_good = true;
     let mut line = Vec::new();
-    while input.read_until(b'\n', &mut line)? > 0 {
+    for number in 1.. {
+        line.clear();
+        if input.read_until(b'\n', &mut line)? == 0 {
+            break;
+        }
         let answer = scene.play(without_break(&line))?;
         output.write_all(answer.text.as_bytes())?;
-        all_good &= answer.outcome != Outcome::Bad;
-        line.clear();
+        if let Outcome::Bad(reason) = answer.outcome {
+            all_good = false;
+            eprintln!("lines: line {number}: {reason}");
+        }
     }
     output.flush()?;
     Ok(all_good)

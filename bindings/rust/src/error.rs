@@ -18,8 +18,9 @@ use std::fmt;
 pub enum Error {
     /// The rules of the world refused it.
     Refused(Refusal),
-    /// There is no such call here, as an undo in an open frame; or a line is bad, as docs/SCRIPTS.md says.
-    Bad,
+    /// There is no such call here, as an undo in an open frame; or a line is bad, as docs/SCRIPTS.md says. The words
+    /// are the library's, where it has some.
+    Bad(String),
     /// Memory was wanting. Where the call would have ended the setup, the setup may be over.
     NoMemory,
     /// The scene is closed. No call of this crate leaves it so.
@@ -38,7 +39,7 @@ impl Error {
     ///
     /// let error = Scene::new()?.redo().unwrap_err();
     /// assert_eq!(error.refusal().map(|refusal| refusal.fault), Some(16));
-    /// assert_eq!(Error::Bad.refusal(), None);
+    /// assert_eq!(Error::Lost.refusal(), None);
     /// # Ok::<(), Error>(())
     /// ```
     #[must_use]
@@ -54,7 +55,8 @@ impl fmt::Display for Error {
     fn fmt(&self, f: &mut fmt::Formatter<'_>) -> fmt::Result {
         match self {
             Error::Refused(refusal) => refusal.fmt(f),
-            Error::Bad => f.write_str("there is no such call here, or the line is bad"),
+            Error::Bad(reason) if reason.is_empty() => f.write_str("there is no such call here, or the line is bad"),
+            Error::Bad(reason) => f.write_str(reason),
             Error::NoMemory => f.write_str("memory was wanting, and nothing was done"),
             Error::Closed => f.write_str("the scene is closed"),
             Error::Untold => f.write_str("it was done, and memory was wanting for its answer"),
@@ -223,5 +225,27 @@ impl Refusal {
         parts.next()?;
         let fields = parts.next().unwrap_or("").to_owned();
         Some(Refusal { fault, name: name(fault), fields, place, is_of_text })
+    }
+}
+
+#[cfg(test)]
+mod tests {
+    use super::name;
+    use crate::raw;
+    use std::ptr;
+
+    #[test]
+    fn faults_have_the_names_of_the_library() {
+        for fault in 0..1000 {
+            let mut room = [0; 32];
+            // SAFETY: `room` has as many bytes, and is lent for the call; where there is no room, null is fine.
+            let (length, again) = unsafe {
+                let length = raw::scene_fault_name(fault, room.as_mut_ptr(), room.len());
+                (length, raw::scene_fault_name(fault, ptr::null_mut(), 0))
+            };
+            let found = std::str::from_utf8(&room[..length]).unwrap();
+            assert_eq!(if found.is_empty() { "Unknown" } else { found }, name(fault));
+            assert_eq!(again, length);
+        }
     }
 }

@@ -43,5 +43,5 @@ pub use entity::{Entity, New, NoEntity, Target};
 pub use error::{Error, Place, Refusal};
 pub use frame::Frame;
 pub use rows::{Cell, Row, Rows};
-pub use scene::{Answer, Changed, Outcome, Scene};
+pub use scene::{Answer, Changed, Outcome, Scene, version};
 pub use value::{Kind, NoShape, Shape, Value};

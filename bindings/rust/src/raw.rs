@@ -67,14 +67,19 @@ pub struct RawRefusal {
 pub type Handle = *mut *mut Opaque;
 
 unsafe extern "C" {
+    pub fn scene_version() -> u32;
     pub fn scene_open(out: Handle) -> u32;
     pub fn scene_close(scene: Handle);
     pub fn scene_line(scene: Handle, line: *const u8, len: usize) -> u32;
     pub fn scene_answer(scene: Handle, at: *mut u8, room: usize) -> usize;
+    pub fn scene_bad_reason(scene: Handle) -> u32;
+    #[cfg(test)]
+    pub fn scene_fault_name(fault: u32, at: *mut u8, room: usize) -> usize;
     pub fn scene_save(scene: Handle) -> u32;
     pub fn scene_load(scene: Handle, text: *const u8, len: usize) -> u32;
     pub fn scene_begin(scene: Handle) -> u32;
     pub fn scene_commit(scene: Handle) -> u32;
+    pub fn scene_drop_frame(scene: Handle) -> u32;
     pub fn scene_spawned(scene: Handle, at: usize, out: *mut RawEntity) -> u32;
     pub fn scene_undo(scene: Handle) -> u32;
     pub fn scene_redo(scene: Handle) -> u32;

@@ -20,6 +20,18 @@ macro_rules! call {
     }};
 }
 
+/// The version of the library: its three numbers.
+///
+/// ```
+/// assert!(scene::version() >= (0, 1, 0));
+/// ```
+#[must_use]
+pub fn version() -> (u32, u32, u32) {
+    // SAFETY: the declaration fits the header's.
+    let number = unsafe { raw::scene_version() };
+    (number / 10_000, number / 100 % 100, number % 100)
+}
+
 /// A scene: a world, and what of it can be undone and redone. It begins in its setup, in which kinds are declared; the
 /// first call that isn't a `declare` or a setup line ends it. When it is let go, all of it is freed.
 ///
@@ -63,7 +75,7 @@ pub struct Scene {
 ///
 /// let mut scene = Scene::new()?;
 /// assert_eq!(scene.play(b"spawn")?.outcome, Outcome::Done);
-/// assert_eq!(scene.play(b"jump")?.outcome, Outcome::Bad);
+/// assert_eq!(scene.play(b"jump")?.outcome, Outcome::Bad("no command is named jump".to_owned()));
 /// # Ok::<(), Error>(())
 /// ```
 #[derive(Clone, Debug, PartialEq, Eq)]
@@ -72,8 +84,8 @@ pub enum Outcome {
     Done,
     /// It was refused.
     Refused(Refusal),
-    /// It is a bad line.
-    Bad,
+    /// It is a bad line, and this is why, in words.
+    Bad(String),
 }
 
 /// The answer to a line.
@@ -154,7 +166,7 @@ impl Scene {
     /// [`Error::NoMemory`].
     pub fn new() -> Result<Scene, Error> {
         let mut at = ptr::null_mut();
-        // SAFETY: the declaration fits the header's, and `at` is null, as a scene begins.
+        // SAFETY: the declaration fits the header's, and the library only writes to `at`.
         match unsafe { raw::scene_open(&mut at) } {
             raw::DONE => Ok(Scene { at, kinds: Vec::new(), has_frame: false, is_stuck: false }),
             _ => Err(Error::NoMemory),
@@ -209,12 +221,7 @@ impl Scene {
     pub fn save(&mut self) -> Result<String, Error> {
         self.settle()?;
         call!(self, scene_save)?;
-        let text = self.text();
-        // The text tells a refusal also where the code doesn't.
-        match Refusal::of_text(&text) {
-            Some(refusal) => Err(Error::Refused(refusal)),
-            None => Ok(without_break(text)),
-        }
+        Ok(without_break(self.text()))
     }
 
     /// Declares a kind, in the setup.
@@ -227,7 +234,8 @@ impl Scene {
     /// let error = scene.declare("Health", Shape::Text).unwrap_err();
     /// assert_eq!(error.to_string(), "refused 31 KindTaken");
     /// scene.spawn(&[])?;
-    /// assert_eq!(scene.declare("Late", Shape::Tag), Err(Error::Bad));
+    /// let error = scene.declare("Late", Shape::Tag).unwrap_err();
+    /// assert!(error.to_string().starts_with("the setup has ended"));
     /// # Ok::<(), Error>(())
     /// ```
     ///
@@ -237,10 +245,10 @@ impl Scene {
     /// and for a name that is empty or has a space.
     pub fn declare(&mut self, name: &str, shape: Shape) -> Result<Kind, Error> {
         if name.contains(' ') {
-            return Err(Error::Bad);
+            return Err(Error::Bad(format!("`{name}` has a space, and the name of a kind has none")));
         }
         self.line(&format!("kind {name} {shape}"))?;
-        self.kind(name).ok_or(Error::Bad)
+        self.kind(name).ok_or_else(|| Error::Bad(String::new()))
     }
 
     /// The kind of a name.
@@ -308,7 +316,7 @@ impl Scene {
     pub fn spawn(&mut self, cells: &[(Kind, Value)]) -> Result<Entity, Error> {
         self.ready()?;
         self.send_spawn(cells)?;
-        self.made(0).ok_or(Error::Bad)
+        self.made(0).ok_or_else(|| Error::Bad(String::new()))
     }
 
     /// Despawns an entity, which has to have no children, by a frame of its own.
@@ -421,6 +429,25 @@ impl Scene {
     /// As those of [`spawn`](Scene::spawn).
     pub fn remove_parent(&mut self, child: Entity) -> Result<(), Error> {
         self.alone(&Command::RemoveParent(child.into()))
+    }
+
+    /// Drops the frame that the line `begin` opened, with its commands, and tells whether there was one. No call is
+    /// made: there is nothing to undo, and the history stays. A [`Frame`] that is let go needs none of this.
+    ///
+    /// ```
+    /// # use scene::{Error, Scene};
+    /// # let mut scene = Scene::new()?;
+    /// scene.line("begin")?;
+    /// scene.line("spawn")?;
+    /// assert!(scene.drop_frame());
+    /// assert_eq!(scene.rows()?.len(), 0);
+    /// assert_eq!(scene.line("history")?, "history 0");
+    /// # Ok::<(), Error>(())
+    /// ```
+    pub fn drop_frame(&mut self) -> bool {
+        self.has_frame = false;
+        // SAFETY: as in `call!`.
+        unsafe { raw::scene_drop_frame(&mut self.at) == raw::DONE }
     }
 
     /// Takes the newest frame back: the world is then exactly as before it.
@@ -567,7 +594,7 @@ impl Scene {
     /// scene.line("system hurt need=Health addint:Health:-1")?;
     /// scene.line("advance")?;
     /// assert_eq!(scene.line("get 0v1")?, "row 0v1 Health=8@1/2");
-    /// assert_eq!(scene.line("jump"), Err(Error::Bad));
+    /// assert_eq!(scene.line("jump").unwrap_err().to_string(), "no command is named jump");
     /// # Ok::<(), Error>(())
     /// ```
     ///
@@ -579,7 +606,7 @@ impl Scene {
         match answer.outcome {
             Outcome::Done => Ok(without_break(answer.text)),
             Outcome::Refused(refusal) => Err(Error::Refused(refusal)),
-            Outcome::Bad => Err(Error::Bad),
+            Outcome::Bad(reason) => Err(Error::Bad(reason)),
         }
     }
 
@@ -603,18 +630,20 @@ impl Scene {
         // SAFETY: as in `call!`; pointer and length are those of one slice, which is lent for the call.
         let code = unsafe { raw::scene_line(&mut self.at, line.as_ptr(), line.len()) };
         self.note(line, code);
-        let came = self.came(code);
+        // Why a line is bad comes in the place of its text.
         let text = self.text();
-        let outcome = match came {
-            // The text tells each refusal, and the code not that of a `get` or a `dump`.
-            Ok(()) => Refusal::of_text(&text).map_or(Outcome::Done, Outcome::Refused),
+        let outcome = match self.came(code) {
+            Ok(()) => Outcome::Done,
             Err(Error::Refused(refusal)) => Outcome::Refused(refusal),
-            Err(Error::Bad) => Outcome::Bad,
+            Err(Error::Bad(reason)) => Outcome::Bad(reason),
             Err(error) => return Err(error),
         };
         Ok(Answer { text, outcome })
     }
 }
+
+/// Why a call isn't there.
+const FRAME_OPEN: &str = "a line opened a frame, and commands go by lines before its commit";
 
 /// A text without the line break that ends it.
 fn without_break(mut text: String) -> String {
@@ -637,7 +666,7 @@ impl Scene {
                 self.kinds.clear();
                 Err(Error::Lost)
             }
-            raw::BAD => Err(Error::Bad),
+            raw::BAD => Err(Error::Bad(self.reason())),
             other => unreachable!("scene.h has no code {other}"),
         }
     }
@@ -651,15 +680,24 @@ impl Scene {
         // SAFETY: as in `call!`; `refusal` is lent for the call.
         match unsafe { raw::scene_refused(&mut self.at, &mut refusal) } {
             raw::DONE => Error::Refused(Refusal::of_raw(refusal)),
-            _ => Error::Bad,
+            _ => Error::Bad(String::new()),
+        }
+    }
+
+    /// Why the last call was bad, in words, which are the text of its answer then; nothing where no memory was found.
+    fn reason(&mut self) -> String {
+        // SAFETY: as in `call!`.
+        match unsafe { raw::scene_bad_reason(&mut self.at) } {
+            raw::DONE => self.text(),
+            _ => String::new(),
         }
     }
 
     /// The text of the last answer.
     fn text(&mut self) -> String {
         let mut room = Vec::new();
-        // SAFETY: as in `call!`; the pointer of an empty `Vec` isn't null, and 0 bytes are written.
-        let length = unsafe { raw::scene_answer(&mut self.at, room.as_mut_ptr(), 0) };
+        // SAFETY: as in `call!`; where there is no room, null is fine.
+        let length = unsafe { raw::scene_answer(&mut self.at, ptr::null_mut(), 0) };
         if length == 0 {
             return String::new();
         }
@@ -694,30 +732,23 @@ impl Scene {
     /// Makes sure that a call goes into no frame but its own.
     fn ready(&mut self) -> Result<(), Error> {
         self.settle()?;
-        if self.has_frame { Err(Error::Bad) } else { Ok(()) }
+        if self.has_frame { Err(Error::Bad(FRAME_OPEN.to_owned())) } else { Ok(()) }
     }
 
-    /// Clears what want of memory left: a frame that is open goes where it is refused, and given components with their
-    /// spawn. No call drops a frame, so it gets a command that is always refused.
+    /// Clears what want of memory left: components that were given go with a spawn in a frame, and that is dropped.
     fn settle(&mut self) -> Result<(), Error> {
         if !self.is_stuck {
             return Ok(());
         }
         match call!(self, scene_begin) {
             // `Bad` where it is open already.
-            Ok(()) | Err(Error::Bad) => {}
+            Ok(()) | Err(Error::Bad(_)) => {}
             Err(error) => return Err(error),
         }
         // The components go, whatever becomes of the spawn.
         let _ = call!(self, scene_spawn);
-        call!(self, scene_despawn, raw::NONE)?;
-        match call!(self, scene_commit) {
-            Err(Error::Refused(_)) => {
-                self.is_stuck = false;
-                Ok(())
-            }
-            came => came,
-        }
+        self.is_stuck = false;
+        call!(self, scene_drop_frame)
     }
 
     /// An entity that the last frame spawned, by its place.

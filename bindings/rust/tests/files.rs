@@ -59,7 +59,7 @@ fn a_line_loads_too() {
     scene.declare("Other", Shape::Tag).unwrap();
     assert_eq!(scene.line(&format!("load   {saved}")), Ok("ok".to_owned()));
     assert_eq!((scene.kind("Other"), scene.kinds().count()), (None, 2));
-    assert_eq!(scene.declare("Late", Shape::Tag), Err(Error::Bad));
+    assert!(matches!(scene.declare("Late", Shape::Tag), Err(Error::Bad(_))));
     scene.line("depth 1").unwrap();
     let name = scene.kind("Name").unwrap();
     assert_eq!(scene.get("0v1".parse().unwrap(), name), Ok(Value::from("a \"cat\"\n")));

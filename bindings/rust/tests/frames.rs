@@ -1,5 +1,5 @@
 //! Frames, and what refuses them.
-use scene::{Entity, Error, Kind, Place, Scene, Shape, Value};
+use scene::{Entity, Error, Kind, Outcome, Place, Scene, Shape, Value};
 
 /// A scene with a kind of each sort that is used here.
 fn begun() -> (Scene, Kind, Kind) {
@@ -140,13 +140,13 @@ fn in_a_frame_of_lines_commands_go_by_lines() {
     let (mut scene, _, health) = begun();
     scene.line("begin").unwrap();
     assert_eq!(scene.line("spawn Health=9"), Ok("queued".to_owned()));
-    assert_eq!(scene.spawn(&[]), Err(Error::Bad));
-    assert_eq!(scene.insert(entity("0v1"), health, 1), Err(Error::Bad));
-    assert_eq!(scene.frame().commit(), Err(Error::Bad));
-    assert_eq!(scene.undo(), Err(Error::Bad));
-    assert_eq!(scene.save(), Err(Error::Bad));
+    assert!(matches!(scene.spawn(&[]), Err(Error::Bad(_))));
+    assert!(matches!(scene.insert(entity("0v1"), health, 1), Err(Error::Bad(_))));
+    assert!(matches!(scene.frame().commit(), Err(Error::Bad(_))));
+    assert!(matches!(scene.undo(), Err(Error::Bad(_))));
+    assert!(matches!(scene.save(), Err(Error::Bad(_))));
     assert!(scene.rows().is_err() && scene.changed().is_err() && scene.mark().is_err());
-    assert_eq!(scene.line("begin"), Err(Error::Bad));
+    assert!(matches!(scene.line("begin"), Err(Error::Bad(_))));
     assert_eq!(scene.line("insert +0 Health=8"), Ok("queued".to_owned()));
     assert_eq!(scene.line(" commit "), Ok("done 0v1".to_owned()));
     assert_eq!(scene.get(entity("0v1"), health), Ok(Value::Int(8)));
@@ -154,6 +154,37 @@ fn in_a_frame_of_lines_commands_go_by_lines() {
     scene.line("despawn 7v9").unwrap();
     assert!(scene.line("commit").is_err());
     scene.spawn(&[]).unwrap();
+}
+
+#[test]
+fn a_dropped_frame_is_no_call() {
+    let (mut scene, _, health) = begun();
+    let cat = scene.spawn(&[health.of(9)]).unwrap();
+    let history = scene.line("history").unwrap();
+    assert!(!scene.drop_frame());
+    for _ in 0..2 {
+        scene.line("begin").unwrap();
+        scene.line("insert 0v1 Health=5").unwrap();
+        assert!(scene.drop_frame() && !scene.drop_frame());
+        assert_eq!(scene.get(cat, health), Ok(Value::Int(9)));
+    }
+    assert_eq!(scene.line("history").unwrap(), history);
+    assert!(scene.line("commit").unwrap_err().to_string().starts_with("no frame is open"));
+    scene.undo().unwrap();
+    assert_eq!(scene.rows().unwrap().len(), 0);
+}
+
+#[test]
+fn a_bad_call_says_why() {
+    let (mut scene, _, _) = begun();
+    scene.line("begin").unwrap();
+    assert!(scene.undo().unwrap_err().to_string().starts_with("a frame is open"));
+    assert_eq!(scene.line("get 7").unwrap_err().to_string(), "`7` is no entity, as 0v1");
+    let answer = scene.play(b"jump").unwrap();
+    assert_eq!(
+        (answer.text.as_str(), answer.outcome),
+        ("bad line\n", Outcome::Bad("no command is named jump".to_owned()))
+    );
 }
 
 #[test]
@@ -177,7 +208,7 @@ fn errors_say_what_they_are() {
     assert_eq!(error.refusal().unwrap().fields, "1");
     assert_eq!(std::error::Error::source(&error).unwrap().to_string(), error.to_string());
     assert_eq!(scene.undo().unwrap_err().to_string(), "refused 17 HistoryFull");
-    for error in [Error::Bad, Error::NoMemory, Error::Closed, Error::Untold, Error::Lost] {
+    for error in [Error::Bad(String::new()), Error::NoMemory, Error::Closed, Error::Untold, Error::Lost] {
         assert!(!error.to_string().is_empty() && std::error::Error::source(&error).is_none());
     }
 }

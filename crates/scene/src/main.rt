@@ -7,13 +7,18 @@
 #![tactic(auto)]
 
 mod ending;
+mod shell_store;
+mod store_looks;
 mod stored;
 
 use crate::ending::Ending;
-use crate::stored::{compact_store, log_store, show_store, stored_shell};
+use crate::shell_store::stored_shell;
+use crate::store_looks::{backup_store, log_store, show_store};
+use crate::stored::compact_store;
 use scene_app::{AppFault, RunEnd, check_scene, print_scene, run_script};
 use scene_command_line::{Asked, ShellWords, mistake_in, read_words};
 use scene_hand::OnThreads;
+use scene_player::PlayerSettings;
 use scene_script::Limit;
 use scene_shell::{AnswerStyle, ShellSettings, run_shell};
 use scene_streams::{Sink, Source};
@@ -79,8 +84,10 @@ pub(crate) fn performer_of<'a, T: Threads + Sync>(
 
 /// How a shell is to be, by the words that ask for it; nothing where its depth is out of range, which no words ask for.
 fn shell_settings(words: &ShellWords) -> Option<ShellSettings> {
+    let depth = Limit::new(words.depth)?;
+    let PlayerSettings { calls, .. } = PlayerSettings::unlimited();
     Some(ShellSettings {
-        depth: Limit::new(words.depth)?,
+        player: PlayerSettings { depth, calls },
         style: style_of(words),
     })
 }
@@ -96,15 +103,15 @@ fn shell(rt: &HostRuntime, threads: &(impl Threads + Wait + Sync), words: ShellW
     let Ok(mut reader) = BufReader::new(rt.alloc(), rt.stdin()) else {
         return Ending::Fault(AppFault::NoMemory);
     };
-    let (mut writer, mut errors) = (rt.stdout(), rt.stderr());
-    match run_shell(
+    let (ended, _stdout) = run_shell(
         &performer_of(threads, &words),
         rt.alloc(),
         settings,
         &mut reader,
-        &mut writer,
-        &mut errors,
-    ) {
+        rt.stdout(),
+        &mut rt.stderr(),
+    );
+    match ended {
         Ok(bad_lines) => Ending::after_bad_lines(u32::from(bad_lines > 0)),
         Err(fault) => Ending::Fault(fault),
     }
@@ -145,9 +152,10 @@ fn end(rt: &HostRuntime, threads: &(impl Threads + Wait + Sync), words: &[String
         Ok(Asked::Shell(words)) => shell(rt, threads, words),
         Ok(Asked::Check) => check(rt),
         Ok(Asked::Print) => print(rt),
-        Ok(Asked::Show(path)) => show_store(rt, threads, path.as_str()),
-        Ok(Asked::Log(path)) => log_store(rt, threads, path.as_str()),
-        Ok(Asked::Compact(path)) => compact_store(rt, threads, path.as_str()),
+        Ok(Asked::Show(path)) => show_store(rt, path.as_str()),
+        Ok(Asked::Log(path)) => log_store(rt, path.as_str()),
+        Ok(Asked::Compact(path)) => compact_store(rt, path.as_str()),
+        Ok(Asked::Backup(words)) => backup_store(rt, &words),
         Ok(Asked::Help(text)) => printed(rt, text.as_str()),
         Ok(Asked::Bad) => Ending::BadCommandLine,
         Err(_) => Ending::Fault(AppFault::NoMemory),

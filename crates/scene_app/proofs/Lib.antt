@@ -1,2 +1,3 @@
+pub mod LockedLaws
 pub mod PlayLaws
 pub mod ReportLaws

@@ -36,7 +36,7 @@ pub struct RunEnd {
 }
 
 /// What a script's bytes print, its bad lines, and what it leaves.
-#[tactic(auto, using(crate::proofs::ReportLaws::noted_all))]
+#[tactic(auto, using(crate::proofs::LockedLaws::has_lock, crate::proofs::ReportLaws::noted_all))]
 fn played<P: Performer>(
     performer: &P,
     alloc: Global,
@@ -51,9 +51,9 @@ fn played<P: Performer>(
 {
     let mut out = String::new(alloc);
     let (hand, reports) = play_script(performer, alloc, script, &mut out)?;
-    // A player's hand has a lock, unless the player was made to be alone.
+    // The hand of a script has a lock.
     let Some((lock, passes)) = hand.into_parts() else {
-        return Err(AppFault::NoMemory);
+        unreachable!()
     };
     let end = RunEnd {
         bad_lines: reports.count() as u32,

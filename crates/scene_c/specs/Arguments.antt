@@ -1,5 +1,5 @@
 -- What the arguments of C name.
-use Rattle.std.specs.Prelude.{◌≡◌, ℕ, ℤ, pos, negsuc, List, [], ◌∷◌, Option, Some, None, Bool, true, false, ◌&&◌, if◌then◌else◌, nat_eq, nat_lt}
+use Rattle.std.specs.Prelude.{ℕ, ℤ, pos, negsuc, List, [], ◌∷◌, Option, Some, None, if◌then◌else◌, nat_eq, nat_lt}
 use Rattle.std.specs.Str.{is_utf8}
 use Rattle.std.specs.Option.{option_map}
 use Rattle.scene_kinds.specs.declared.entity.Entity.{Entity}
@@ -7,12 +7,11 @@ use Rattle.scene_kinds.specs.declared.shape.Shape.{Shape}
 use Rattle.scene_kinds.specs.declared.shape.Shape.TheVariants as shape
 use Rattle.scene_kinds.specs.declared.value.Value.{Value}
 use Rattle.scene_kinds.specs.declared.value.Value.TheVariants as value
-use Rattle.scene_commands.specs.declared.command.Command.{Command}
 use Rattle.scene_commands.specs.declared.command.Command.TheVariants.{Insert}
 use Rattle.scene_commands.specs.declared.target.Target.{Target}
 use Rattle.scene_commands.specs.declared.target.Target.TheVariants.{Id, New}
 use Rattle.scene_script.specs.declared.script_line.Line.{Line}
-use Rattle.scene_script.specs.declared.script_line.Line.TheVariants.{Do, Load}
+use Rattle.scene_script.specs.declared.script_line.Line.TheVariants.{Do}
 use Rattle.scene_desk.specs.declared.reading.Reading.{Reading}
 use Rattle.scene_kinds.specs.declared.refusal.Place.{Place}
 use Rattle.scene_kinds.specs.declared.refusal.Refusal.{Refusal}

@@ -1,6 +1,5 @@
 -- What the calls of C do.
-use Rattle.std.specs.Prelude.{◌≡◌, ◌⊎◌, ℕ, List, [], ◌++◌, ◌∷◌, Option, Some, None, Result, Ok, Err, IfOk, IfErr, MatchOption, length, take, drop, slice_get, string_bytes}
-use Rattle.std.specs.Option.{option_map}
+use Rattle.std.specs.Prelude.{◌≡◌, ◌≢◌, ◌⊎◌, ℕ, Bool, true, false, if◌then◌else◌, List, [], ◌++◌, ◌∷◌, Option, Some, None, is_some, Result, Ok, Err, IfOk, IfErr, MatchOption, slice_get, string_bytes}
 use Rattle.scene_kinds.specs.declared.cell.Cell.{Cell}
 use Rattle.scene_kinds.specs.declared.entity.Entity.{Entity}
 use Rattle.scene_kinds.specs.declared.refusal.Refusal.{Refusal}
@@ -8,32 +7,38 @@ use Rattle.scene_kinds.specs.declared.value.Value.{Value}
 use Rattle.scene_commands.specs.declared.command.Command.TheVariants.{Spawn}
 use Rattle.scene_model.specs.World.{component_of}
 use Rattle.scene_pass.specs.declared.cell_name.CellName.{CellName}
-use Rattle.scene_session.specs.declared.call.Reply.TheVariants.{Refused}
+use Rattle.scene_session.specs.Calls.{Refused}
 use Rattle.scene_script.specs.declared.script_line.Line.{Line}
 use Rattle.scene_script.specs.declared.script_line.Line.TheVariants.{Do, Load}
-use Rattle.scene_player.specs.declared.answer.Answer.{Answer}
-use Rattle.scene_player.specs.declared.answer.Answer.TheVariants.{Nothing, Bad, Fault, Replied}
+use Rattle.scene_player.specs.declared.answer.Answer.TheVariants as code
 use Rattle.scene_player.specs.declared.halt.Halt.{Halt}
 use Rattle.scene_player.specs.declared.halt.Halt.TheVariants.{Before, Begun, After, Lost}
-use Rattle.scene_player.specs.Player.{Player, PlayerReply, Tells, begun, first_player, halted, player_of, player_said}
-use Rattle.scene_desk.specs.Desk.{KeepsAnswer, made_of, named_of, numbers_of, refusal_in, text_in, world_of}
+use Rattle.scene_player.specs.Answer.{said_of}
+use Rattle.scene_player.specs.Changes.{frame_is_open}
+use Rattle.scene_player.specs.Player.{Player, PlayerReply, Tells, begun, halted, player_of, player_said, without_frame}
+use Rattle.scene_player.specs.Said.{Said, Nothing, Called, Fault, Bad, bad_in, refused}
+use Rattle.scene_desk.specs.Desk.{HasHalted, KeepsAnswer, fresh_player, made_in, named_in, numbers_of, refusal_in, text_in, world_of}
+use Rattle.scene_desk.specs.declared.desk.Desk.{Desk}
 use Rattle.scene_c.specs.Arguments.{shown_cell}
 use Rattle.scene_c.specs.declared.value.SceneCell.{SceneCell}
-use Rattle.scene_desk.specs.declared.desk.Desk.{Desk}
 
 -- a scene before its first line
-abbrev pub Opened : Option Desk → Type 0
-Opened None = ⊥
-Opened (Some new) = (player_of new.player ≡ first_player) × (new.answer ≡ Nothing) × (string_bytes new.text ≡ []) × (new.cells.items ≡ [])
+abbrev pub IsFresh : Desk → Type 0
+IsFresh new = (player_of new.player ≡ fresh_player) × (new.answer ≡ code.Nothing) × (string_bytes new.text ≡ []) × (new.cells.items ≡ [])
+
+-- what a code says of the handle that an opening made: such a scene, or null where no memory was found
+abbrev pub Opens : Option Desk → ℕ → Type 0
+Opens None code = code ≡ 1
+Opens (Some new) code = (code ≡ 0) × IsFresh new
 
 -- ---- codes
 
--- the code of an answer: done, refused, or no such call here
-abbrev pub answer_code : Answer → ℕ
-answer_code (Replied (Refused r)) = 3
-answer_code (Fault f) = 3
-answer_code (Bad reason) = 4
-answer_code answer = 0
+-- the code of what an answer means: done or answered, refused, or no such call here
+abbrev pub said_code : Said → ℕ
+said_code (Called (Refused r)) = 3
+said_code (Fault f) = 3
+said_code (Bad reason) = 4
+said_code said = 0
 
 -- the code of what want of memory left
 abbrev pub halt_code : Halt → ℕ
@@ -42,19 +47,19 @@ halt_code Begun = 1
 halt_code After = 5
 halt_code Lost = 6
 
--- the code of a call that was answered or halted
-abbrev pub code_of : Result (Unit {0}) Halt → Answer → ℕ
-code_of (Ok _) answer = answer_code answer
-code_of (Err h) answer = halt_code h
+-- the code of a call that was answered, by what the answer means, or was halted
+abbrev pub code_of : Result (Unit {0}) Halt → Said → ℕ
+code_of (Ok _) said = said_code said
+code_of (Err h) said = halt_code h
 
 -- ---- calls
 
--- A call was played: its answer is that of the reply, or no memory was found, and then the last answer stays
+-- A call was played: its answer is that of the reply, of which the code follows, or no memory was found
 pub record Played (old new : Desk) (r : PlayerReply) (text : List ℕ) (code : ℕ) : Type 0 where
   pub came : Result (Unit {0}) Halt
-  pub coded : code ≡ code_of came new.answer
+  pub coded : code ≡ code_of came r.said
   pub answered : IfOk came (λ _. Tells new.answer (player_of new.player) r × (string_bytes new.text ≡ text))
-  pub halted : IfErr came (λ h. (player_of new.player ≡ halted h (player_of old.player) r.player) × KeepsAnswer old new)
+  pub halted : IfErr came (λ h. HasHalted h old new r)
 
 -- on the scene that a handle holds; on null it does nothing
 abbrev pub Plays : (Player → PlayerReply) → (PlayerReply → List ℕ) → Option Desk → Option Desk → ℕ → Type 0
@@ -71,15 +76,20 @@ says line p = player_said p (Ok line)
 abbrev pub untold : PlayerReply → List ℕ
 untold r = []
 
+-- a line without a text: so it isn't done but untold
+abbrev pub Does : Line → Option Desk → Option Desk → ℕ → Type 0
+Does line old new code = Plays (says line) untold old new code × (code ≢ 5)
+
 -- the line that the arguments name; where they name none, nothing was done
 abbrev pub Asks : Option Line → Option Desk → Option Desk → ℕ → Type 0
 Asks None old new code = (new ≡ old) × (code ≡ 4)
-Asks (Some line) old new code = Plays (says line) untold old new code
+Asks (Some line) old new code = Does line old new code
 
 -- a spawn with the components that were given for it, after which none are given for the next one
 abbrev pub Spawns : Option Desk → Option Desk → ℕ → Type 0
 Spawns None None code = code ≡ 2
-Spawns (Some old) (Some new) code = Played old new (says (Do (Spawn old.cells.items)) (player_of old.player)) [] code × (new.cells.items ≡ [])
+Spawns (Some old) (Some new) code =
+    Played old new (says (Do (Spawn old.cells.items)) (player_of old.player)) [] code × (new.cells.items ≡ []) × (code ≢ 5)
 Spawns old new code = ⊥
 
 -- a component more is given for the next spawn, or no memory was found for it
@@ -94,10 +104,47 @@ Gives (Some c) None None code = code ≡ 2
 Gives (Some c) (Some old) (Some new) code = GivesMore c old new code
 Gives (Some c) old new code = ⊥
 
+-- ---- calls with a text among their arguments, of which a copy is made where they have a meaning
+
+-- no memory was found for the copy, and nothing was done
+abbrev pub HasNoRoom : Option Desk → Option Desk → ℕ → Type 0
+HasNoRoom old new code = (code ≡ 1) × (new ≡ old)
+
 -- a scene text is loaded; bytes that are no text are not
 abbrev pub Loads : Option (List ℕ) → Option Desk → Option Desk → ℕ → Type 0
 Loads None old new code = (new ≡ old) × (code ≡ 4)
-Loads (Some text) old new code = Plays (says (Load text)) (λ r. r.text) old new code
+Loads (Some text) old new code = HasNoRoom old new code ⊎ Plays (says (Load text)) (λ r. r.text) old new code
+
+-- a component that is a text is given for the next spawn
+abbrev pub GivesText : Option (ℕ × Value) → Option Desk → Option Desk → ℕ → Type 0
+GivesText None old new code = (new ≡ old) × (code ≡ 4)
+GivesText (Some c) old new code = HasNoRoom old new code ⊎ Gives (Some c) old new code
+
+-- the line of a component that is a text
+abbrev pub AsksText : Option Line → Option Desk → Option Desk → ℕ → Type 0
+AsksText None old new code = (new ≡ old) × (code ≡ 4)
+AsksText (Some line) old new code = HasNoRoom old new code ⊎ Does line old new code
+
+-- ---- a frame that is dropped, and why a line is bad
+
+-- the open frame is dropped, and nothing else changes; or none is open
+abbrev pub DropsFrame : Option Desk → Option Desk → ℕ → Type 0
+DropsFrame None None code = code ≡ 2
+DropsFrame (Some old) (Some new) code = (code ≡ (if frame_is_open (player_of old.player) then 0 else 4))
+    × (player_of new.player ≡ without_frame (player_of old.player)) × KeepsAnswer old new × (new.cells.items ≡ old.cells.items)
+DropsFrame old new code = ⊥
+
+-- by whether the last line was bad: the text is why, or no memory was found for that; or else there is nothing to say, and the text stays
+abbrev pub SaysWhy : Bool → Desk → Desk → ℕ → Type 0
+SaysWhy true old new code = (code ≡ 0) ⊎ ((code ≡ 1) × (string_bytes new.text ≡ string_bytes old.text))
+SaysWhy false old new code = (code ≡ 4) × (string_bytes new.text ≡ string_bytes old.text)
+
+-- on the scene that a handle holds; but for its text it is as it was
+abbrev pub Explains : Option Desk → Option Desk → ℕ → Type 0
+Explains None None code = code ≡ 2
+Explains (Some old) (Some new) code = SaysWhy (is_some (bad_in (said_of old.answer))) old new code
+    × (new.answer ≡ old.answer) × (player_of new.player ≡ player_of old.player) × (new.cells.items ≡ old.cells.items)
+Explains old new code = ⊥
 
 -- ---- what is read
 
@@ -106,38 +153,34 @@ abbrev pub text_now : Option Desk → List ℕ
 text_now None = []
 text_now (Some d) = string_bytes d.text
 
--- as much of a text as there is room for, and then the room as it was
-abbrev pub copied : List ℕ → List ℕ → List ℕ
-copied text room = take (length room) text ++ drop (length text) room
-
 -- an entity that the last frame made, by its place
 abbrev pub made_at : Option Desk → ℕ → Option Entity
 made_at None at = None
-made_at (Some d) at = slice_get (made_of d.answer) at
+made_at (Some d) at = slice_get (made_in (said_of d.answer)) at
 
 -- a cell that the last answer lists, by its place
 abbrev pub named_at : Option Desk → ℕ → Option CellName
 named_at None at = None
-named_at (Some d) at = slice_get (named_of d.answer) at
+named_at (Some d) at = slice_get (named_in (said_of d.answer)) at
 
 -- the refusal that the last answer is
 abbrev pub refusal_now : Option Desk → Option Refusal
 refusal_now None = None
-refusal_now (Some d) = refusal_in d.answer
+refusal_now (Some d) = refusal_in (said_of d.answer)
 
 -- what was found of a component: it is shown, with the text that it may be; or it is refused, and nothing is shown
 abbrev pub Shows : ℕ → Result Cell Refusal → Desk → SceneCell → SceneCell → ℕ → Type 0
 Shows kind (Ok cell) new before after code = (code ≡ 0) × (after ≡ shown_cell kind (numbers_of cell.value))
-    × (string_bytes new.text ≡ text_in cell.value) × (new.answer ≡ Nothing)
+    × (string_bytes new.text ≡ text_in cell.value) × (said_of new.answer ≡ Nothing)
 Shows kind (Err r) new before after code = (code ≡ 3) × (after ≡ before)
-    × (string_bytes new.text ≡ []) × (new.answer ≡ Replied (Refused r))
+    × (string_bytes new.text ≡ []) × (said_of new.answer ≡ refused r)
 
 -- A component was read, in the world that there is where the setup is over; or no memory was found
 pub record WasRead (e : Entity) (kind : ℕ) (old new : Desk) (before after : SceneCell) (code : ℕ) : Type 0 where
   pub came : Option Halt
   pub shown : MatchOption came
       (Shows kind (component_of (world_of old) e kind) new before after code × (player_of new.player ≡ begun (player_of old.player)))
-      (λ h. (code ≡ halt_code h) × (after ≡ before) × KeepsAnswer old new
+      (λ h. (h ≢ After) × (code ≡ halt_code h) × (after ≡ before) × KeepsAnswer old new
       × ((next : Player) → player_of new.player ≡ halted h (player_of old.player) next))
   pub cells : new.cells.items ≡ old.cells.items
 

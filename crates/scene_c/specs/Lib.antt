@@ -1,3 +1,5 @@
 pub mod Arguments
 pub mod Calls
 pub mod Held
+pub mod Memory
+pub mod Names

@@ -1,12 +1,13 @@
 //! A heap object as a pointer that C keeps.
-ghost use Rattle.std.specs.Prelude.{◌≡◌, Option, Some, None, option_map, IfOk};
-ghost use Rattle.scene_c.specs.Calls.{Opened};
+ghost use Rattle.std.specs.Prelude.{◌≡◌, Option, Some, None, option_map};
+ghost use Rattle.scene_c.specs.Calls.{Opens};
 ghost use Rattle.scene_c.specs.Held.{held};
 ghost use Rattle.scene_desk.specs.declared.desk.Desk.{Desk as Told};
 
 use crate::loose::Loose;
+use crate::{DONE, NO_MEMORY};
 use scene_desk::Desk;
-use std::alloc::{AllocError, Global};
+use std::alloc::Global;
 use std::marker::Model;
 use std::ptr::null_mut;
 
@@ -83,10 +84,12 @@ pub(crate) fn into_desk(handle: Handle) -> Option<Box<Desk, Global>>
     }
 }
 
-/// The handle of a new scene.
-pub(crate) fn open_handle(alloc: Global) -> Result<Handle, AllocError>
-    ensures { IfOk result (λ h. Opened h.value) }
+/// The handle of a new scene, and a code: null and `NO_MEMORY` where no memory was found for it.
+pub(crate) fn new_handle(alloc: Global) -> (Handle, u32)
+    ensures { Opens result.0.value result.1 }
 {
-    let boxed = Box::new(alloc, Desk::new(alloc))?;
-    Ok(Handle::of_box(boxed))
+    match Box::new(alloc, Desk::new(alloc)) {
+        Ok(boxed) => (Handle::of_box(boxed), DONE),
+        Err(_) => (Handle::closed(alloc), NO_MEMORY),
+    }
 }

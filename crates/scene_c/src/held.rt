@@ -2,11 +2,11 @@
 //! line alone.
 ghost use Rattle.std.specs.Prelude.{◌≡◌, ℕ, List, None};
 ghost use Rattle.scene_player.specs.Player.{player_reply};
-ghost use Rattle.scene_c.specs.Calls.{Asks, Gives, Plays, Spawns, says, untold};
+ghost use Rattle.scene_c.specs.Calls.{Asks, Does, DropsFrame, Explains, Gives, Plays, Spawns, says};
 ghost use Rattle.std.specs.Option.{option_map};
 
 use crate::handle::{Handle, into_desk};
-use crate::played::{give_at, line_at, say_at, spawn_at, tell_at};
+use crate::played::{drop_frame_at, explain_at, give_at, line_at, say_at, spawn_at, tell_at};
 use crate::{BAD, CLOSED};
 use scene_kinds::Value;
 use scene_script::Line;
@@ -44,7 +44,7 @@ pub(crate) fn tell(alloc: Global, scene: &mut Handle, line: Line) -> u32
 /// Plays a line that is a value.
 #[inline(always)]
 pub(crate) fn say(alloc: Global, scene: &mut Handle, line: Line) -> u32
-    ensures { Plays (says line) untold scene.old.value scene.new.value result }
+    ensures { Does line scene.old.value scene.new.value result }
 {
     let taken = mem::replace(scene, Handle::closed(alloc));
     let Some(boxed) = into_desk(taken) else {
@@ -96,4 +96,32 @@ pub(crate) fn ask(alloc: Global, scene: &mut Handle, line: Option<Line>) -> u32
         Some(line) => say(alloc, scene, line),
         None => BAD,
     }
+}
+
+/// Drops the open frame.
+pub(crate) fn drop_frame(alloc: Global, scene: &mut Handle) -> u32
+    ensures { DropsFrame scene.old.value scene.new.value result }
+{
+    let taken = mem::replace(scene, Handle::closed(alloc));
+    let Some(boxed) = into_desk(taken) else {
+        return CLOSED;
+    };
+    let mut boxed = boxed;
+    let code = drop_frame_at(&mut boxed);
+    *scene = Handle::of_box(boxed);
+    code
+}
+
+/// Says why the last line was bad.
+pub(crate) fn explain(alloc: Global, scene: &mut Handle) -> u32
+    ensures { Explains scene.old.value scene.new.value result }
+{
+    let taken = mem::replace(scene, Handle::closed(alloc));
+    let Some(boxed) = into_desk(taken) else {
+        return CLOSED;
+    };
+    let mut boxed = boxed;
+    let code = explain_at(alloc, &mut boxed);
+    *scene = Handle::of_box(boxed);
+    code
 }

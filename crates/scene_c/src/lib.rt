@@ -4,28 +4,39 @@
 //! a script (docs/SCRIPTS.md, "Lines"): the bytes of one by `scene_line`, a value by the others, with no text on the way.
 #![tactic(auto)]
 
-ghost use Rattle.std.specs.Prelude.{◌≡◌, ◌≤◌, ◌⊎◌, ℕ, List, Option, Some, None, IfOk, MatchOption, OnOk, length};
+ghost use Rattle.std.specs.Borrow.{full_share, sem};
 ghost use Rattle.std.specs.Option.{option_map};
+ghost use Rattle.std.specs.Prelude.{◌≡◌, ℕ, List, None, MatchOption, length};
+ghost use Rattle.std.specs.Ptr.{lies_at, room_at};
+ghost use base.Logic.{ex};
 ghost use Rattle.scene_commands.specs.declared.command.Command.TheVariants as command;
 ghost use Rattle.scene_script.specs.declared.script_line.Line.TheVariants as line;
 ghost use Rattle.scene_player.specs.Player.{player_reply};
 ghost use Rattle.scene_c.specs.Arguments.{component_of_cell, entity_of, insert_line, kind_of, shown_entity, shown_name, shown_refusal, target_of, text_component, text_of};
-ghost use Rattle.scene_c.specs.Calls.{Asks, Gets, Gives, Loads, Opened, Plays, Spawns, copied, made_at, named_at, refusal_now, says, text_now, untold};
+ghost use Rattle.scene_c.specs.Calls.{Asks, AsksText, Does, DropsFrame, Explains, Gets, Gives, GivesText, Loads, Opens, Plays, Spawns, made_at, named_at, refusal_now, says, text_now};
+ghost use Rattle.scene_c.specs.Memory.{bytes_at, copied};
+ghost use Rattle.scene_c.specs.Names.{name_of};
+ghost use Rattle.scene_c.specs.contracts.handle.Handle.{the_row};
+ghost use Rattle.scene_c.specs.declared.handle.Handle.{Handle as Held};
 
 mod handle;
 mod held;
 mod loose;
+mod names;
 mod played;
+mod texts;
 mod value;
 
 pub use handle::Handle;
-use handle::{into_desk, open_handle};
-use held::{ask, give, line, say, spawn, tell};
+use handle::{into_desk, new_handle};
+use held::{ask, drop_frame, explain, give, line, say, spawn, tell};
+pub use names::each_fault_has_its_name;
+use names::{copy_name, name_len};
 use played::read_at;
 use scene_commands::Command;
-use scene_desk::Desk;
 use scene_script::Line;
 use std::alloc::Global;
+use texts::{copy_text, text_len};
 pub use value::{SceneCell, SceneEntity, SceneName, SceneRefusal};
 use value::{
     component_of_cell, entity_of, kind_of, shown_entity, shown_name, shown_refusal, target_of,
@@ -47,28 +58,32 @@ pub const REFUSED: u32 = 3;
 /// There is no such call here, or its arguments name nothing; nothing was done.
 pub const BAD: u32 = 4;
 
-/// The call is done, and memory was wanting for the text of its answer.
+/// The call was answered, and memory was wanting for the text of its answer alone.
 pub const UNTOLD: u32 = 5;
 
 /// Memory was wanting, nothing was done, and the kinds or the scene of the setup are lost.
 pub const LOST: u32 = 6;
 
-/// Makes a scene, and puts its pointer into `out`, which holds null or a pointer of a scene, which is then closed.
-///
-/// `NO_MEMORY`: `out` is as it was.
+/// The version of the library: 10,000 times its first number, 100 times its second, and its third.
+pub const VERSION: u32 = 100;
+
+/// The version of the library.
 #[unsafe(no_mangle)]
-pub extern "C" fn scene_open(alloc: Global, out: &mut Handle) -> u32
-    ensures done { result ≡ 0 → Opened out.new.value }
-    ensures kept { result ≡ 1 → out.new.value ≡ out.old.value }
-    ensures codes { result ≤ 1 }
+pub extern "C" fn scene_version() -> u32
+    ensures { result ≡ 100 }
 {
-    match open_handle(alloc) {
-        Ok(handle) => {
-            *out = handle;
-            DONE
-        }
-        Err(_) => NO_MEMORY,
-    }
+    VERSION
+}
+
+/// Makes a scene, and writes its pointer to `out`, or null where no memory was found (`NO_MEMORY`). What is at `out` isn't read.
+#[unsafe(no_mangle)]
+pub unsafe extern "C" fn scene_open(alloc: Global, out: *mut Handle) -> u32
+    requires* { sem 𝓛 (room_at the_row out) }
+    ensures* { ex 𝓤 (λ (h : Held). sem 𝓛 (lies_at the_row full_share out h) ∗ ⌜ Opens h.value result ⌝) }
+{
+    let (handle, code) = new_handle(alloc);
+    std::ptr::write(out, handle);
+    code
 }
 
 /// Closes a scene, and leaves null. Null stays null.
@@ -87,29 +102,55 @@ pub extern "C" fn scene_line(alloc: Global, scene: &mut Handle, bytes: &[u8]) ->
     line(alloc, scene, bytes)
 }
 
-/// How long the text of the last answer is, and as much of it as there is room for in `room`; 0 for null.
+/// How long the text of the last answer is, and as much of it as there is room for at `at`; 0 for null. `at` may be null where there
+/// is no room.
 #[unsafe(no_mangle)]
-pub extern "C" fn scene_answer(alloc: Global, scene: &mut Handle, room: &mut [u8]) -> usize
+pub unsafe extern "C" fn scene_answer(
+    alloc: Global,
+    scene: &mut Handle,
+    at: *mut u8,
+    room: usize,
+) -> usize
+    ghost before: { List ℕ }
+    requires* { sem 𝓛 (bytes_at at room before) }
+    ensures* bytes { sem 𝓛 (bytes_at at room (copied (text_now scene.old.value) before)) }
     ensures length { result ≡ length (text_now scene.old.value) }
-    ensures bytes { room.new ≡ copied (text_now scene.old.value) room.old }
     ensures kept { scene.new.value ≡ scene.old.value }
 {
-    let taken = std::mem::replace(scene, Handle::closed(alloc));
-    let Some(boxed) = into_desk(taken) else {
-        return 0;
-    };
-    let text = boxed.text.as_bytes();
-    let len = text.len();
-    let count = if len < room.len() { len } else { room.len() };
-    room[..count].copy_from_slice(&text[..count]);
-    *scene = Handle::of_box(boxed);
-    len
+    if room == 0 {
+        return text_len(alloc, scene);
+    }
+    copy_text(alloc, scene, std::slice::from_raw_parts_mut(at, room))
 }
 
-/// Loads a scene text in the setup, as the line `load` does. Its answer is kept with its text.
+/// Puts into words why the last line was bad, as the text of its answer (docs/SCRIPTS.md, "Bad lines"). `BAD` where it wasn't, and
+/// `NO_MEMORY`: then the text stays.
+#[unsafe(no_mangle)]
+pub extern "C" fn scene_bad_reason(alloc: Global, scene: &mut Handle) -> u32
+    ensures { Explains scene.old.value scene.new.value result }
+{
+    explain(alloc, scene)
+}
+
+/// How long the name of a fault is, by its number, and as much of it as there is room for at `at`; 0 where no fault of a scene has the
+/// number. `at` may be null where there is no room.
+#[unsafe(no_mangle)]
+pub unsafe extern "C" fn scene_fault_name(fault: u32, at: *mut u8, room: usize) -> usize
+    ghost before: { List ℕ }
+    requires* { sem 𝓛 (bytes_at at room before) }
+    ensures* bytes { sem 𝓛 (bytes_at at room (copied (name_of fault) before)) }
+    ensures length { result ≡ length (name_of fault) }
+{
+    if room == 0 {
+        return name_len(fault);
+    }
+    copy_name(fault, std::slice::from_raw_parts_mut(at, room))
+}
+
+/// Loads a scene text in the setup, as the line `load` does. Its answer is kept with its text. `BAD` for bytes that are no UTF-8.
 #[unsafe(no_mangle)]
 pub extern "C" fn scene_load(alloc: Global, scene: &mut Handle, bytes: &[u8]) -> u32
-    ensures { (result ≡ 1) × (scene.new.value ≡ scene.old.value) ⊎ Loads (text_of bytes.now) scene.old.value scene.new.value result }
+    ensures { Loads (text_of bytes.now) scene.old.value scene.new.value result }
 {
     match text_of(alloc, bytes) {
         Ok(Some(text)) => tell(alloc, scene, Line::Load(text)),
@@ -129,7 +170,7 @@ pub extern "C" fn scene_save(alloc: Global, scene: &mut Handle) -> u32
 /// Opens a frame, as the line `begin` does.
 #[unsafe(no_mangle)]
 pub extern "C" fn scene_begin(alloc: Global, scene: &mut Handle) -> u32
-    ensures { Plays (says line.Begin) untold scene.old.value scene.new.value result }
+    ensures { Does line.Begin scene.old.value scene.new.value result }
 {
     say(alloc, scene, Line::Begin)
 }
@@ -137,15 +178,23 @@ pub extern "C" fn scene_begin(alloc: Global, scene: &mut Handle) -> u32
 /// Does the open frame, all or nothing, as the line `commit` does.
 #[unsafe(no_mangle)]
 pub extern "C" fn scene_commit(alloc: Global, scene: &mut Handle) -> u32
-    ensures { Plays (says line.Commit) untold scene.old.value scene.new.value result }
+    ensures { Does line.Commit scene.old.value scene.new.value result }
 {
     say(alloc, scene, Line::Commit)
+}
+
+/// Drops the open frame with its commands, and makes no call. `BAD` where none is open. The last answer stays.
+#[unsafe(no_mangle)]
+pub extern "C" fn scene_drop_frame(alloc: Global, scene: &mut Handle) -> u32
+    ensures { DropsFrame scene.old.value scene.new.value result }
+{
+    drop_frame(alloc, scene)
 }
 
 /// Takes the newest frame back.
 #[unsafe(no_mangle)]
 pub extern "C" fn scene_undo(alloc: Global, scene: &mut Handle) -> u32
-    ensures { Plays (says line.Undo) untold scene.old.value scene.new.value result }
+    ensures { Does line.Undo scene.old.value scene.new.value result }
 {
     say(alloc, scene, Line::Undo)
 }
@@ -153,7 +202,7 @@ pub extern "C" fn scene_undo(alloc: Global, scene: &mut Handle) -> u32
 /// Does the newest undone frame again.
 #[unsafe(no_mangle)]
 pub extern "C" fn scene_redo(alloc: Global, scene: &mut Handle) -> u32
-    ensures { Plays (says line.Redo) untold scene.old.value scene.new.value result }
+    ensures { Does line.Redo scene.old.value scene.new.value result }
 {
     say(alloc, scene, Line::Redo)
 }
@@ -169,8 +218,7 @@ pub extern "C" fn scene_with(alloc: Global, scene: &mut Handle, cell: SceneCell)
 /// Gives the next spawn a component that is a text.
 #[unsafe(no_mangle)]
 pub extern "C" fn scene_with_text(alloc: Global, scene: &mut Handle, kind: u32, bytes: &[u8]) -> u32
-    ensures { (result ≡ 1) × (scene.new.value ≡ scene.old.value)
-        ⊎ Gives (text_component kind bytes.now) scene.old.value scene.new.value result }
+    ensures { GivesText (text_component kind bytes.now) scene.old.value scene.new.value result }
 {
     match text_component(alloc, kind, bytes) {
         Ok(given) => give(alloc, scene, given),
@@ -189,7 +237,7 @@ pub extern "C" fn scene_spawn(alloc: Global, scene: &mut Handle) -> u32
 /// Despawns an entity without children: a command.
 #[unsafe(no_mangle)]
 pub extern "C" fn scene_despawn(alloc: Global, scene: &mut Handle, entity: SceneEntity) -> u32
-    ensures { Plays (says (line.Do (command.Despawn (target_of entity)))) untold scene.old.value scene.new.value result }
+    ensures { Does (line.Do (command.Despawn (target_of entity))) scene.old.value scene.new.value result }
 {
     say(alloc, scene, Line::Do(Command::Despawn(target_of(entity))))
 }
@@ -197,7 +245,7 @@ pub extern "C" fn scene_despawn(alloc: Global, scene: &mut Handle, entity: Scene
 /// Despawns an entity and all below it: a command.
 #[unsafe(no_mangle)]
 pub extern "C" fn scene_despawn_all(alloc: Global, scene: &mut Handle, entity: SceneEntity) -> u32
-    ensures { Plays (says (line.Do (command.DespawnAll (target_of entity)))) untold scene.old.value scene.new.value result }
+    ensures { Does (line.Do (command.DespawnAll (target_of entity))) scene.old.value scene.new.value result }
 {
     say(
         alloc,
@@ -235,8 +283,7 @@ pub extern "C" fn scene_insert_text(
     kind: u32,
     bytes: &[u8],
 ) -> u32
-    ensures { (result ≡ 1) × (scene.new.value ≡ scene.old.value)
-        ⊎ Asks (option_map (insert_line entity) (text_component kind bytes.now)) scene.old.value scene.new.value result }
+    ensures { AsksText (option_map (insert_line entity) (text_component kind bytes.now)) scene.old.value scene.new.value result }
 {
     match text_component(alloc, kind, bytes) {
         Ok(Some((kind, value))) => say(
@@ -277,7 +324,7 @@ pub extern "C" fn scene_set_parent(
     child: SceneEntity,
     parent: SceneEntity,
 ) -> u32
-    ensures { Plays (says (line.Do (command.SetParent (target_of child) (target_of parent)))) untold scene.old.value scene.new.value result }
+    ensures { Does (line.Do (command.SetParent (target_of child) (target_of parent))) scene.old.value scene.new.value result }
 {
     say(
         alloc,
@@ -289,7 +336,7 @@ pub extern "C" fn scene_set_parent(
 /// Takes an entity from its parent: a command.
 #[unsafe(no_mangle)]
 pub extern "C" fn scene_remove_parent(alloc: Global, scene: &mut Handle, child: SceneEntity) -> u32
-    ensures { Plays (says (line.Do (command.RemoveParent (target_of child)))) untold scene.old.value scene.new.value result }
+    ensures { Does (line.Do (command.RemoveParent (target_of child))) scene.old.value scene.new.value result }
 {
     say(
         alloc,
@@ -301,7 +348,7 @@ pub extern "C" fn scene_remove_parent(alloc: Global, scene: &mut Handle, child: 
 /// Notes the moment from which `scene_changed` looks, as the line `mark` does.
 #[unsafe(no_mangle)]
 pub extern "C" fn scene_mark(alloc: Global, scene: &mut Handle) -> u32
-    ensures { Plays (says line.Mark) untold scene.old.value scene.new.value result }
+    ensures { Does line.Mark scene.old.value scene.new.value result }
 {
     say(alloc, scene, Line::Mark)
 }
@@ -309,7 +356,7 @@ pub extern "C" fn scene_mark(alloc: Global, scene: &mut Handle) -> u32
 /// Lists the cells that were changed since the mark, as the line `changed` does: `scene_named` gives them one by one.
 #[unsafe(no_mangle)]
 pub extern "C" fn scene_changed(alloc: Global, scene: &mut Handle) -> u32
-    ensures { Plays (says line.Changed) untold scene.old.value scene.new.value result }
+    ensures { Does line.Changed scene.old.value scene.new.value result }
 {
     say(alloc, scene, Line::Changed)
 }

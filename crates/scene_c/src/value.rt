@@ -1,5 +1,5 @@
 //! What crosses to C and back, and what it names here.
-ghost use Rattle.std.specs.Prelude.{◌≡◌, IfOk};
+ghost use Rattle.std.specs.Prelude.{◌≡◌, IfOk, OnErr, Some, is_some, true};
 ghost use Rattle.std.specs.Option.{option_map};
 ghost use Rattle.scene_c.specs.Arguments.{both_of, component_of_cell, entity_of, kind_of, link_by, shape_number, shown_cell, shown_entity, shown_name, shown_refusal, small, target_of, text_component, text_of, value_of};
 
@@ -189,9 +189,10 @@ pub(crate) fn component_of_cell(cell: SceneCell) -> Option<(u8, Value)>
     }
 }
 
-/// The text that bytes are.
+/// The text that bytes are. Only one that they are can want memory.
 pub(crate) fn text_of(alloc: Global, bytes: &[u8]) -> Result<Option<Text>, AllocError>
-    ensures { IfOk result (λ text. text ≡ text_of bytes.now) }
+    ensures text { IfOk result (λ text. text ≡ text_of bytes.now) }
+    ensures memory { OnErr result (text_of bytes.now ≡ Some bytes.now) }
 {
     match str::from_utf8(bytes) {
         Ok(text) => Ok(Some(Text::from(String::from_str(alloc, text)?))),
@@ -199,17 +200,20 @@ pub(crate) fn text_of(alloc: Global, bytes: &[u8]) -> Result<Option<Text>, Alloc
     }
 }
 
-/// A component that is a text.
+/// A component that is a text. Only one that the arguments name can want memory.
 pub(crate) fn text_component(
     alloc: Global,
     kind: u32,
     bytes: &[u8],
 ) -> Result<Option<(u8, Value)>, AllocError>
-    ensures { IfOk result (λ found. found ≡ text_component kind bytes.now) }
+    ensures component { IfOk result (λ found. found ≡ text_component kind bytes.now) }
+    ensures memory { OnErr result (is_some (text_component kind bytes.now) ≡ true) }
 {
-    let text = text_of(alloc, bytes)?;
-    match (kind_of(kind), text) {
-        (Some(kind), Some(text)) => Ok(Some((kind, Value::Text(text)))),
-        _ => Ok(None),
+    let Some(kind) = kind_of(kind) else {
+        return Ok(None);
+    };
+    match text_of(alloc, bytes)? {
+        Some(text) => Ok(Some((kind, Value::Text(text)))),
+        None => Ok(None),
     }
 }

@@ -7,7 +7,7 @@ use Rattle.clap.specs.Words.{Text}
 use Rattle.scene_command_line.specs.Plain.{is_command, is_file_command}
 
 -- what holds of this name holds of a word that is it
-named : (P : Text → Type 0) (word name : Text) → P name → bytes_eq word name ≡ true → P word
+pub named : (P : Text → Type 0) (word name : Text) → P name → bytes_eq word name ≡ true → P word
 named P word name holds same = subst P (sym ((bytes_eq-Decides word name).0 same)) holds
 
 -- what holds of the three commands that take a file holds of each word that is one of them
@@ -21,11 +21,11 @@ by_file_command P word show log compact one = elim (or_cases (bytes_eq word (cod
   ]
 ]
 
--- what holds of the seven commands holds of each word that is one of them
+-- what holds of the eight commands holds of each word that is one of them
 pub by_command : (P : Text → Type 0) (word : Text) → P (codes "run") → P (codes "shell") → P (codes "check")
-    → P (codes "print")
+    → P (codes "print") → P (codes "backup")
     → P (codes "show") → P (codes "log") → P (codes "compact") → is_command word ≡ true → P word
-by_command P word run shell check print show log compact one = elim (or_cases (bytes_eq word (codes "run")) _ one) [
+by_command P word run shell check print backup show log compact one = elim (or_cases (bytes_eq word (codes "run")) _ one) [
   | inl same ↦ named P word (codes "run") run same
   | inr other ↦ elim (or_cases (bytes_eq word (codes "shell")) _ other) [
     | inl same ↦ named P word (codes "shell") shell same
@@ -33,7 +33,10 @@ by_command P word run shell check print show log compact one = elim (or_cases (b
       | inl same ↦ named P word (codes "check") check same
       | inr other ↦ elim (or_cases (bytes_eq word (codes "print")) _ other) [
         | inl same ↦ named P word (codes "print") print same
-        | inr other ↦ by_file_command P word show log compact other
+        | inr other ↦ elim (or_cases (bytes_eq word (codes "backup")) _ other) [
+          | inl same ↦ named P word (codes "backup") backup same
+          | inr other ↦ by_file_command P word show log compact other
+        ]
       ]
     ]
   ]
@@ -45,6 +48,7 @@ pub record IsNone (word : Text) : Type 0 where
   pub shell : bytes_eq word (codes "shell") ≡ false
   pub check : bytes_eq word (codes "check") ≡ false
   pub print : bytes_eq word (codes "print") ≡ false
+  pub backup : bytes_eq word (codes "backup") ≡ false
   pub show : bytes_eq word (codes "show") ≡ false
   pub log : bytes_eq word (codes "log") ≡ false
   pub compact : bytes_eq word (codes "compact") ≡ false
@@ -55,14 +59,16 @@ is_none word none =
     let second = or_parts (bytes_eq word (codes "shell")) _ first.1 in
     let third = or_parts (bytes_eq word (codes "check")) _ second.1 in
     let fourth = or_parts (bytes_eq word (codes "print")) _ third.1 in
-    let fifth = or_parts (bytes_eq word (codes "show")) _ fourth.1 in
-    let last = or_parts (bytes_eq word (codes "log")) _ fifth.1 in
+    let fifth = or_parts (bytes_eq word (codes "backup")) _ fourth.1 in
+    let sixth = or_parts (bytes_eq word (codes "show")) _ fifth.1 in
+    let last = or_parts (bytes_eq word (codes "log")) _ sixth.1 in
     record {
       run = first.0;
       shell = second.0;
       check = third.0;
       print = fourth.0;
-      show = fifth.0;
+      backup = fifth.0;
+      show = sixth.0;
       log = last.0;
       compact = last.1;
     }

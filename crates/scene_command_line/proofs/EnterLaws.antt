@@ -15,7 +15,7 @@ use Rattle.clap.proofs.OnLiterals.{clap_on_literals}
 use Rattle.clap.proofs.WalkLemmas.{walk_stopped}
 use Rattle.scene_command_line.specs.Asks.{Asks, Nothing}
 use Rattle.scene_command_line.specs.Plain.{is_option}
-use Rattle.scene_command_line.specs.Words.{Answers, by_kind, command_in, command_named, command_of, file_shape, run_shape, scene_line, shell_shape}
+use Rattle.scene_command_line.specs.Words.{Answers, backup_shape, by_kind, command_in, command_named, command_of, file_shape, run_shape, scene_line, shell_shape}
 
 -- ---- words that are no options
 
@@ -70,6 +70,15 @@ pub level_second : (s : Shape) (word next : Text) (rest : List Text) (k : ErrorK
     → level_fault s [] nothing_held (word ∷ next ∷ rest) false [] ≡ k ∷ ks
 unfolding walk_fault
 level_second s word next rest k ks first second = rw (first, second) refl
+
+-- where the third one does
+pub level_third : (s : Shape) (word next last : Text) (rest : List Text) (k : ErrorKind) (ks : Kinds)
+    → turn_fault s [] start word ≡ []
+    → turn_fault s [] (walked s.rules [] start word) next ≡ []
+    → turn_fault s [] (walked s.rules [] (walked s.rules [] start word) next) last ≡ k ∷ ks
+    → level_fault s [] nothing_held (word ∷ next ∷ last ∷ rest) false [] ≡ k ∷ ks
+unfolding walk_fault
+level_third s word next last rest k ks first second third = rw (first, second, third) refl
 
 -- a built program, and one of its commands, which its name enters
 module _ (a : App) (command : Text) (s : Shape)
@@ -185,3 +194,12 @@ module _ (name : Text) (words : List Text) where
   compact_in =
       ap command_of
       (entered_rows line (codes "compact") (built_leaf (file_shape (codes "compact"))) refl refl refl words)
+
+  pub backup_fails : fault_of scene_line (name ∷ codes "backup" ∷ words) ≡ leaf_fault backup_shape words
+  unfolding clap_on_literals
+  backup_fails = entered_level line (codes "backup") (built_leaf backup_shape) refl refl refl refl words
+
+  pub backup_in : command_in (name ∷ codes "backup" ∷ words)
+      ≡ command_named (codes "backup") (leaf_rows backup_shape words)
+  unfolding clap_on_literals
+  backup_in = ap command_of (entered_rows line (codes "backup") (built_leaf backup_shape) refl refl refl words)

@@ -21,12 +21,12 @@ module _ (word : Text) (plain : is_option word ≡ false) (position : ℕ) where
   abbrev at : Walk → Walk
   at w = record w { position = position }
 
-  word_walked : (c : List Rule) (h : _)
+  pub word_walked : (c : List Rule) (h : _)
       → walked c [] (at (walk_from h)) word ≡ to_positional c (arg_by_index c position) word (at (walk_from h)) h
   unfolding walked
   word_walked c h = rw (no_dashes word plain, no_long word plain, no_short word plain) refl
 
-  word_turn : (s : Shape) (h : _) → turn_fault s [] (at (walk_from h)) word
+  pub word_turn : (s : Shape) (h : _) → turn_fault s [] (at (walk_from h)) word
       ≡ option_map_or (λ a. positional_fault s.rules s.args_override_self a h) (arg_by_index s.rules position)
       (stray_fault s)
   word_turn s h = rw (no_dashes word plain, no_long word plain, no_short word plain) refl

@@ -52,6 +52,10 @@ module _ (name : Text) where
   unfolding clap_on_literals
   long_of_compact = refl
 
+  long_of_backup : IsHelpLine (name ∷ codes "backup" ∷ codes "--help" ∷ [])
+  unfolding clap_on_literals
+  long_of_backup = refl
+
   short_of_run : IsHelpLine (name ∷ codes "run" ∷ codes "-h" ∷ [])
   unfolding clap_on_literals
   short_of_run = refl
@@ -80,6 +84,10 @@ module _ (name : Text) where
   unfolding clap_on_literals
   short_of_compact = refl
 
+  short_of_backup : IsHelpLine (name ∷ codes "backup" ∷ codes "-h" ∷ [])
+  unfolding clap_on_literals
+  short_of_backup = refl
+
 -- what holds of both options holds of each word that is one of them
 by_option : (P : Text → Type 0) (word : Text) → P (codes "--help") → P (codes "-h") → is_help_option word ≡ true → P word
 by_option P word long short one = elim (or_cases (bytes_eq word (codes "--help")) _ one) [
@@ -98,6 +106,7 @@ help_line (name ∷ command ∷ word ∷ []) asks =
     (by_option (λ w. IsHelpLine (name ∷ codes "shell" ∷ w ∷ [])) word (long_of_shell name) (short_of_shell name) parts.1)
     (by_option (λ w. IsHelpLine (name ∷ codes "check" ∷ w ∷ [])) word (long_of_check name) (short_of_check name) parts.1)
     (by_option (λ w. IsHelpLine (name ∷ codes "print" ∷ w ∷ [])) word (long_of_print name) (short_of_print name) parts.1)
+    (by_option (λ w. IsHelpLine (name ∷ codes "backup" ∷ w ∷ [])) word (long_of_backup name) (short_of_backup name) parts.1)
     (by_option (λ w. IsHelpLine (name ∷ codes "show" ∷ w ∷ [])) word (long_of_show name) (short_of_show name) parts.1)
     (by_option (λ w. IsHelpLine (name ∷ codes "log" ∷ w ∷ [])) word (long_of_log name) (short_of_log name) parts.1)
     (by_option (λ w. IsHelpLine (name ∷ codes "compact" ∷ w ∷ [])) word (long_of_compact name)

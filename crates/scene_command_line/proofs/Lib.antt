@@ -1,11 +1,13 @@
 pub mod Answered
 pub mod ArgLaws
+pub mod BackupLaws
 pub mod CommandLaws
 pub mod EnterLaws
 pub mod FileLaws
 pub mod FlagLaws
 pub mod HelpLaws
 pub mod LeafLaws
+pub mod MistakeLaws
 pub mod NumberLaws
 pub mod PlainLaws
 pub mod ShellLaws

@@ -13,7 +13,8 @@ use Rattle.clap.proofs.OnLiterals.{clap_on_literals}
 use Rattle.scene_command_line.specs.Asks.{Asks, Nothing}
 use Rattle.scene_command_line.specs.Words.{Answers, AsksFor, command_in, command_named, run_shape, scene_line, shell_shape}
 use Rattle.scene_command_line.specs.Plain.{are_plain, is_command, is_file_command, is_option, is_plain, plainly_asked}
-use Rattle.scene_command_line.proofs.CommandLaws.{IsNone, by_command, is_none}
+use Rattle.scene_command_line.proofs.BackupLaws.{backup_bare, backup_further, backup_half, backup_named_answer}
+use Rattle.scene_command_line.proofs.CommandLaws.{IsNone, by_command, by_file_command, is_none}
 use Rattle.scene_command_line.proofs.EnterLaws.{check_fails, leaf_fault, level_first, line, no_dashes, no_long, no_short, print_fails, refused_once, run_fails, shell_fails, start, taken}
 use Rattle.scene_command_line.proofs.FileLaws.{bare_answer, further_answer, named_answer}
 
@@ -67,11 +68,19 @@ rest_is_plain : (word : Text) (rest : List Text) → list_all is_plain (word ∷
 rest_is_plain word rest plain = (and_parts (is_plain word) _ plain).1
 
 -- with a word more, a word that isn't a command with a file is bad
-bad_plainly : (name command word : Text) (rest : List Text) → bytes_eq command (codes "show") ≡ false
-    → bytes_eq command (codes "log") ≡ false
+bad_plainly : (name command word : Text) (rest : List Text) → bytes_eq command (codes "backup") ≡ false
+    → bytes_eq command (codes "show") ≡ false → bytes_eq command (codes "log") ≡ false
     → bytes_eq command (codes "compact") ≡ false → plainly_asked (name ∷ command ∷ word ∷ rest) ≡ Nothing
-bad_plainly name command word [] show log compact = rw (show, log, compact) refl
-bad_plainly name command word (next ∷ rest) show log compact = refl
+bad_plainly name command word [] backup show log compact = rw (show, log, compact) refl
+bad_plainly name command word (next ∷ []) backup show log compact = rw backup refl
+bad_plainly name command word (next ∷ last ∷ rest) backup show log compact = refl
+
+-- with two words more, a command with one file is
+bad_further : (name command word next : Text) (rest : List Text) → is_file_command command ≡ true
+    → plainly_asked (name ∷ command ∷ word ∷ next ∷ rest) ≡ Nothing
+bad_further name command word next [] one =
+    by_file_command (λ c. plainly_asked (name ∷ c ∷ word ∷ next ∷ []) ≡ Nothing) command refl refl refl one
+bad_further name command word next (last ∷ rest) one = refl
 
 abbrev Fits : Text → List Text → Asks → Text → Type 0
 Fits name rest asks command = AsksFor asks (name ∷ command ∷ rest) → asks ≡ plainly_asked (name ∷ command ∷ rest)
@@ -91,7 +100,7 @@ module _ (name : Text) (asks : Asks) where
       refused_once _ _ asks UnknownArgument refl
       (run_fails name (word ∷ rest)
       ∙ leaf_refuses run_shape word rest (is_no_option word (first_is_plain word rest plain)) refl refl) means
-      ∙ sym (bad_plainly name (codes "run") word rest refl refl refl)
+      ∙ sym (bad_plainly name (codes "run") word rest refl refl refl refl)
 
   of_shell : fault_of scene_line (name ∷ codes "shell" ∷ []) ≡ []
   unfolding clap_on_literals
@@ -107,7 +116,7 @@ module _ (name : Text) (asks : Asks) where
       refused_once _ _ asks UnknownArgument refl
       (shell_fails name (word ∷ rest)
       ∙ leaf_refuses shell_shape word rest (is_no_option word (first_is_plain word rest plain)) refl refl) means
-      ∙ sym (bad_plainly name (codes "shell") word rest refl refl refl)
+      ∙ sym (bad_plainly name (codes "shell") word rest refl refl refl refl)
 
   of_check : fault_of scene_line (name ∷ codes "check" ∷ []) ≡ []
   unfolding clap_on_literals
@@ -124,7 +133,7 @@ module _ (name : Text) (asks : Asks) where
       (check_fails name (word ∷ rest)
       ∙ leaf_refuses (new_shape (codes "check")) word rest
       (is_no_option word (first_is_plain word rest plain)) refl refl) means
-      ∙ sym (bad_plainly name (codes "check") word rest refl refl refl)
+      ∙ sym (bad_plainly name (codes "check") word rest refl refl refl refl)
 
   of_print : fault_of scene_line (name ∷ codes "print" ∷ []) ≡ []
   unfolding clap_on_literals
@@ -141,7 +150,7 @@ module _ (name : Text) (asks : Asks) where
       (print_fails name (word ∷ rest)
       ∙ leaf_refuses (new_shape (codes "print")) word rest
       (is_no_option word (first_is_plain word rest plain)) refl refl) means
-      ∙ sym (bad_plainly name (codes "print") word rest refl refl refl)
+      ∙ sym (bad_plainly name (codes "print") word rest refl refl refl refl)
 
   after_file : (command : Text) → is_file_command command ≡ true → (rest : List Text) → list_all is_plain rest ≡ true
       → Fits name rest asks command
@@ -151,6 +160,19 @@ module _ (name : Text) (asks : Asks) where
   after_file command one (word ∷ next ∷ rest) plain means =
       further_answer command name one asks word next rest (is_no_option word (first_is_plain word (next ∷ rest) plain))
       (is_no_option next (first_is_plain next rest (rest_is_plain word (next ∷ rest) plain))) means
+      ∙ sym (bad_further name command word next rest one)
+
+  after_backup : (rest : List Text) → list_all is_plain rest ≡ true → Fits name rest asks (codes "backup")
+  after_backup [] plain means = backup_bare name asks means
+  after_backup (file ∷ []) plain means = backup_half name asks file (is_no_option file (first_is_plain file [] plain)) means
+  after_backup (file ∷ copy ∷ []) plain means =
+      backup_named_answer name asks file copy (is_no_option file (first_is_plain file (copy ∷ []) plain))
+      (is_no_option copy (first_is_plain copy [] (rest_is_plain file (copy ∷ []) plain))) means
+  after_backup (file ∷ copy ∷ next ∷ rest) plain means =
+      let later = rest_is_plain file (copy ∷ next ∷ rest) plain in
+      backup_further name asks file copy next rest (is_no_option file (first_is_plain file (copy ∷ next ∷ rest) plain))
+      (is_no_option copy (first_is_plain copy (next ∷ rest) later))
+      (is_no_option next (first_is_plain next rest (rest_is_plain copy (next ∷ rest) later))) means
 
 flipped : (xs ys : List ℕ) → bytes_eq xs ys ≡ false → bytes_eq ys xs ≡ false
 flipped xs ys differ = false_from_ne_true _
@@ -167,12 +189,13 @@ module _ (name word : Text) (none : IsNone word) where
     flipped word _ none.show,
     flipped word _ none.log,
     flipped word _ none.compact,
+    flipped word _ none.backup,
     flipped word _ help,
   ) refl
 
   none_plainly : (rest : List Text) → plainly_asked (name ∷ word ∷ rest) ≡ Nothing
-  none_plainly [] = rw (none.run, none.shell, none.check, none.print, none.show, none.log, none.compact) refl
-  none_plainly (next ∷ rest) = bad_plainly name word next rest none.show none.log none.compact
+  none_plainly [] = rw (none.run, none.shell, none.check, none.print, none.backup, none.show, none.log, none.compact) refl
+  none_plainly (next ∷ rest) = bad_plainly name word next rest none.backup none.show none.log none.compact
 
   after_none : (rest : List Text) (asks : Asks) → is_plain word ≡ true → Fits name rest asks word
   after_none rest asks plain means =
@@ -191,6 +214,7 @@ plain_answer (name ∷ word ∷ rest) asks plain means =
       | inl one ↦ by_command (Fits name rest asks) word (after_run name asks rest parts.1)
           (after_shell name asks rest parts.1)
           (after_check name asks rest parts.1) (after_print name asks rest parts.1)
+          (after_backup name asks rest parts.1)
           (after_file name asks (codes "show") refl rest parts.1)
           (after_file name asks (codes "log") refl rest parts.1)
           (after_file name asks (codes "compact") refl rest parts.1) one means

@@ -22,6 +22,8 @@ pub data Asks : Type 0 where
   ToShow : Text → Asks
   ToLog : Text → Asks
   ToCompact : Text → Asks
+  -- of a store in a file, the copy in another
+  ToBackUp : Text → Text → Asks
   -- a help text, of which nothing is said
   ToHelp : Asks
   -- nothing, since the command line is bad
@@ -45,5 +47,6 @@ asks_of variant.Print = ToPrint
 asks_of (variant.Show file) = ToShow (string_bytes file)
 asks_of (variant.Log file) = ToLog (string_bytes file)
 asks_of (variant.Compact file) = ToCompact (string_bytes file)
+asks_of (variant.Backup words) = ToBackUp (string_bytes words.file) (string_bytes words.copy)
 asks_of (variant.Help text) = ToHelp
 asks_of variant.Bad = Nothing

@@ -6,7 +6,7 @@ use Rattle.std.specs.Option.{option_map_or}
 use Rattle.std.specs.Str.{bytes_eq}
 use Rattle.clap.specs.Words.{Text}
 use Rattle.scene_command_line.specs.Asks.{Asks, Nothing}
-use Rattle.scene_command_line.specs.Words.{command_named, file_command_named, run_asked, shell_asked}
+use Rattle.scene_command_line.specs.Words.{backup_asked, command_named, file_command_named, run_asked, shell_asked}
 
 -- the word begins with a hyphen (45), as options do
 abbrev pub is_option : Text → Bool
@@ -21,10 +21,15 @@ is_plain word = not (is_option word) && not (bytes_eq word (codes "help"))
 abbrev pub are_plain : List Text → Bool
 are_plain words = list_all is_plain (drop 1 words)
 
--- what such words ask for: one command has to be named, with a file where it takes one, and nothing more
+-- a backup, with what is given for its two files; another name is none's that takes two
+abbrev pub backup_named : Text → Option Text → Option Text → Asks
+backup_named name file copy = if bytes_eq name (codes "backup") then backup_asked file copy else Nothing
+
+-- what such words ask for: one command has to be named, with as many files as it takes, and nothing more
 abbrev pub plainly_asked : List Text → Asks
 plainly_asked (name ∷ command ∷ []) = command_named command []
 plainly_asked (name ∷ command ∷ file ∷ []) = file_command_named command (Some file)
+plainly_asked (name ∷ command ∷ file ∷ copy ∷ []) = backup_named command (Some file) (Some copy)
 plainly_asked words = Nothing
 
 -- the word is the name of a command that takes a file
@@ -36,12 +41,19 @@ is_file_command word =
 abbrev pub is_command : Text → Bool
 is_command word =
     bytes_eq word (codes "run") || (bytes_eq word (codes "shell")
-    || (bytes_eq word (codes "check") || (bytes_eq word (codes "print") || is_file_command word)))
+    || (bytes_eq word (codes "check") || (bytes_eq word (codes "print")
+    || (bytes_eq word (codes "backup") || is_file_command word))))
 
 -- a file is named behind a command that takes one, and nothing more; any word but an option is its name, also `help`
 abbrev pub asks_for_file : List Text → Bool
 asks_for_file (name ∷ command ∷ word ∷ []) = is_file_command command && not (is_option word)
 asks_for_file words = false
+
+-- two files are named behind `backup`, and nothing more; any word but an option is the name of one
+abbrev pub asks_for_backup : List Text → Bool
+asks_for_backup (name ∷ command ∷ file ∷ copy ∷ []) =
+    bytes_eq command (codes "backup") && (not (is_option file) && not (is_option copy))
+asks_for_backup words = false
 
 -- the word is the option that asks for help
 abbrev pub is_help_option : Text → Bool

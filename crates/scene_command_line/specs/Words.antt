@@ -10,7 +10,7 @@ use Rattle.clap.specs.Simple.{new_shape, on_top}
 use Rattle.clap.specs.declared.builder.action.ArgAction.TheVariants.{Set, SetTrue}
 use Rattle.clap.specs.declared.error.kind.ErrorKind.{ErrorKind}
 use Rattle.clap.specs.declared.error.kind.ErrorKind.TheVariants.{DisplayHelp}
-use Rattle.scene_command_line.specs.Asks.{Asks, ToRun, ToShell, ToCheck, ToPrint, ToShow, ToLog, ToCompact, ToHelp, Nothing}
+use Rattle.scene_command_line.specs.Asks.{Asks, ToRun, ToShell, ToCheck, ToPrint, ToShow, ToLog, ToCompact, ToBackUp, ToHelp, Nothing}
 
 -- an option of this name, which takes one word
 abbrev pub option_rule : Text → Rule
@@ -23,6 +23,10 @@ flag_rule name = record (new_rule name) { long = Some name; action = Some SetTru
 -- the word that stands for the name of a file, and has to be given
 abbrev pub file_rule : Rule
 file_rule = record (new_rule (codes "file")) { action = Some Set; value_names = 1; required = true }
+
+-- the word that stands for the name of a copy, and has to be given
+abbrev pub copy_rule : Rule
+copy_rule = record (new_rule (codes "copy")) { action = Some Set; value_names = 1; required = true }
 
 -- the option `--workers` of `run` and of `shell`
 abbrev pub workers_rule : Rule
@@ -43,6 +47,10 @@ shell_shape = record (new_shape (codes "shell")) {
 abbrev pub file_shape : Text → Shape
 file_shape name = record (new_shape name) { rules = file_rule ∷ [] }
 
+-- the command `backup`, with the names of the two files
+abbrev pub backup_shape : Shape
+backup_shape = record (new_shape (codes "backup")) { rules = file_rule ∷ copy_rule ∷ [] }
+
 -- the program with the commands that no file follows: one of `run`, `shell`, `check` and `print` has to be named, and
 -- but for the options none takes a word more
 abbrev pub line_without_file : App
@@ -56,15 +64,18 @@ line_without_file =
     (new_shape (codes "check")))
     (new_shape (codes "print"))
 
--- the program with all its commands: `show`, `log` and `compact` may be named too, each with a file
+-- the program with all its commands: `show`, `log` and `compact` may be named too, each with a file, and `backup` with
+-- two
 abbrev pub scene_line : App
 scene_line =
     with_subcommand
     (with_subcommand
+    (with_subcommand
     (with_subcommand line_without_file
     (file_shape (codes "show")))
     (file_shape (codes "log")))
-    (file_shape (codes "compact"))
+    (file_shape (codes "compact")))
+    backup_shape
 
 -- the word is decimal digits, behind at most one plus
 abbrev pub is_number : Text → Bool
@@ -106,6 +117,15 @@ file_by asks (Some file) = asks file
 -- what is asked of the file that a word names, if one does
 abbrev pub file_asked : (Text → Asks) → Option Text → Asks
 file_asked asks word = file_by asks (file_given word)
+
+-- a copy of a store, if both files have names
+abbrev pub backup_by : Option Text → Option Text → Asks
+backup_by (Some file) (Some copy) = ToBackUp file copy
+backup_by _ _ = Nothing
+
+-- a copy of the store in the file that a word names, in the one that another does, if they do
+abbrev pub backup_asked : Option Text → Option Text → Asks
+backup_asked file copy = backup_by (file_given file) (file_given copy)
 
 -- a run with these workers; it is bad where their number is
 abbrev pub run_by : Option ℕ → Asks
@@ -155,7 +175,9 @@ command_named name options =
     (has_flag (codes "framed") options) (has_flag (codes "json") options) (first_of (codes "store") options)
     else (if bytes_eq name (codes "check") then ToCheck
     else (if bytes_eq name (codes "print") then ToPrint
-    else file_command_named name (first_of (codes "file") options))))
+    else (if bytes_eq name (codes "backup")
+    then backup_asked (first_of (codes "file") options) (first_of (codes "copy") options)
+    else file_command_named name (first_of (codes "file") options)))))
 
 -- the command that was met, with its matches
 abbrev pub command_of : Option (Text × List Row) → Asks

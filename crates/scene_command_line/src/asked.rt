@@ -1,7 +1,7 @@
 //! What a command line asks for.
 ghost use Rattle.std.specs.Prelude.{◌≡◌, IfOk, option_map, string_bytes};
 ghost use Rattle.scene_command_line.specs.Asks.{ToCompact, ToLog, ToShow, asks_of};
-ghost use Rattle.scene_command_line.specs.Words.{depth_given, file_asked, file_given, file_in, number_to, run_asked, shell_asked, shell_by, workers_given};
+ghost use Rattle.scene_command_line.specs.Words.{backup_asked, depth_given, file_asked, file_given, file_in, number_to, run_asked, shell_asked, shell_by, workers_given};
 
 use std::alloc::{AllocError, Global};
 
@@ -28,6 +28,8 @@ pub enum Asked {
     Log(String),
     /// `scene compact FILE`: to make the store in this file shorter.
     Compact(String),
+    /// `scene backup FILE TO`: to copy the store in a file into another.
+    Backup(BackupWords),
     /// `scene --help` and its kin: to print this help text.
     Help(String),
     /// Nothing, since the command line is bad.
@@ -48,6 +50,15 @@ pub struct ShellWords {
     pub is_json: bool,
     /// `--store FILE`: the file that keeps the lines, whose name isn't empty. Without the option no file does.
     pub store: Option<String>,
+}
+
+/// How a backup is asked for.
+#[derive(Debug, Drop)]
+pub struct BackupWords {
+    /// The file of the store, whose name isn't empty.
+    pub file: String,
+    /// The file that the copy is to be, whose name isn't empty.
+    pub copy: String,
 }
 
 /// The number of workers that a word is, 1 to 16.
@@ -200,5 +211,22 @@ pub(crate) fn compact_asked(alloc: Global, file: Option<&str>) -> Result<Asked, 
     match file_given(alloc, file)? {
         Some(file) => Ok(Asked::Compact(file)),
         None => Ok(Asked::Bad),
+    }
+}
+
+/// A copy of a store, in the files that two words name, if they do. It is refused only for want of memory.
+pub(crate) fn backup_asked(
+    alloc: Global,
+    file: Option<&str>,
+    copy: Option<&str>,
+) -> Result<Asked, AllocError>
+    ensures { IfOk result (λ asked. asks_of asked ≡ backup_asked (option_map (λ w. w.now) file.entry)
+        (option_map (λ w. w.now) copy.entry)) }
+{
+    let file = file_given(alloc, file)?;
+    let copy = file_given(alloc, copy)?;
+    match (file, copy) {
+        (Some(file), Some(copy)) => Ok(Asked::Backup(BackupWords { file, copy })),
+        _ => Ok(Asked::Bad),
     }
 }

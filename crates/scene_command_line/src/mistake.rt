@@ -17,6 +17,8 @@ pub enum Mistake {
     TakesShellOptions,
     /// The word is `show`, `log` or `compact`, and what follows it is neither the name of one file nor asks for help.
     TakesFile,
+    /// The word is `backup`, and what follows it is neither the names of two files nor asks for help.
+    TakesTwoFiles,
     /// The word is another command's name, and something follows it.
     TakesNoWord,
     /// The word begins with a hyphen.
@@ -41,6 +43,7 @@ fn mistake_of(word: &str) -> Mistake
         "run" => Mistake::TakesWorkers,
         "shell" => Mistake::TakesShellOptions,
         "show" | "log" | "compact" => Mistake::TakesFile,
+        "backup" => Mistake::TakesTwoFiles,
         "check" | "print" => Mistake::TakesNoWord,
         "help" => Mistake::HelpOfNoCommand,
         _ if word.starts_with('-') => Mistake::NoOption,
@@ -92,6 +95,12 @@ impl<'a> fmt::Display for BadWords<'a> {
                     "{word} takes the name of a store's file, and no other word but --help"
                 );
             }
+            Mistake::TakesTwoFiles => {
+                return write!(
+                    f,
+                    "{word} takes the names of a store's file and of its copy, and no other word but --help"
+                );
+            }
             Mistake::TakesNoWord => return write!(f, "{word} takes no word but --help"),
             Mistake::HelpOfNoCommand => write!(f, "help takes the name of one command")?,
             Mistake::NoOption if is_shown => {
@@ -102,7 +111,7 @@ impl<'a> fmt::Display for BadWords<'a> {
         }
         write!(
             f,
-            "; there are run, shell, check, print, show, log and compact"
+            "; there are run, shell, check, print, show, log, compact and backup"
         )
     }
 }

@@ -5,10 +5,12 @@ ghost use Rattle.clap.specs.declared.builder.command.Command.TheViews.{out-Comma
 ghost use Rattle.clap.specs.Simple.{new_shape};
 ghost use Rattle.clap.specs.declared.error.kind.ErrorKind.TheVariants.{OutOfMemory};
 ghost use Rattle.scene_command_line.specs.Asks.{ToHelp, asks_of};
-ghost use Rattle.scene_command_line.specs.Plain.{AsksForShell, are_plain, asks_for_file, asks_for_help, asks_for_workers, plainly_asked, workers_asked};
-ghost use Rattle.scene_command_line.specs.Words.{AsksFor, by_kind, command_named, command_of, file_rule, file_shape, flag_rule, has_flag, line_without_file, option_rule, run_shape, scene_line, shell_shape, workers_rule};
+ghost use Rattle.scene_command_line.specs.Plain.{AsksForShell, are_plain, asks_for_backup, asks_for_file, asks_for_help, asks_for_workers, plainly_asked, workers_asked};
+ghost use Rattle.scene_command_line.specs.Words.{AsksFor, backup_shape, by_kind, command_named, command_of, copy_rule, file_rule, file_shape, flag_rule, has_flag, line_without_file, option_rule, run_shape, scene_line, shell_shape, workers_rule};
 
-use crate::asked::{Asked, compact_asked, log_asked, run_asked, shell_asked, show_asked};
+use crate::asked::{
+    Asked, backup_asked, compact_asked, log_asked, run_asked, shell_asked, show_asked,
+};
 use crate::texts;
 use clap::error::ErrorKind;
 use clap::{Arg, ArgAction, ArgMatches, Command, Error};
@@ -86,6 +88,18 @@ fn file_argument<'a>(alloc: Global) -> Arg<'a>
         .help(texts::FILE)
 }
 
+/// The name of the file that a copy is to be, a word that has to be given.
+fn copy_argument<'a>(alloc: Global) -> Arg<'a>
+    ensures rule { rule_of result ≡ copy_rule }
+    ensures local { result.global ≡ false }
+{
+    Arg::new(alloc, "copy")
+        .required(true)
+        .action(ArgAction::Set)
+        .value_name("TO")
+        .help(texts::COPY)
+}
+
 /// A command with its help texts, which takes the name of a store's file.
 fn file_command<'a>(
     alloc: Global,
@@ -97,6 +111,16 @@ fn file_command<'a>(
     ensures local { IfOk result (λ c. (fields_of c).has_globals ≡ false) }
 {
     command(alloc, name, about, more).arg(file_argument(alloc))
+}
+
+/// The command `backup` with the names of the two files.
+fn backup_command<'a>(alloc: Global) -> Result<Command<'a>, AllocError>
+    ensures shape { IfOk result (λ c. shape_of c ≡ backup_shape) }
+    ensures local { IfOk result (λ c. (fields_of c).has_globals ≡ false) }
+{
+    command(alloc, "backup", texts::BACKUP, texts::BACKUP_MORE)
+        .arg(file_argument(alloc))?
+        .arg(copy_argument(alloc))
 }
 
 /// The commands that no file follows, as `clap` reads them.
@@ -123,10 +147,12 @@ fn commands<'a>(alloc: Global) -> Result<Command<'a>, AllocError>
     let show = file_command(alloc, "show", texts::SHOW, texts::SHOW_MORE)?;
     let log = file_command(alloc, "log", texts::LOG, texts::LOG_MORE)?;
     let compact = file_command(alloc, "compact", texts::COMPACT, texts::COMPACT_MORE)?;
+    let backup = backup_command(alloc)?;
     commands_without_file(alloc)?
         .subcommand(show)?
         .subcommand(log)?
-        .subcommand(compact)
+        .subcommand(compact)?
+        .subcommand(backup)
 }
 
 /// Whether the flag of this name is given.
@@ -155,6 +181,7 @@ fn command_named(alloc: Global, name: &str, options: &ArgMatches<'_>) -> Result<
         "show" => show_asked(alloc, options.get_str("file")),
         "log" => log_asked(alloc, options.get_str("file")),
         "compact" => compact_asked(alloc, options.get_str("file")),
+        "backup" => backup_asked(alloc, options.get_str("file"), options.get_str("copy")),
         _ => Ok(Asked::Bad),
     }
 }
@@ -191,6 +218,8 @@ pub fn read_words<'a>(alloc: Global, words: &'a [String]) -> Result<Asked, Alloc
         → IfOk result (λ asked. asks_of asked ≡ workers_asked (map string_bytes words.now)) }
     ensures shell { IfOk result (λ asked. AsksForShell (asks_of asked) (map string_bytes words.now)) }
     ensures file { asks_for_file (map string_bytes words.now) ≡ true
+        → IfOk result (λ asked. asks_of asked ≡ plainly_asked (map string_bytes words.now)) }
+    ensures backup { asks_for_backup (map string_bytes words.now) ≡ true
         → IfOk result (λ asked. asks_of asked ≡ plainly_asked (map string_bytes words.now)) }
     ensures help { asks_for_help (map string_bytes words.now) ≡ true → IfOk result (λ asked. asks_of asked ≡ ToHelp) }
 {

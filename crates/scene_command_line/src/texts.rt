@@ -7,7 +7,7 @@ pub(crate) const PROGRAM: &str =
 /// What all commands have in common.
 pub(crate) const PROGRAM_MORE: &str = "\
 Each command prints on standard output. `shell` answers standard input line by line; `run`, `check` and `print` read it
-to its end; `show`, `log` and `compact` read the file of a store.
+to its end; `show`, `log`, `compact` and `backup` read the file of a store.
 
 Exit status:
   0  all went well
@@ -81,3 +81,12 @@ docs/SHELL.md explains stores.";
 pub(crate) const COMPACT: &str = "Makes the file of a store shorter; its world stays";
 
 pub(crate) const COMPACT_MORE: &str = "docs/SHELL.md explains stores.";
+
+pub(crate) const COPY: &str = "The file that the copy is to be; none may have this name yet";
+
+pub(crate) const BACKUP: &str = "Copies a store into another file, also while a shell runs";
+
+pub(crate) const BACKUP_MORE: &str = "\
+The copy is one file and keeps all that was answered before. The store itself stays as it is.
+
+docs/SHELL.md explains stores.";

@@ -1,5 +1,5 @@
 -- What a desk keeps of its last call, and what it reads of its scene.
-use Rattle.std.specs.Prelude.{◌≡◌, ℕ, ℤ, List, [], ◌∷◌, Option, Some, None, Result, Ok, Err, pos, string_bytes}
+use Rattle.std.specs.Prelude.{◌≡◌, ⊤, ℕ, ℤ, List, [], ◌∷◌, Option, Some, None, Result, Ok, Err, pos, string_bytes}
 use Rattle.scene_kinds.specs.declared.cell.Cell.{Cell}
 use Rattle.scene_kinds.specs.declared.value.Value.{Value}
 use Rattle.scene_kinds.specs.declared.value.Value.TheVariants.{Tag, Int, Vec3, Text, Link}
@@ -8,41 +8,54 @@ use Rattle.scene_kinds.specs.declared.entity.Entity.{Entity}
 use Rattle.scene_kinds.specs.declared.refusal.Refusal.{Refusal}
 use Rattle.scene_model.specs.World.{World}
 use Rattle.scene_pass.specs.declared.cell_name.CellName.{CellName}
-use Rattle.scene_session.specs.declared.call.Reply.TheVariants.{Done, Refused}
+use Rattle.scene_session.specs.Calls.{Done, Refused}
 use Rattle.scene_hand.specs.Hand.{machine_at}
-use Rattle.scene_player.specs.declared.answer.Answer.{Answer}
-use Rattle.scene_player.specs.declared.answer.Answer.TheVariants.{Nothing, Replied, Changed, Added}
-use Rattle.scene_player.specs.Player.{hand_of, player_of}
+use Rattle.scene_player.specs.Answer.{said_of}
+use Rattle.scene_player.specs.Player.{Player, PlayerReply, Setting, Playing, Tells, halted, hand_of, lone_player, player_of}
+use Rattle.scene_player.specs.Said.{Said, Nothing, Called, Changed, Added, refused}
+use Rattle.scene_player.specs.declared.halt.Halt.{Halt}
+use Rattle.scene_player.specs.declared.halt.Halt.TheVariants.{After}
 use Rattle.scene_desk.specs.declared.desk.Desk.{Desk}
 use Rattle.scene_desk.specs.declared.reading.Reading.{Reading}
+
+-- the player before its first line: the greatest depth, and as many calls as a counter of 64 bits holds
+abbrev pub fresh_player : Player
+fresh_player = lone_player 1048576 18446744073709551615
 
 -- the last answer and its text are as they were
 abbrev pub KeepsAnswer : Desk → Desk → Type 0
 KeepsAnswer old new = (new.answer ≡ old.answer) × (string_bytes new.text ≡ string_bytes old.text)
 
--- and so are the player and the components of the next spawn
-abbrev pub Stays : Desk → Desk → Type 0
-Stays old new = KeepsAnswer old new × (player_of new.player ≡ player_of old.player) × (new.cells.items ≡ old.cells.items)
+-- A call that would have come to a reply was halted. Where it is done, its answer is that of the reply, and the text alone is wanting;
+-- else the last answer stays
+abbrev pub HasHalted : Halt → (old new : Desk) → PlayerReply → Type 0
+HasHalted After old new r = Tells new.answer (player_of new.player) r × (string_bytes new.text ≡ [])
+HasHalted h old new r = (player_of new.player ≡ halted h (player_of old.player) r.player) × KeepsAnswer old new
+
+-- the setup isn't over
+abbrev pub IsSetting : Player → Type 0
+IsSetting (Setting s) = ⊤
+IsSetting (Playing s) = ⊥
 
 -- the world now
 abbrev pub world_of : Desk → World
 world_of d = (machine_at (hand_of (player_of d.player))).now
 
 -- the entities that a frame made, where an answer is that of a frame
-abbrev pub made_of : Answer → List Entity
-made_of (Replied (Done entities)) = entities.items
-made_of answer = []
+abbrev pub made_in : Said → List Entity
+made_in (Called (Done entities)) = entities
+made_in said = []
 
 -- the cells that an answer lists
-abbrev pub named_of : Answer → List CellName
-named_of (Changed cells) = cells.items
-named_of (Added cells) = cells.items
-named_of answer = []
+abbrev pub named_in : Said → List CellName
+named_in (Changed cells) = cells
+named_in (Added cells) = cells
+named_in said = []
 
 -- the refusal that an answer is
-abbrev pub refusal_in : Answer → Option Refusal
-refusal_in (Replied (Refused r)) = Some r
-refusal_in answer = None
+abbrev pub refusal_in : Said → Option Refusal
+refusal_in (Called (Refused r)) = Some r
+refusal_in said = None
 
 -- the three numbers of a value
 abbrev pub three_of : Value → List ℤ
@@ -63,6 +76,6 @@ text_in v = []
 
 -- a component was shown, or else the last answer says why there is none
 abbrev pub HasRead : Option Reading → Desk → Result Cell Refusal → Type 0
-HasRead (Some reading) new (Ok cell) = (reading ≡ numbers_of cell.value) × (string_bytes new.text ≡ text_in cell.value) × (new.answer ≡ Nothing)
-HasRead None new (Err r) = (new.answer ≡ Replied (Refused r)) × (string_bytes new.text ≡ [])
+HasRead (Some reading) new (Ok cell) = (reading ≡ numbers_of cell.value) × (string_bytes new.text ≡ text_in cell.value) × (said_of new.answer ≡ Nothing)
+HasRead None new (Err r) = (said_of new.answer ≡ refused r) × (string_bytes new.text ≡ [])
 HasRead reading new found = ⊥

@@ -1,5 +1,5 @@
 -- What contracts see of a hand: the machine that its state began as, with its records, and the calls since, each with its answer.
-use Rattle.std.specs.Prelude.{◌++◌, ◌∷◌, [], ℕ, List, length, map, nat_lt, if◌then◌else◌}
+use Rattle.std.specs.Prelude.{◌++◌, ◌∷◌, [], Bool, ℕ, List, false, length, map, nat_lt, if◌then◌else◌}
 use Rattle.scene_kinds.specs.declared.fault.Fault.TheVariants.{HistoryFull}
 use Rattle.scene_kinds.specs.Answers.{refusal_of}
 use Rattle.scene_model.specs.World.{World}
@@ -16,8 +16,10 @@ pub record Made : Type 0 where
   pub call : Asked
   pub answer : Answer
 
--- the machine at first with its records, how many calls there may be, the calls so far, the oldest first, and whose turn it is
+-- whether it has no lock, the machine at first with its records, how many calls there may be, the calls so far, the oldest first,
+-- and whose turn it is
 pub record HandState : Type 0 where
+  pub is_alone : Bool
   pub opening : Whole
   pub limit : ℕ
   pub history : List Made
@@ -36,8 +38,8 @@ abbrev pub machine_at : HandState → Machine World
 machine_at h = (whole_at h).machine
 
 -- with no calls yet, it is the turn of session 0
-abbrev pub opening_hand : Whole → ℕ → HandState
-opening_hand w limit = record { opening = w; limit = limit; history = []; session = 0 }
+abbrev pub opening_hand : Whole → ℕ → Bool → HandState
+opening_hand w limit is_alone = record { is_alone = is_alone; opening = w; limit = limit; history = []; session = 0 }
 
 -- the turn of another session
 abbrev pub with_session : HandState → ℕ → HandState
@@ -57,6 +59,7 @@ performed h a = if nat_lt (length h.history) h.limit then (entered h a, (step (w
 abbrev pub made : Entry → Made
 made e = record { session = e.session; call = asked e.call; answer = told e.reply }
 
--- the hand of a state, where it is the turn of this session
+-- the hand over a lock with this state, where it is the turn of this session
 abbrev pub hand_of : StateView → ℕ → HandState
-hand_of s session = record { opening = whole_of s.opening.editor; limit = s.opening.limit; history = map made s.history; session = session }
+hand_of s session =
+    record { is_alone = false; opening = whole_of s.opening.editor; limit = s.opening.limit; history = map made s.history; session = session }

@@ -1,5 +1,5 @@
 //! A hand without a lock: an editor that no other thread can reach.
-ghost use Rattle.std.specs.Prelude.{◌≡◌, ◌≢◌, ◌≤◌, ◌<◌, ◌+◌, ◌++◌, ◌∷◌, [], length, IfOk, IfErr, MatchResult, Some, None};
+ghost use Rattle.std.specs.Prelude.{◌≡◌, ◌≢◌, ◌≤◌, ◌<◌, ◌+◌, ◌++◌, ◌∷◌, [], length, IfOk, IfErr, MatchResult, Some, None, true};
 ghost use Rattle.scene_kinds.specs.Answers.{refusal_of};
 ghost use Rattle.scene_kinds.specs.declared.fault.Fault.TheVariants.{HistoryFull, NoMemory};
 ghost use Rattle.scene_session.specs.Calls.{Refused, asked, queue_count, told};
@@ -24,12 +24,12 @@ pub(crate) struct Alone {
     log: Log,
     editor: Editor,
     session: u32,
-    limit: u32,
-    room: u32,
+    limit: u64,
+    room: u64,
 }
 
 impl Model for Alone {
-    ghost use Rattle.std.specs.Prelude.{◌≡◌, ◌+◌, length};
+    ghost use Rattle.std.specs.Prelude.{◌≡◌, ◌+◌, length, true};
     ghost use Rattle.scene_session.specs.History.{replay};
     ghost use Rattle.scene_session.specs.Whole.{whole_of};
     ghost use Rattle.scene_hand.specs.Codes.{hand_code};
@@ -39,7 +39,7 @@ impl Model for Alone {
 
     ghost coded = { hand_code };
 
-    ghost view = { λ h. record { opening = whole_of h.opening.value; limit = h.limit; history = h.log.calls; session = h.session } };
+    ghost view = { λ h. record { is_alone = true; opening = whole_of h.opening.value; limit = h.limit; history = h.log.calls; session = h.session } };
 
     ghost invariant = { λ h. (whole_of h.editor ≡ replay next (whole_of h.opening.value) h.log.calls)
         × (h.room + length h.log.calls ≡ h.limit) };
@@ -48,7 +48,7 @@ impl Model for Alone {
 /// Enters a call with its reply, which it gives. Where there is none, no memory was found: the call is handed back.
 fn enter(
     log: &mut Log,
-    room: &mut u32,
+    room: &mut u64,
     session: u32,
     call: Call,
     reply: Option<Reply>,
@@ -80,19 +80,19 @@ fn enter(
 }
 
 /// Hands back a call for which there is no room.
-fn turned_back(limit: u32, call: Call) -> Stopped
+fn turned_back(limit: u64, call: Call) -> Stopped
     ensures { (result.call ≡ call) × (result.refusal ≡ refusal_of (HistoryFull limit)) }
 {
     Stopped {
-        refusal: Refusal::from(Fault::HistoryFull(u64::from(limit))),
+        refusal: Refusal::from(Fault::HistoryFull(limit)),
         call,
     }
 }
 
 impl Alone {
     /// The hand of this editor, with no calls yet; it is the turn of session 0.
-    pub(crate) fn new(editor: Editor, limit: u32) -> Alone
-        ensures { result ≡ opening_hand (whole_of editor) limit }
+    pub(crate) fn new(editor: Editor, limit: u64) -> Alone
+        ensures { result ≡ opening_hand (whole_of editor) limit true }
     {
         Alone {
             opening: Snapshot::of(&editor),
@@ -155,6 +155,27 @@ impl Alone {
         query.find(alloc, &self.editor)
     }
 
+    /// Whose turn it is.
+    pub(crate) fn session(&self) -> u32
+        ensures { result ≡ self.now.session }
+    {
+        self.session
+    }
+
+    /// How many calls there may be.
+    pub(crate) fn limit(&self) -> u64
+        ensures { result ≡ self.now.limit }
+    {
+        self.limit
+    }
+
+    /// There is no lock, as clauses see it once a field is read.
+    pub(crate) fn has_no_lock(&self)
+        ensures { self.now.is_alone ≡ true }
+    {
+        let _session = self.session;
+    }
+
     /// The editor as it is after the calls.
     pub(crate) fn editor(&self) -> &Editor
         ensures { whole_of result.now ≡ whole_at self.now }
@@ -163,7 +184,7 @@ impl Alone {
     }
 
     /// How many calls there were.
-    pub(crate) fn call_count(&self) -> u32
+    pub(crate) fn call_count(&self) -> u64
         ensures { result ≡ length self.now.history }
     {
         self.limit - self.room

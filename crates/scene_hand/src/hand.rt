@@ -1,5 +1,5 @@
 //! The hand: all sessions of one state.
-ghost use Rattle.std.specs.Prelude.{◌≡◌, ◌≤◌, ◌<◌, length, IfOk, IfSome};
+ghost use Rattle.std.specs.Prelude.{◌≡◌, ◌≤◌, ◌<◌, length, IfNone, IfOk, IfSome, false, true};
 ghost use Rattle.scene_session.specs.Whole.{whole_of};
 ghost use Rattle.scene_hand.specs.Hand.{opening_hand, whole_at, with_session};
 ghost use Rattle.scene_hand.specs.Passes.{AreOf};
@@ -24,8 +24,8 @@ pub(crate) enum Seat {
 /// Eight sessions of one state in one hand: over a lock with all its passes, or over an editor that has no lock, which no other
 /// thread can reach (docs/SESSIONS.md, "All in one hand"). A `Performer` performs its calls and asks its queries.
 ///
-/// Contracts see the machine that the state began as with its records, the greatest number of calls, the calls so far, and
-/// whose turn it is.
+/// Contracts see whether it has no lock, the machine that the state began as with its records, the greatest number of calls,
+/// the calls so far, and whose turn it is.
 #[derive(Drop)]
 pub struct Hand {
     pub(crate) seat: Seat,
@@ -50,7 +50,7 @@ impl Hand {
     /// `AllocError` where no memory was found: the editor is dropped then.
     pub fn new(alloc: Global, editor: Editor, limit: u32) -> Result<Hand, AllocError>
         requires { (1 ≤ limit) × (limit ≤ 1048576) }
-        ensures { IfOk result (λ hand. hand ≡ opening_hand (whole_of editor) limit) }
+        ensures { IfOk result (λ hand. hand ≡ opening_hand (whole_of editor) limit false) }
     {
         let shared = Shared::new(alloc, editor, limit)?;
         Ok(Hand {
@@ -59,10 +59,11 @@ impl Hand {
     }
 
     /// The same without a lock. `ThisThread` performs its calls. It takes no memory, and its calls take none but what the editor
-    /// takes: it keeps their number alone, since nobody can read the calls of such a hand.
-    pub fn alone(editor: Editor, limit: u32) -> Hand
-        requires { (1 ≤ limit) × (limit ≤ 1048576) }
-        ensures { result ≡ opening_hand (whole_of editor) limit }
+    /// takes: it keeps their number alone, since nobody can read the calls of such a hand. So there may be as many as a counter
+    /// holds: `u64::MAX` is no limit but the counter's.
+    pub fn alone(editor: Editor, limit: u64) -> Hand
+        requires { 1 ≤ limit }
+        ensures { result ≡ opening_hand (whole_of editor) limit true }
     {
         Hand {
             seat: Seat::Alone(Alone::new(editor, limit)),
@@ -80,8 +81,28 @@ impl Hand {
         }
     }
 
+    /// Whose turn it is, 0 to 7. It takes no memory.
+    pub fn session(&self) -> u32
+        ensures { result ≡ self.now.session }
+    {
+        match &self.seat {
+            Seat::Shared(shared) => shared.session(),
+            Seat::Alone(alone) => alone.session(),
+        }
+    }
+
+    /// How many calls there may be. It takes no memory.
+    pub fn limit(&self) -> u64
+        ensures { result ≡ self.now.limit }
+    {
+        match &self.seat {
+            Seat::Shared(shared) => shared.limit(),
+            Seat::Alone(alone) => alone.limit(),
+        }
+    }
+
     /// How many calls there were. It takes no memory.
-    pub fn call_count(&self) -> u32
+    pub fn call_count(&self) -> u64
         ensures { result ≡ length self.now.history }
     {
         match &self.seat {
@@ -92,10 +113,14 @@ impl Hand {
 
     /// The editor as it is after these calls, where there is no lock; `None` where there is one. It takes no memory.
     pub fn editor(&self) -> Option<&Editor>
-        ensures { IfSome result (λ editor. whole_of editor.now ≡ whole_at self.now) }
+        ensures editor { IfSome result (λ editor. whole_of editor.now ≡ whole_at self.now) }
+        ensures locked { IfNone result (self.now.is_alone ≡ false) }
     {
         match &self.seat {
-            Seat::Shared(_) => None,
+            Seat::Shared(shared) => {
+                shared.has_lock();
+                None
+            }
             Seat::Alone(alone) => Some(alone.editor()),
         }
     }
@@ -103,11 +128,15 @@ impl Hand {
     /// The lock, and the passes of its eight sessions, 0 first: each has seen just these calls. `None` where there is no lock.
     /// It takes no memory.
     pub fn into_parts(self) -> Option<(WordLock<State>, Vec<Pass<State>>)>
-        ensures { IfSome result (λ p. AreOf p.0 p.1.items self) }
+        ensures parts { IfSome result (λ p. AreOf p.0 p.1.items self) }
+        ensures alone { IfNone result (self.is_alone ≡ true) }
     {
         match self.seat {
             Seat::Shared(shared) => Some(shared.into_parts()),
-            Seat::Alone(_) => None,
+            Seat::Alone(alone) => {
+                alone.has_no_lock();
+                None
+            }
         }
     }
 }

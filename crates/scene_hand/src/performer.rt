@@ -1,5 +1,5 @@
 //! Who performs the calls of a hand, and asks its queries.
-ghost use Rattle.std.specs.Prelude.{◌≡◌, ◌≢◌, ◌≤◌, ◌<◌, length, IfOk, IfErr, IfSome};
+ghost use Rattle.std.specs.Prelude.{◌≡◌, ◌≢◌, ◌≤◌, ◌<◌, length, IfErr, IfNone, IfOk, IfSome, false};
 ghost use Rattle.std.specs.Thread.{IsSync};
 ghost use Rattle.scene_kinds.specs.Answers.{refusal_of};
 ghost use Rattle.scene_kinds.specs.declared.fault.Fault.TheVariants.{NoMemory};
@@ -16,9 +16,15 @@ use std::thread::Threads;
 
 /// Who performs calls: one that has threads to start, or the thread that asks for it alone. What a call comes to doesn't
 /// depend on it (docs/SESSIONS.md, "All in one hand").
+///
+/// The meaning that contracts use: `misses` says of which hands it can't reach the editor.
 pub trait Performer {
     /// By what it starts threads, if it does.
     type Runtime: Sync;
+
+    ghost use Rattle.scene_hand.specs.Hand.{HandState};
+
+    ghost misses: { HandState → Type 0 };
 
     /// Performs a call of the session whose turn it is. What the editor refuses is entered with the reply `Refused`, and leaves
     /// the editor as it was; where there are as many calls as may be, the reply is `Refused` with `HistoryFull` and the limit, and
@@ -34,10 +40,11 @@ pub trait Performer {
     /// Asks a question of the editor, for the session whose turn it is: what is found is of the editor after just these calls. It
     /// costs what the question costs, and over a lock some thirty loads of a word; it takes no memory but what the question takes.
     ///
-    /// `None` only from who can't reach the editor.
+    /// `None` only where it can't reach the editor.
     fn ask<Q: EditorQuery>(&self, alloc: Global, hand: &mut Hand, query: &Q) -> Option<Q::Found>
         ensures same { hand.new ≡ hand.old }
-        ensures answer { IfSome result (λ a. Q.finds query.now (whole_at hand.old) a) };
+        ensures answer { IfSome result (λ a. Q.finds query.now (whole_at hand.old) a) }
+        ensures missed { IfNone result (Self.misses hand.old) };
 }
 
 /// Performs calls on this thread, and the systems of an advance on as many threads as there are workers, 1 to 16. A number below
@@ -74,8 +81,11 @@ fn entered(done: Result<Reply, Stopped>) -> Result<Reply, Call>
     }
 }
 
+// It reaches each.
 impl<R: Threads + Wait + Sync> Performer for OnThreads<R> {
     type Runtime = R;
+
+    ghost misses = { λ _. ⊥ };
 
     fn perform(&self, alloc: Global, hand: &mut Hand, call: Call) -> Result<Reply, Call> {
         let done = match &mut hand.seat {
@@ -93,8 +103,13 @@ impl<R: Threads + Wait + Sync> Performer for OnThreads<R> {
     }
 }
 
+// It can't reach one over a lock.
 impl Performer for ThisThread {
     type Runtime = ();
+
+    ghost use Rattle.std.specs.Prelude.{◌≡◌, false};
+
+    ghost misses = { λ hand. hand.is_alone ≡ false };
 
     fn perform(&self, _alloc: Global, hand: &mut Hand, call: Call) -> Result<Reply, Call> {
         let done = match &mut hand.seat {
@@ -106,7 +121,10 @@ impl Performer for ThisThread {
 
     fn ask<Q: EditorQuery>(&self, alloc: Global, hand: &mut Hand, query: &Q) -> Option<Q::Found> {
         match &hand.seat {
-            Seat::Shared(_) => None,
+            Seat::Shared(shared) => {
+                shared.has_lock();
+                None
+            }
             Seat::Alone(alone) => Some(alone.ask(alloc, query)),
         }
     }

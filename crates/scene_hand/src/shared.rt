@@ -1,5 +1,5 @@
 //! A hand over a lock: the passes of all its sessions.
-ghost use Rattle.std.specs.Prelude.{◌≡◌, ◌≢◌, ◌≤◌, ◌<◌, ◌+◌, length, IfOk, IfErr, MatchResult};
+ghost use Rattle.std.specs.Prelude.{◌≡◌, ◌≢◌, ◌≤◌, ◌<◌, ◌+◌, length, IfOk, IfErr, MatchResult, false};
 ghost use Rattle.scene_kinds.specs.Answers.{refusal_of};
 ghost use Rattle.scene_kinds.specs.declared.fault.Fault.TheVariants.{NoMemory};
 ghost use Rattle.scene_session.specs.Calls.{Refused, asked, queue_count, told};
@@ -66,7 +66,7 @@ impl Shared {
     /// memory is found.
     pub(crate) fn new(alloc: Global, editor: Editor, limit: u32) -> Result<Shared, AllocError>
         requires { (1 ≤ limit) × (limit ≤ 1048576) }
-        ensures { IfOk result (λ hand. hand ≡ opening_hand (whole_of editor) limit) }
+        ensures { IfOk result (λ hand. hand ≡ opening_hand (whole_of editor) limit false) }
     {
         let state = State::new(alloc, editor, limit);
         let (lock, passes) = WordLock::new(alloc, state, SESSIONS)?;
@@ -149,11 +149,32 @@ impl Shared {
         answer
     }
 
+    /// Whose turn it is.
+    pub(crate) fn session(&self) -> u32
+        ensures { result ≡ self.now.session }
+    {
+        self.session
+    }
+
+    /// How many calls there may be.
+    pub(crate) fn limit(&self) -> u64
+        ensures { result ≡ self.now.limit }
+    {
+        u64::from(self.limit)
+    }
+
+    /// There is a lock, as clauses see it once a field is read.
+    pub(crate) fn has_lock(&self)
+        ensures { self.now.is_alone ≡ false }
+    {
+        let _session = self.session;
+    }
+
     /// How many calls there were.
-    pub(crate) fn call_count(&self) -> u32
+    pub(crate) fn call_count(&self) -> u64
         ensures { result ≡ length self.now.history }
     {
-        self.limit - self.room
+        u64::from(self.limit - self.room)
     }
 
     /// The lock, and the passes of its eight sessions, 0 first.

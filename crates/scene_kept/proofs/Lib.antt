@@ -1,0 +1,5 @@
+mod Agreement
+mod LineFaults
+mod Played
+mod SameLists
+mod StoreLaws

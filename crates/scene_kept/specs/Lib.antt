@@ -1,2 +1,5 @@
 pub mod AnswerText
-pub mod GoesOn
+pub mod Compacted
+pub mod Opening
+pub mod Replayed
+pub mod StoreShell

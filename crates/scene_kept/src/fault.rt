@@ -1,4 +1,4 @@
-//! Why kept lines weren't played.
+//! Why kept lines weren't played, and why none were put in their place.
 use scene_player::Halt;
 use scene_script::BadLine;
 use thiserror::Error;
@@ -19,7 +19,38 @@ pub enum KeptLineFault {
     /// What was to be written couldn't be.
     #[error("fault 55 WriteFault")]
     Unwritten,
-    /// The text of the scene would be too long, or there are too many lines.
-    #[error("fault 56 TooLong")]
+}
+
+/// Why no scene text was put in the place of kept lines. `Display` says it in words, on one line.
+#[derive(Debug, Drop, Error)]
+pub enum CompactFault {
+    /// The lines can't be played.
+    #[error("{0}; nothing was compacted")]
+    Lines(KeptLineFault),
+    /// No memory was found for the text of the scene, or for playing it.
+    #[error("fault 20 NoMemory: none was found for the text of the scene; nothing was compacted")]
+    NoMemory,
+    /// The text of the scene would be longer than a load reads.
+    #[error("fault 56 TooLong: the text of the scene would have more than 67108864 bytes, which no load reads; nothing was compacted")]
     TooLong,
+    /// The lines in their place would be longer than they may be, so many bytes.
+    #[error("the text of the scene and the systems would have more than {0} bytes; nothing was compacted")]
+    OverMost(usize),
+    /// A frame is open behind the lines, as behind those of no shell.
+    #[error("a frame is open behind the lines; nothing was compacted")]
+    FrameOpen,
+    /// What the text of the scene leads to isn't what the lines lead to.
+    #[error("the text of the scene doesn't lead to what the lines do; nothing was compacted")]
+    Differs,
+}
+
+impl From<KeptLineFault> for CompactFault {
+    ghost use Rattle.std.specs.Prelude.{◌≡◌};
+    ghost use Rattle.scene_kept.specs.declared.fault.CompactFault.TheVariants.{Lines};
+
+    ghost from_gives = { λ fault made. made ≡ Lines fault };
+
+    fn from(fault: KeptLineFault) -> CompactFault {
+        CompactFault::Lines(fault)
+    }
 }

@@ -1,17 +1,22 @@
-//! What is made of lines that a store has kept: the player that they lead to, a log of what each did, and fewer lines
-//! that lead to the same scene (docs/SHELL.md, "A store").
+//! What is made of lines that a store has kept: the player that they lead to, a log of what each did, fewer lines that
+//! lead to the same scene, and a shell that goes on behind them (docs/SHELL.md, "A store").
 #![tactic(auto)]
 
+mod agree;
 mod asked;
 mod compact;
 mod fault;
 mod log;
+mod opening;
 mod play_again;
-mod shell_on;
+mod same;
+mod store_shell;
+mod system_lines;
 
 pub use asked::show_lines;
 pub use compact::compacted;
-pub use fault::KeptLineFault;
+pub use fault::{CompactFault, KeptLineFault};
 pub use log::{LogCounts, write_log};
+pub use opening::{Opening, OpeningLimits, tell_opening};
 pub use play_again::replay;
-pub use shell_on::{ShellOnFault, run_shell_on};
+pub use store_shell::{StorePlace, StoreShellFault, run_store_shell};

@@ -1,7 +1,7 @@
 //! What lines that are kept have done.
 use crate::fault::KeptLineFault;
-use scene_hand::Performer;
-use scene_player::{Answer, Halt, Player};
+use scene_hand::ThisThread;
+use scene_player::{Answer, Halt, Player, PlayerSettings};
 use scene_script::{Line, SessionNumber, first_line, read_line};
 use scene_session::Reply;
 use std::alloc::{AllocError, Global};
@@ -95,14 +95,9 @@ impl Log {
     }
 
     /// Plays a line, counts its answer, and puts it in the place of the one before.
-    fn play<P: Performer>(
-        &mut self,
-        performer: &P,
-        player: &mut Player,
-        line: &[u8],
-    ) -> Result<(), Halt> {
+    fn play(&mut self, player: &mut Player, line: &[u8]) -> Result<(), Halt> {
         self.answer.clear();
-        let answer = player.play(performer, line)?;
+        let answer = player.play(&ThisThread, line)?;
         self.counts.count(&answer);
         match answer.write_text(self.alloc, player.schema(), &mut self.answer) {
             Ok(()) => Ok(()),
@@ -136,14 +131,8 @@ impl Log {
     }
 
     /// Plays a line, and says what it came to.
-    fn line<P: Performer>(
-        &mut self,
-        performer: &P,
-        player: &mut Player,
-        number: u64,
-        line: &[u8],
-    ) -> Result<(), KeptLineFault> {
-        if let Err(halt) = self.play(performer, player, line) {
+    fn line(&mut self, player: &mut Player, number: u64, line: &[u8]) -> Result<(), KeptLineFault> {
+        if let Err(halt) = self.play(player, line) {
             return Err(KeptLineFault::Halted(number, halt));
         }
         if self.write_entry(number, line).is_err() {
@@ -156,15 +145,14 @@ impl Log {
     }
 
     /// Plays a line, and writes what it came to.
-    fn write_line<P: Performer, W: Write>(
+    fn write_line<W: Write>(
         &mut self,
-        performer: &P,
         player: &mut Player,
         number: u64,
         line: &[u8],
         writer: &mut W,
     ) -> Result<(), KeptLineFault> {
-        self.line(performer, player, number, line)?;
+        self.line(player, number, line)?;
         match writer.write_all(self.entry.as_bytes()) {
             Ok(()) => Ok(()),
             Err(_) => Err(KeptLineFault::Unwritten),
@@ -173,8 +161,7 @@ impl Log {
 }
 
 /// Plays the lines of a text, and writes what they came to. It gives how many calls came to what.
-fn write_lines<P: Performer, W: Write>(
-    performer: &P,
+fn write_lines<W: Write>(
     alloc: Global,
     player: &mut Player,
     text: &[u8],
@@ -182,32 +169,32 @@ fn write_lines<P: Performer, W: Write>(
 ) -> Result<LogCounts, KeptLineFault> {
     let mut log = Log::new(alloc);
     let mut rest = text;
-    'lines: for number in 1..u64::MAX {
-        if rest.is_empty() {
-            return Ok(log.counts);
-        }
+    let mut number = 0u64;
+    'lines: while !rest.is_empty() {
         let (line, more) = first_line(rest);
         rest = more;
-        match log.write_line(performer, player, number, line, writer) {
+        number += 1;
+        match log.write_line(player, number, line, writer) {
             Ok(()) => {}
             Err(fault) => return Err(fault),
         }
     }
-    Err(KeptLineFault::TooLong)
+    Ok(log.counts)
 }
 
-/// Plays the lines of a text from a new player on, and writes for each its number, whose call it is, what it says, and
-/// the first line of its answer. It gives how many calls came to what. It costs what the lines cost in a script.
+/// Plays the lines of a text from a new player with these settings on, which has no lock, and writes for each its number,
+/// whose call it is, what it says, and the first line of its answer. It gives how many calls came to what. It costs what
+/// the lines cost in a script.
 ///
 /// Refused: `Halted` for want of memory, and `Unwritten`. The entries of the lines before are written then.
-pub fn write_log<P: Performer, W: Write>(
-    performer: &P,
+pub fn write_log<W: Write>(
     alloc: Global,
+    settings: PlayerSettings,
     text: &[u8],
     writer: &mut W,
 ) -> Result<LogCounts, KeptLineFault> {
-    let mut player = Player::new(alloc);
-    let written = write_lines(performer, alloc, &mut player, text, writer);
+    let mut player = Player::alone(alloc, settings);
+    let written = write_lines(alloc, &mut player, text, writer);
     player.close();
     written
 }

@@ -1,8 +1,9 @@
 //! Lines that are played again.
-ghost use Rattle.std.specs.Prelude.{◌≡◌, OnOk};
+ghost use Rattle.std.specs.Prelude.{◌≡◌, ℕ, Some, length, IfErr, IfOk, MatchOption, OnOk};
 ghost use Rattle.std.specs.Str.Lines.{lines};
-ghost use Rattle.scene_player.specs.Player.{player_of, player_reply};
+ghost use Rattle.scene_player.specs.Player.{halted, player_of, player_reply};
 ghost use Rattle.scene_shell.specs.Shell.{player_after};
+ghost use Rattle.scene_kept.specs.Replayed.{IsPlayedAs, NoneIsBad, StopsBy};
 
 use crate::fault::KeptLineFault;
 use scene_hand::Performer;
@@ -27,17 +28,21 @@ impl Note for Unnoted {
     }
 }
 
-/// Plays a line that was kept, which is given without its line break, and puts its answer in the place of the one
-/// before.
-fn play_kept_line<P: Performer>(
+/// Notes a line, plays it, and puts its answer in the place of the one before.
+fn play_kept_line<P: Performer, N: Note>(
     performer: &P,
+    alloc: Global,
     player: &mut Player,
+    notes: &mut N,
     number: u64,
     line: &[u8],
     answer: &mut String,
 ) -> Result<(), KeptLineFault>
-    ensures { OnOk result (player_of player.new ≡ (player_reply (player_of player.old) line.now).player) }
+    ensures { IsPlayedAs (player_of player.old) (player_of player.new) number line.now result }
 {
+    if notes.note(alloc, player.schema(), line).is_err() {
+        return Err(KeptLineFault::Halted(number, Halt::Before));
+    }
     answer.clear();
     match player.line(performer, line, answer) {
         Ok(None) => Ok(()),
@@ -46,45 +51,49 @@ fn play_kept_line<P: Performer>(
     }
 }
 
-/// Notes each line of a text, and plays it.
+/// Notes each line of a text, and plays it. It gives how many lines there were.
 pub(crate) fn play_noted<P: Performer, N: Note>(
     performer: &P,
     alloc: Global,
     player: &mut Player,
     notes: &mut N,
     text: &[u8],
-) -> Result<(), KeptLineFault>
-    ensures { OnOk result (player_of player.new ≡ player_after (player_of player.old) (lines text.now)) }
+) -> Result<u64, KeptLineFault>
+    ensures played { OnOk result (player_of player.new ≡ player_after (player_of player.old) (lines text.now)) }
+    ensures good { OnOk result (NoneIsBad (player_of player.old) (lines text.now)) }
+    ensures count { IfOk result (λ count. count ≡ length (lines text.now)) }
+    ensures stopped { IfErr result (StopsBy (player_of player.old) (player_of player.new) (lines text.now)) }
 {
     let mut rest = text;
+    let mut number = 0u64;
     let mut answer = String::new(alloc);
-    'lines: for number in 1..u64::MAX {
-        if rest.is_empty() {
-            return Ok(());
-        }
+    'lines: while !rest.is_empty() {
         let (line, more) = first_line(rest);
         rest = more;
-        if notes.note(alloc, player.schema(), line).is_err() {
-            return Err(KeptLineFault::Halted(number, Halt::Before));
-        }
-        match play_kept_line(performer, player, number, line, &mut answer) {
+        number += 1;
+        match play_kept_line(performer, alloc, player, notes, number, line, &mut answer) {
             Ok(()) => {}
             Err(fault) => return Err(fault),
         }
     }
-    Err(KeptLineFault::TooLong)
+    Ok(number)
 }
 
-/// Plays the lines of a text, whose answers aren't asked for. It costs what the lines cost in a script.
+/// Plays the lines of a text, whose answers aren't asked for. It costs what the lines cost in a script, and gives how many
+/// lines there were.
 ///
-/// Refused: `Bad` at a line that is bad, and `Halted` for want of memory. The lines before are played then.
+/// Refused: `Bad` at the first line that is bad, which is played, and changes nothing; and `Halted` for want of memory, as
+/// the line itself says it. The lines before are played then, and none of them is bad.
 pub fn replay<P: Performer>(
     performer: &P,
     alloc: Global,
     player: &mut Player,
     text: &[u8],
-) -> Result<(), KeptLineFault>
-    ensures { OnOk result (player_of player.new ≡ player_after (player_of player.old) (lines text.now)) }
+) -> Result<u64, KeptLineFault>
+    ensures played { OnOk result (player_of player.new ≡ player_after (player_of player.old) (lines text.now)) }
+    ensures good { OnOk result (NoneIsBad (player_of player.old) (lines text.now)) }
+    ensures count { IfOk result (λ count. count ≡ length (lines text.now)) }
+    ensures stopped { IfErr result (StopsBy (player_of player.old) (player_of player.new) (lines text.now)) }
 {
     play_noted(performer, alloc, player, &mut Unnoted, text)
 }

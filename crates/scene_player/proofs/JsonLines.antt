@@ -1,7 +1,12 @@
 -- A line that asks the state for a text, as JSON.
 use Rattle.std.proofs.Common.{◌≡◌, ℕ, List, ◌++◌, Option, Some, None, Result, Ok, Err, IfOk, IfErr, OnOk, refl, sym, ap, ◌∙◌, subst}
-use Rattle.std.specs.Prelude.{is_some, if◌then◌else◌}
+use Rattle.std.specs.Prelude.{is_some, if◌then◌else◌, option_map, reverse}
+use Rattle.scene_file.specs.Saving.{save_editor_of, save_of}
+use Rattle.scene_forms.specs.declared.fault.FileFault.{FileFault}
 use Rattle.scene_hand.specs.Hand.{whole_at}
+use Rattle.scene_kinds.specs.Schema.{Kinds}
+use Rattle.scene_kinds.specs.declared.cells.Row.{Row}
+use Rattle.scene_model.specs.World.{row_of}
 use Rattle.scene_script.specs.declared.bad_line.BadLine.{BadLine}
 use Rattle.scene_script.specs.declared.script_line.Line.{Line}
 use Rattle.scene_script.specs.declared.script_line.Line.TheVariants.{Show, Get, Dump, DumpAll}
@@ -13,18 +18,37 @@ use Rattle.scene_player.specs.JsonAnswer.{json_line}
 use Rattle.scene_player.specs.JsonLine.{AddsJson, IsAnsweredAsJson, asked_in, question_of}
 use Rattle.scene_player.specs.JsonQuestion.{asked_json}
 use Rattle.scene_player.specs.OpenFrame.{Opened}
-use Rattle.scene_player.specs.Play.{SetupState, first_state, reply_within, said_reply, setup_kinds, setup_said}
+use Rattle.scene_player.specs.Play.{SetupState, first_state, lone_reply, now, reply_within, row_said, said_reply, saved_said, setup_kinds, setup_said}
 use Rattle.scene_player.specs.Player.{Player, Setting, Playing, begun, halted, hand_of, player_reply, set_or_begun}
+use Rattle.scene_player.specs.Said.{bad_in}
+
+-- what a world is asked for is no bad line
+row_good : (kinds : Kinds) (o : Option Row) → bad_in (row_said kinds o) ≡ None
+row_good kinds None = refl
+row_good kinds (Some row) = refl
+
+saved_good : (saved : Result (List ℕ) FileFault) → bad_in (saved_said saved) ≡ None
+saved_good (Ok text) = refl
+saved_good (Err fault) = refl
 
 -- where no frame is open, a line that asks is no bad line, and leaves the state
 abbrev Leaves : PlayState → Result Line BadLine → Type 0
-Leaves s said = ((said_reply s said).bad ≡ None) × ((said_reply s said).state ≡ s)
+Leaves s said = (bad_in (said_reply s said).said ≡ None) × ((said_reply s said).state ≡ s)
+
+-- so it does by its reply outside a frame
+asking_alone : (s : PlayState) (line : Line) → s.frame ≡ None → bad_in (lone_reply s line).said ≡ None → (lone_reply s line).state ≡ s
+    → Leaves s (Ok line)
+asking_alone s line none good same =
+    (ap (λ f. bad_in (reply_within s line f).said) none ∙ good, ap (λ f. (reply_within s line f).state) none ∙ same)
 
 asking : (s : PlayState) (said : Result Line BadLine) (q : StateJson) → question_of said ≡ Some q → s.frame ≡ None → Leaves s said
-asking s (Ok Show) q is none = (ap (λ f. (reply_within s Show f).bad) none, ap (λ f. (reply_within s Show f).state) none)
-asking s (Ok (Get e)) q is none = (ap (λ f. (reply_within s (Get e) f).bad) none, ap (λ f. (reply_within s (Get e) f).state) none)
-asking s (Ok Dump) q is none = (ap (λ f. (reply_within s Dump f).bad) none, ap (λ f. (reply_within s Dump f).state) none)
-asking s (Ok DumpAll) q is none = (ap (λ f. (reply_within s DumpAll f).bad) none, ap (λ f. (reply_within s DumpAll f).state) none)
+asking s (Ok Show) q is none = asking_alone s Show none refl refl
+asking s (Ok (Get e)) q is none =
+    asking_alone s (Get e) none (row_good (now s).schema (option_map (λ p. p.1) (row_of (now s) e))) refl
+asking s (Ok Dump) q is none = asking_alone s Dump none (saved_good (save_of (now s))) refl
+asking s (Ok DumpAll) q is none =
+    let w = whole_at s.hand in
+    asking_alone s DumpAll none (saved_good (save_editor_of w.machine.now (reverse w.past) w.future)) refl
 asking s said q is none = absurd (cc is)
 
 -- it ends the setup

@@ -8,16 +8,31 @@ use Rattle.scene_player.specs.declared.halt.Halt.{Halt}
 use Rattle.scene_player.specs.declared.halt.Halt.TheVariants.{Begun}
 use Rattle.scene_player.specs.declared.play_state.PlayState.{PlayState}
 use Rattle.scene_player.specs.declared.setup_line.SetupAnswer.TheVariants.{Given, Ends}
-use Rattle.scene_player.specs.Answer.{Says}
-use Rattle.scene_player.specs.Play.{SetupReply, SetupState, first_state, said_reply, setup_said}
-use Rattle.scene_player.specs.Player.{HaltsSetup, Player, Setting, Playing, Tells, halted, player_said, set_or_begun}
+use Rattle.scene_player.specs.Answer.{Says, said_of}
+use Rattle.scene_player.specs.Play.{Reply, SetupReply, SetupState, first_state, said_reply, setup_kinds, setup_said}
+use Rattle.scene_player.specs.Player.{HaltsSetup, Player, Setting, Playing, Tells, halted, played, player_said, set_or_begun}
+use Rattle.scene_player.specs.Said.{bad_in, said_text}
 use Rattle.scene_player.specs.Setup.{AnswersSetup}
+
+-- an answer behind the setup
+pub told : (answer : Answer) (state : PlayState) (r : Reply) → Says answer state r → Tells answer (Playing state) (played r)
+told answer state r says = (
+  says.0,
+  ap Playing says.1,
+  ap (λ (s : PlayState). said_text s.schema (said_of answer)) says.1 ∙ ap (said_text r.state.schema) says.0,
+  ap bad_in says.0,
+)
 
 -- a line of a setup that was answered
 given_by : (s t : SetupState) (said : Result Line BadLine) (answer : Answer) (o : Option SetupReply)
     → AnswersSetup s t said o (Given answer) → Tells answer (Setting t) (set_or_begun s said o)
 given_by s t said answer None h = absurd h
-given_by s t said answer (Some r) h = (h.0, h.1, ap Setting h.2)
+given_by s t said answer (Some r) h = (
+  h.0,
+  ap Setting h.1,
+  ap (λ (u : SetupState). said_text (setup_kinds u) (said_of answer)) h.1 ∙ ap (said_text (setup_kinds r.setup)) h.0,
+  ap bad_in h.0,
+)
 
 pub given : (z : Player) (s t : SetupState) (said : Result Line BadLine) (answer : Answer)
     → z ≡ Setting s → AnswersSetup s t said (setup_said s said) (Given answer) → Tells answer (Setting t) (player_said z said)
@@ -41,9 +56,10 @@ begins : (z : Player) (s t : SetupState) (said : Result Line BadLine) (line : Li
 begins z s t said line answer state is h says =
     let b = back s t said line (setup_said s said) h in
     let same = ap (λ (w : SetupState). said_reply (first_state w) (Ok line)) b.2 ∙ ap (λ (q : Result Line BadLine). said_reply (first_state s) q) (sym b.1) in
-    let told : Tells answer (Playing state) (set_or_begun s said None) = (says.0 ∙ ap (λ r. r.text) same, says.1 ∙ ap (λ r. r.bad) same, ap Playing (says.2 ∙ ap (λ r. r.state) same)) in
+    let tells : Tells answer (Playing state) (set_or_begun s said None) =
+    told answer state (said_reply (first_state s) said) (says.0 ∙ ap (λ r. r.said) same, says.1 ∙ ap (λ r. r.state) same) in
     subst (λ (y : Player). Tells answer (Playing state) (player_said y said)) (sym is)
-    (subst (λ (o : Option SetupReply). Tells answer (Playing state) (set_or_begun s said o)) (sym b.0) told)
+    (subst (λ (o : Option SetupReply). Tells answer (Playing state) (set_or_begun s said o)) (sym b.0) tells)
 
 -- a line that ends the setup, and is answered behind it or finds no memory there
 pub ends : {E : Type 0} (z : Player) (s t : SetupState) (said : Result Line BadLine) (line : Line) (state : PlayState)

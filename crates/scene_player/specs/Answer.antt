@@ -1,34 +1,26 @@
--- What the answer to a line says.
-use Rattle.std.specs.Prelude.{◌≡◌, ℕ, List, [], Option, Some, None, codes, string_bytes}
-use Rattle.scene_kinds.specs.Schema.{Kinds}
-use Rattle.scene_script.specs.declared.bad_line.BadLine.{BadLine}
+-- What the answer to a line means.
+use Rattle.std.specs.Prelude.{◌≡◌, string_bytes}
 use Rattle.scene_session.specs.Calls.{told}
-use Rattle.scene_show.specs.Listed.{listed_text}
 use Rattle.scene_player.specs.declared.answer.Answer.{Answer}
-use Rattle.scene_player.specs.declared.answer.Answer.TheVariants.{Nothing, Taken, Queued, Replied, Fault, Marked, Counted, Text, Changed, Added, Bad}
+use Rattle.scene_player.specs.declared.answer.Answer.TheVariants as code
 use Rattle.scene_player.specs.declared.play_state.PlayState.{PlayState}
-use Rattle.scene_player.specs.FileFaultText.{file_fault_text}
-use Rattle.scene_player.specs.Play.{Reply, answer_text, history_text, mark_text}
+use Rattle.scene_player.specs.Play.{Reply}
+use Rattle.scene_player.specs.Said.{Said, Nothing, Taken, Queued, Called, Fault, Marked, Counted, Text, Changed, Added, Bad}
 
--- the text of an answer, where these are the kinds
-abbrev pub said_text : Kinds → Answer → List ℕ
-said_text kinds Nothing = []
-said_text kinds Taken = codes "ok\n"
-said_text kinds Queued = codes "queued\n"
-said_text kinds (Replied reply) = answer_text (told reply)
-said_text kinds (Fault fault) = file_fault_text fault
-said_text kinds (Marked cursor) = mark_text cursor
-said_text kinds (Counted count) = history_text count
-said_text kinds (Text text) = string_bytes text
-said_text kinds (Changed cells) = listed_text (codes "changed") kinds cells.items
-said_text kinds (Added cells) = listed_text (codes "added") kinds cells.items
-said_text kinds (Bad reason) = codes "bad line\n"
-
--- why a line is bad, where that is its answer
-abbrev pub bad_of : Answer → Option BadLine
-bad_of (Bad reason) = Some reason
-bad_of answer = None
+-- the answer of the code, without the room of its lists
+abbrev pub said_of : Answer → Said
+said_of code.Nothing = Nothing
+said_of code.Taken = Taken
+said_of code.Queued = Queued
+said_of (code.Replied reply) = Called (told reply)
+said_of (code.Fault fault) = Fault fault
+said_of (code.Marked cursor) = Marked cursor
+said_of (code.Counted count) = Counted count
+said_of (code.Text text) = Text (string_bytes text)
+said_of (code.Changed cells) = Changed cells.items
+said_of (code.Added cells) = Added cells.items
+said_of (code.Bad reason) = Bad reason
 
 -- an answer is that of a reply, and the state is the one after it
 abbrev pub Says : Answer → PlayState → Reply → Type 0
-Says answer after r = (said_text after.schema answer ≡ r.text) × (bad_of answer ≡ r.bad) × (after ≡ r.state)
+Says answer after r = (said_of answer ≡ r.said) × (after ≡ r.state)

@@ -1,17 +1,16 @@
 -- What the answer to a line says as JSON (docs/SHELL.md, "JSON").
-use Rattle.std.specs.Prelude.{ℕ, List, [], ◌∷◌, ◌++◌, codes, string_bytes}
+use Rattle.std.specs.Prelude.{ℕ, List, [], ◌∷◌, ◌++◌, codes}
 use Rattle.serde_json.specs.Data.{Data, string}
 use Rattle.serde_json.specs.Written.{compact_text}
 use Rattle.scene_kinds.specs.declared.entity.Entity.{Entity}
 use Rattle.scene_kinds.specs.Schema.{Kinds}
 use Rattle.scene_forms.specs.Text.{count_text, entity_json, list_text}
-use Rattle.scene_session.specs.Calls.{Answer as Reply, Done, Undone, Redone, Refused, told}
+use Rattle.scene_session.specs.Calls.{Answer, Done, Undone, Redone, Refused}
 use Rattle.scene_show_json.specs.Objects.{answer_of}
 use Rattle.scene_show_json.specs.Shown.{listed_answer}
 use Rattle.scene_show_json.specs.Told.{file_fault_json, refused_json}
 use Rattle.scene_undo.specs.declared.cursor.Cursor.{Cursor}
-use Rattle.scene_player.specs.declared.answer.Answer.{Answer}
-use Rattle.scene_player.specs.declared.answer.Answer.TheVariants.{Nothing, Taken, Queued, Replied, Fault, Marked, Counted, Text, Changed, Added, Bad}
+use Rattle.scene_player.specs.Said.{Said, Nothing, Taken, Queued, Called, Fault, Marked, Counted, Text, Changed, Added, Bad}
 
 -- an answer that says nothing but what it is
 abbrev pub word_json : List ℕ → Data
@@ -22,7 +21,7 @@ abbrev pub made_json : List Entity → Data
 made_json es = answer_of (codes "done") ((codes "entities", list_text entity_json es) ∷ [])
 
 -- what a call came to
-abbrev pub reply_json : Reply → Data
+abbrev pub reply_json : Answer → Data
 reply_json (Done es) = made_json es
 reply_json Undone = word_json (codes "undone")
 reply_json Redone = word_json (codes "redone")
@@ -44,18 +43,18 @@ plain_json text = answer_of (codes "text") ((codes "text", string text) ∷ [])
 abbrev pub bad_json : List ℕ → Data
 bad_json words = answer_of (codes "bad") ((codes "reason", string words) ∷ [])
 
--- an answer, where these are the kinds, and these words say why the line is bad where it is
-abbrev pub answer_json : Kinds → List ℕ → Answer → Data
+-- an answer by its meaning, where these are the kinds, and these words say why the line is bad where it is
+abbrev pub answer_json : Kinds → List ℕ → Said → Data
 answer_json kinds words Nothing = word_json (codes "nothing")
 answer_json kinds words Taken = word_json (codes "ok")
 answer_json kinds words Queued = word_json (codes "queued")
-answer_json kinds words (Replied reply) = reply_json (told reply)
+answer_json kinds words (Called answer) = reply_json answer
 answer_json kinds words (Fault fault) = file_fault_json fault
 answer_json kinds words (Marked cursor) = mark_json cursor
 answer_json kinds words (Counted count) = history_json count
-answer_json kinds words (Text text) = plain_json (string_bytes text)
-answer_json kinds words (Changed cells) = listed_answer (codes "changed") kinds cells.items
-answer_json kinds words (Added cells) = listed_answer (codes "added") kinds cells.items
+answer_json kinds words (Text text) = plain_json text
+answer_json kinds words (Changed cells) = listed_answer (codes "changed") kinds cells
+answer_json kinds words (Added cells) = listed_answer (codes "added") kinds cells
 answer_json kinds words (Bad reason) = bad_json words
 
 -- a value as a line: its compact text and a line feed (10)
@@ -63,5 +62,5 @@ abbrev pub json_line : Data → List ℕ
 json_line d = compact_text d ++ 10 ∷ []
 
 -- the line of an answer
-abbrev pub json_text : Kinds → List ℕ → Answer → List ℕ
-json_text kinds words answer = json_line (answer_json kinds words answer)
+abbrev pub json_text : Kinds → List ℕ → Said → List ℕ
+json_text kinds words said = json_line (answer_json kinds words said)

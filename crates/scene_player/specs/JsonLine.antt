@@ -5,13 +5,12 @@ use Rattle.scene_script.specs.declared.bad_line.BadLine.{BadLine}
 use Rattle.scene_script.specs.declared.script_line.Line.{Line}
 use Rattle.scene_script.specs.declared.script_line.Line.TheVariants as line
 use Rattle.scene_script.specs.Script.{line_in}
-use Rattle.scene_player.specs.declared.answer.Answer.{Answer}
 use Rattle.scene_player.specs.declared.json_question.StateJson.{StateJson}
 use Rattle.scene_player.specs.declared.json_question.StateJson.TheVariants.{Show, Get, Dump, DumpAll}
 use Rattle.scene_player.specs.Changes.{frame_is_open}
 use Rattle.scene_player.specs.JsonAnswer.{json_line, json_text}
 use Rattle.scene_player.specs.JsonQuestion.{asked_json}
-use Rattle.scene_player.specs.Player.{Player, Tells, hand_of, player_kinds, player_reply}
+use Rattle.scene_player.specs.Player.{Player, hand_of, player_kinds, player_reply}
 
 -- a line that asks for a text of the state
 abbrev pub question_of : Result Line BadLine → Option StateJson
@@ -25,12 +24,11 @@ question_of said = None
 abbrev pub asked_in : Player → List ℕ → Option StateJson
 asked_in z bytes = if frame_is_open z then None else question_of (line_in (player_kinds z) bytes)
 
--- a line of JSON was added: what the state is asked for; or else that of an answer that says just what the reply to the line says
+-- a line of JSON was added: what the state is asked for; or else that of what the reply to the line means
 abbrev pub AddsJson : (old new : List ℕ) → (before after : Player) → List ℕ → Option StateJson → Type 0
 AddsJson old new before after bytes (Some asked) = new ≡ old ++ json_line (asked_json asked (whole_at (hand_of before)))
 AddsJson old new before after bytes None =
-    (answer : Answer) × (words : List ℕ) × Tells answer after (player_reply before bytes)
-    × (new ≡ old ++ json_text (player_kinds after) words answer)
+    (words : List ℕ) × (new ≡ old ++ json_text (player_kinds after) words (player_reply before bytes).said)
 
 -- a line of JSON was added, and the player and why the line is bad are those of the reply
 abbrev pub IsAnsweredAsJson : (old new : List ℕ) → (before after : Player) → List ℕ → Option BadLine → Type 0

@@ -4,9 +4,11 @@ pub mod FileFaultText
 pub mod JsonAnswer
 pub mod JsonLine
 pub mod JsonQuestion
+pub mod LockAlike
 pub mod OpenFrame
 pub mod Phases
 pub mod Play
 pub mod Player
 pub mod Questions
+pub mod Said
 pub mod Setup

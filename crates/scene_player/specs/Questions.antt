@@ -1,13 +1,13 @@
--- The texts of a world that the lines of a script ask for.
-use Rattle.std.specs.Prelude.{ℕ, List}
+-- What the lines of a script ask of a world, and what they are answered with.
 use Rattle.scene_model.specs.World.{World}
 use Rattle.scene_show.specs.Shown.{show_text}
 use Rattle.scene_player.specs.declared.question.WorldText.{WorldText}
 use Rattle.scene_player.specs.declared.question.WorldText.TheVariants.{Show, Get, Dump}
-use Rattle.scene_player.specs.Play.{get_text, dump_text}
+use Rattle.scene_player.specs.Play.{dump_said, get_said}
+use Rattle.scene_player.specs.Said.{Said, Text}
 
--- the text that a question asks of a world
-abbrev pub asked_text : WorldText → World → List ℕ
-asked_text Show w = show_text w
-asked_text (Get e) w = get_text w e
-asked_text Dump w = dump_text w
+-- what a world is asked for
+abbrev pub asked_said : WorldText → World → Said
+asked_said Show w = Text (show_text w)
+asked_said (Get e) w = get_said w e
+asked_said Dump w = dump_said w

@@ -5,8 +5,8 @@ ghost use Rattle.scene_kinds.specs.Answers.{refusal_of};
 ghost use Rattle.scene_kinds.specs.declared.fault.Fault.TheVariants.{NoMemory};
 ghost use Rattle.scene_session.specs.Calls.{told};
 ghost use Rattle.scene_session.specs.declared.call.Reply.TheVariants.{Refused};
-ghost use Rattle.scene_player.specs.Answer.{bad_of, said_text};
-ghost use Rattle.scene_player.specs.Play.{answer_text, made_text, refused_text};
+ghost use Rattle.scene_player.specs.Answer.{said_of};
+ghost use Rattle.scene_player.specs.Said.{answer_text, bad_in, made_text, refused_text, said_text};
 ghost use Rattle.scene_player.specs.declared.answer.Answer.TheVariants.{Fault as SaysFault, Replied};
 
 use crate::file_fault_text::write_file_fault;
@@ -19,7 +19,8 @@ use scene_show::{write_entities, write_listed};
 use scene_undo::Cursor;
 use std::alloc::{AllocError, Global};
 
-/// What a line is answered with (docs/SCRIPTS.md, "Lines"). `write_text` says it as a script does.
+/// What a line is answered with (docs/SCRIPTS.md, "Lines"). `write_text` says it as a script does. Contracts see what it means:
+/// `said_of` in `specs/Answer.antt`.
 #[derive(Drop)]
 pub enum Answer {
     /// Nothing: the line is empty or a comment.
@@ -30,12 +31,12 @@ pub enum Answer {
     Queued,
     /// A call came to this, or something was refused before a call was made.
     Replied(Reply),
-    /// A scene text wasn't loaded.
+    /// A scene text wasn't loaded or saved.
     Fault(FileFault),
     /// The cursor of now.
     Marked(Cursor),
     /// How many calls there were.
-    Counted(usize),
+    Counted(u64),
     /// A text of the world, or of all that the editor keeps, by whole lines.
     Text(String),
     /// The cells that were changed since the mark.
@@ -107,7 +108,7 @@ impl Answer {
         schema: &Schema,
         out: &mut String,
     ) -> Result<(), AllocError>
-        ensures { OnOk result (string_bytes out.new ≡ string_bytes out.old ++ said_text schema.now self.now) }
+        ensures { OnOk result (string_bytes out.new ≡ string_bytes out.old ++ said_text schema.now (said_of self.now)) }
     {
         match self {
             Answer::Nothing => Ok(()),
@@ -128,7 +129,7 @@ impl Answer {
 
     /// Why the line is bad, where it is.
     pub fn into_bad_line(self) -> Option<BadLine>
-        ensures { result ≡ bad_of self }
+        ensures { result ≡ bad_in (said_of self) }
     {
         match self {
             Answer::Bad(reason) => Some(reason),

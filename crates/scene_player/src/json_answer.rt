@@ -2,6 +2,7 @@
 ghost use Rattle.std.specs.Prelude.{◌≡◌, ◌++◌, ℕ, List, OnOk, string_bytes};
 ghost use Rattle.serde_json.specs.Written.{compact_text};
 ghost use Rattle.scene_session.specs.Calls.{told};
+ghost use Rattle.scene_player.specs.Answer.{said_of};
 ghost use Rattle.scene_player.specs.JsonAnswer.{answer_json, bad_json, history_json, json_text, made_json, mark_json, plain_json, reply_json};
 
 use crate::answer::Answer;
@@ -47,7 +48,7 @@ fn write_mark(out: &mut String, cursor: Cursor) -> Result<(), AllocError>
 }
 
 /// Adds how many calls there were.
-fn write_history(out: &mut String, count: usize) -> Result<(), AllocError>
+fn write_history(out: &mut String, count: u64) -> Result<(), AllocError>
     ensures { OnOk result (string_bytes out.new ≡ string_bytes out.old ++ compact_text (history_json count)) }
 {
     Ok(write!(out, "{{\"answer\":\"history\",\"calls\":{count}}}")?)
@@ -89,7 +90,7 @@ impl Answer {
         words: &str,
         out: &mut String,
     ) -> Result<(), AllocError>
-        ensures { OnOk result (string_bytes out.new ≡ string_bytes out.old ++ compact_text (answer_json schema.now words.now self.now)) }
+        ensures { OnOk result (string_bytes out.new ≡ string_bytes out.old ++ compact_text (answer_json schema.now words.now (said_of self.now))) }
     {
         match self {
             Answer::Nothing => out.push_str("{\"answer\":\"nothing\"}"),
@@ -119,7 +120,7 @@ impl Answer {
         out: &mut String,
     ) -> Result<(), AllocError>
         ensures { OnOk result ((words : List ℕ)
-            × (string_bytes out.new ≡ string_bytes out.old ++ json_text schema.now words self.now)) }
+            × (string_bytes out.new ≡ string_bytes out.old ++ json_text schema.now words (said_of self.now))) }
     {
         let words = self.bad_words(alloc)?;
         self.write_object(alloc, schema, words.as_str(), out)?;

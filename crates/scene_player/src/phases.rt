@@ -84,6 +84,13 @@ impl Phases {
         self.list = Vec::new(self.alloc);
     }
 
+    /// The phases, first to last.
+    pub(crate) fn as_slice(&self) -> &[Phase]
+        ensures { result.now ≡ self.now }
+    {
+        self.list.as_slice()
+    }
+
     /// The schedule that the phases make for worlds with this schema. The phases stay.
     ///
     /// Refused: `BadRule`, `Conflict` and `NoMemory`, as a schedule is.

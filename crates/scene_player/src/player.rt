@@ -1,12 +1,12 @@
 //! The player: the lines of a script one at a time.
-ghost use Rattle.std.specs.Prelude.{◌≡◌, ◌≢◌, Ok, Err, IfOk, IfErr, IfSome, MatchResult, OnErr, OnOk, string_bytes};
+ghost use Rattle.std.specs.Prelude.{◌≡◌, ◌≢◌, Ok, Err, IfOk, IfErr, IfNone, IfSome, MatchResult, OnErr, OnOk, string_bytes};
 ghost use Rattle.scene_hand.specs.Hand.{whole_at};
 ghost use Rattle.scene_script.specs.Script.{line_in};
 ghost use Rattle.scene_session.specs.Whole.{whole_of};
 ghost use Rattle.scene_player.specs.Answer.{Says};
 ghost use Rattle.scene_player.specs.Changes.{changes, frame_is_open};
 ghost use Rattle.scene_player.specs.Play.{first_state, said_reply};
-ghost use Rattle.scene_player.specs.Player.{HaltsSetup, IsAnswered, Player as Reached, Playing, Tells, begun, first_player, halted, hand_of, limited_player, player_kinds, player_of, player_reply, player_said};
+ghost use Rattle.scene_player.specs.Player.{HaltsSetup, HasNoEditor, IsAnswered, Player as Reached, Playing, Tells, begun, first_player, halted, hand_of, lone_player, player_kinds, player_of, player_reply, player_said, systems_of, without_frame};
 ghost use Rattle.scene_player.specs.Setup.{setup_of};
 ghost use Rattle.scene_player.specs.declared.halt.Halt.TheVariants.{After, Begun};
 
@@ -14,12 +14,14 @@ use crate::answer::Answer;
 use crate::changes::{changes_setup, changes_state};
 use crate::halt::Halt;
 use crate::play_state::PlayState;
-use crate::setup::Setup;
+use crate::settings::PlayerSettings;
+use crate::setup::{Calls, Setup};
 use crate::setup_line::{SetupAnswer, answer_setup};
 use crate::state_line::answer;
 use scene_hand::{Hand, Performer};
 use scene_kinds::Schema;
-use scene_script::{BadLine, Limit, Line, LineError, read_line};
+use scene_rules::Phase;
+use scene_script::{BadLine, Line, LineError, read_line};
 use scene_undo::Editor;
 use std::alloc::{AllocError, Global};
 use std::mem;
@@ -91,27 +93,22 @@ impl Player {
     pub fn new(alloc: Global) -> Player
         ensures { player_of result ≡ first_player }
     {
-        Player::with_depth(alloc, Limit::most())
-    }
-
-    /// The same of which so many frames can be undone, as if the line `depth` had said so. It takes no memory.
-    pub fn with_depth(alloc: Global, depth: Limit) -> Player
-        ensures { player_of result ≡ limited_player depth }
-    {
-        let mut setup = Setup::new(alloc);
-        setup.depth = depth;
         Player {
             alloc,
-            stage: Stage::Setting(setup),
+            stage: Stage::Setting(Setup::new(alloc)),
         }
     }
 
-    /// The player before its first line, whose sessions will have no lock: `ThisThread` performs its lines. It takes no memory.
-    pub fn alone(alloc: Global) -> Player
-        ensures { player_of result ≡ first_player }
+    /// The player before its first line, whose sessions will have no lock, with these limits: `ThisThread` performs its lines. What
+    /// they are answered with doesn't depend on the lock (`a_lock_changes_no_answer`). Its calls are only counted, and so may be
+    /// more than a lock keeps. It takes no memory.
+    pub fn alone(alloc: Global, settings: PlayerSettings) -> Player
+        ensures { player_of result ≡ lone_player settings.depth settings.calls }
     {
+        let PlayerSettings { depth, calls } = settings;
         let mut setup = Setup::new(alloc);
-        setup.is_alone = true;
+        setup.depth = depth;
+        setup.calls = Calls::Counted(calls);
         Player {
             alloc,
             stage: Stage::Setting(setup),
@@ -135,6 +132,49 @@ impl Player {
         match &self.stage {
             Stage::Setting(_) => false,
             Stage::Playing(state) => state.frame.is_some(),
+        }
+    }
+
+    /// The systems that the lines so far have given, phase by phase (docs/SCRIPTS.md, "Systems"). In the setup there are none. It
+    /// takes no memory.
+    pub fn systems(&self) -> &[Phase]
+        ensures { result.now ≡ systems_of (player_of self.now) }
+    {
+        match &self.stage {
+            Stage::Setting(_) => &[],
+            Stage::Playing(state) => state.phases.as_slice(),
+        }
+    }
+
+    /// The session whose turn it is, 0 to 7; in the setup 0. It takes no memory.
+    pub fn session(&self) -> u32
+        ensures { result ≡ (hand_of (player_of self.now)).session }
+    {
+        match &self.stage {
+            Stage::Setting(_) => 0,
+            Stage::Playing(state) => state.hand.session(),
+        }
+    }
+
+    /// How many calls there may be, those included that were made. It takes no memory.
+    pub fn call_limit(&self) -> u64
+        ensures { result ≡ (hand_of (player_of self.now)).limit }
+    {
+        match &self.stage {
+            Stage::Setting(setup) => setup.calls.limit(),
+            Stage::Playing(state) => state.hand.limit(),
+        }
+    }
+
+    /// Drops the frame that is open, with its commands, and makes no call. It says whether there was one; all else stays. It takes
+    /// no memory.
+    pub fn drop_frame(&mut self) -> bool
+        ensures open { result ≡ frame_is_open (player_of self.old) }
+        ensures dropped { player_of self.new ≡ without_frame (player_of self.old) }
+    {
+        match &mut self.stage {
+            Stage::Setting(_) => false,
+            Stage::Playing(state) => state.frame.take().is_some(),
         }
     }
 
@@ -186,6 +226,7 @@ impl Player {
     /// is read. `player_said` is its meaning, of which that of `play` is a case.
     ///
     /// Halted as `play` is.
+    #[tactic(auto, using(crate::proofs::PlayerLaws::told))]
     #[inline(always)]
     pub fn play_said<P: Performer>(
         &mut self,
@@ -271,10 +312,11 @@ impl Player {
         }
     }
 
-    /// The editor behind the setup of a player that is alone, to read without a copy. `None` in the setup, and where a lock is
+    /// The editor behind the setup of a player that is alone, to read without a copy. `None` only in the setup, and where a lock is
     /// over the editor. It takes no memory.
     pub fn editor(&self) -> Option<&Editor>
-        ensures { IfSome result (λ editor. whole_of editor.now ≡ whole_at (hand_of (player_of self.now))) }
+        ensures editor { IfSome result (λ editor. whole_of editor.now ≡ whole_at (hand_of (player_of self.now))) }
+        ensures missing { IfNone result (HasNoEditor (player_of self.now)) }
     {
         match &self.stage {
             Stage::Setting(_) => None,

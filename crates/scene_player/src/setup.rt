@@ -1,8 +1,8 @@
 //! What the setup of a script has come to.
-ghost use Rattle.std.specs.Prelude.{◌≡◌, IfErr, IfOk};
+ghost use Rattle.std.specs.Prelude.{◌≡◌, ◌≤◌, IfErr, IfOk};
 ghost use Rattle.scene_player.specs.Play.{first_editor, first_hand, first_setup, first_state, setup_kinds};
 ghost use Rattle.scene_player.specs.Player.{HaltsSetup};
-ghost use Rattle.scene_player.specs.Setup.{base_of, setup_of, without_base};
+ghost use Rattle.scene_player.specs.Setup.{are_counted, base_of, call_limit_of, setup_of, without_base};
 
 use crate::halt::Halt;
 use crate::play_state::PlayState;
@@ -42,27 +42,57 @@ impl Base {
     }
 }
 
+/// How many calls there may be.
+#[derive(Drop)]
+pub(crate) enum Calls {
+    /// So many, each of which is kept: the run begins with a lock.
+    Kept(Limit),
+    /// So many, and at least one. They are only counted: the run begins with an editor that has no lock.
+    Counted(u64),
+}
+
+impl Calls {
+    /// The greatest number of calls.
+    pub(crate) fn limit(&self) -> u64
+        ensures limit { result ≡ call_limit_of self.now }
+        ensures some { 1 ≤ result }
+    {
+        match self {
+            Calls::Kept(limit) => u64::from(limit.get()),
+            Calls::Counted(limit) => (*limit).max(1),
+        }
+    }
+
+    /// Sets the greatest number of calls. They are kept, or only counted, as they were.
+    pub(crate) fn set(&mut self, limit: Limit)
+        ensures limit { call_limit_of self.new ≡ limit }
+        ensures same { are_counted self.new ≡ are_counted self.old }
+    {
+        *self = match self {
+            Calls::Kept(_) => Calls::Kept(limit),
+            Calls::Counted(_) => Calls::Counted(u64::from(limit.get())),
+        };
+    }
+}
+
 /// The setup of a script between two lines (docs/SCRIPTS.md, "Setup"), with the number of calls that there may be, and of
 /// frames that can be undone.
 #[derive(Drop)]
 pub(crate) struct Setup {
     pub(crate) base: Base,
-    pub(crate) calls: Limit,
+    pub(crate) calls: Calls,
     pub(crate) depth: Limit,
-    /// Whether the run begins with an editor that has no lock.
-    pub(crate) is_alone: bool,
 }
 
 impl Setup {
-    /// The setup before the first line: no kinds, and the greatest limits. It takes no memory.
+    /// The setup before the first line: no kinds, the greatest limits, and a lock. It takes no memory.
     pub(crate) fn new(alloc: Global) -> Self
         ensures { setup_of result ≡ first_setup }
     {
         Setup {
             base: Base::Declared(Schema::new(alloc), Limit::most()),
-            calls: Limit::most(),
+            calls: Calls::Kept(Limit::most()),
             depth: Limit::most(),
-            is_alone: false,
         }
     }
 
@@ -86,11 +116,10 @@ impl Setup {
             Base::Declared(Schema::new(alloc), Limit::most()),
         );
         let editor = base.into_editor(alloc, self.depth.get());
-        let calls = self.calls.get();
-        if self.is_alone {
-            return Ok(Hand::alone(editor, calls));
+        match &self.calls {
+            Calls::Kept(limit) => Hand::new(alloc, editor, limit.get()),
+            Calls::Counted(_) => Ok(Hand::alone(editor, self.calls.limit())),
         }
-        Hand::new(alloc, editor, calls)
     }
 
     /// The state in which the run begins. It leaves a setup without kinds.

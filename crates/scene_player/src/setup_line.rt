@@ -74,7 +74,7 @@ fn answer_load(alloc: Global, setup: &mut Setup, text: &str) -> Result<Answer, A
 fn answer_calls(setup: &mut Setup, calls: Limit) -> Answer
     ensures { SetupSays result (setup_of setup.new) (calls_reply (setup_of setup.old) calls) }
 {
-    setup.calls = calls;
+    setup.calls.set(calls);
     Answer::Taken
 }
 

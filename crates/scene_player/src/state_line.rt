@@ -5,7 +5,7 @@ ghost use Rattle.scene_session.specs.Calls.{Submit, asked, queue_count};
 ghost use Rattle.scene_player.specs.Answer.{Says};
 ghost use Rattle.scene_player.specs.OpenFrame.{alone};
 ghost use Rattle.scene_player.specs.Play.{call_reply, line_reply, lone_reply, now, query_reply, said_reply};
-ghost use Rattle.scene_player.specs.Questions.{asked_text};
+ghost use Rattle.scene_player.specs.Questions.{asked_said};
 
 use crate::answer::{Answer, refused};
 use crate::frame_line::answer_in_frame;
@@ -98,18 +98,18 @@ fn answer_as(state: &mut PlayState, session: SessionNumber) -> Answer
     Answer::Taken
 }
 
-/// A text of the world.
+/// What is asked of the world.
 fn answer_world<P: Performer>(
     performer: &P,
     alloc: Global,
     state: &mut PlayState,
     asked: WorldText,
 ) -> Result<Answer, AllocError>
-    ensures answer { IfOk result (λ answer. Says answer state.new (query_reply state.old (asked_text asked (now state.old)))) }
+    ensures answer { IfOk result (λ answer. Says answer state.new (query_reply state.old (asked_said asked (now state.old)))) }
     ensures same { OnErr result (state.new ≡ state.old) }
 {
     match performer.ask(alloc, &mut state.hand, &asked) {
-        Some(text) => Ok(Answer::Text(text?)),
+        Some(answer) => answer,
         None => Err(AllocError),
     }
 }
@@ -124,7 +124,7 @@ fn answer_dumpall<P: Performer>(
     ensures same { OnErr result (state.new ≡ state.old) }
 {
     match performer.ask(alloc, &mut state.hand, &EditorText) {
-        Some(text) => Ok(Answer::Text(text?)),
+        Some(answer) => answer,
         None => Err(AllocError),
     }
 }
@@ -133,7 +133,7 @@ fn answer_dumpall<P: Performer>(
 fn answer_history(state: &PlayState) -> Answer
     ensures { Says result state.now (lone_reply state.now History) }
 {
-    Answer::Counted(state.hand.call_count() as usize)
+    Answer::Counted(state.hand.call_count())
 }
 
 /// `mark`.

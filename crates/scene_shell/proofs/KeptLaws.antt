@@ -1,10 +1,13 @@
 -- How far a shell that keeps its lines has come.
-use Rattle.std.proofs.Common.{◌≡◌, ◌≢◌, ℕ, ◌+◌, ◌<◌, List, [], ◌∷◌, ◌++◌, Bool, true, false, cond, Option, Some, None, Result, Ok, Err, IfSome, is_some, if◌then◌else◌, length, arith, refl, sym, ap, subst, ◌∙◌, append_assoc, append-nil}
+use Rattle.std.proofs.Common.{◌≡◌, ◌≢◌, ℕ, ◌+◌, ◌-◌, ◌^◌, ◌≤◌, ◌<◌, List, [], ◌∷◌, ◌++◌, Bool, true, false, cond, Option, Some, None, Result, Ok, Err, IfSome, is_some, if◌then◌else◌, length, length-append, take, drop, take-append-drop, eqb, arith, refl, sym, ap, subst, ◌∙◌, append_assoc, append-nil}
+use Rattle.std.specs.Io.{StopsAt}
 use Rattle.std.specs.Io.BufRead.{DropsThrough, drop_through, take_through}
-use Rattle.std.specs.Io.KnownBytes.{Appends, Keeps}
+use Rattle.std.specs.Io.KnownBytes.{Appends, Consumes, Keeps}
 use Rattle.std.specs.Str.Lines.{lines}
-use Rattle.std.proofs.BufReadLemmas.{take_through-nil, take_through_nonempty}
+use Rattle.std.proofs.BufReadLemmas.{take_through-append, take_through-nil, take_through_nonempty}
 use Rattle.std.proofs.KnownBytes.{Appends-nil, Appends-kept, Appends-trans}
+use Rattle.std.proofs.lemmas.List.{length-drop, nil_from_length}
+use Rattle.std.proofs.lemmas.List.Elements.{All-nil}
 use Rattle.std.proofs.lemmas.List.Sums.{fold-append}
 use Rattle.scene_app.specs.declared.fault.AppFault.{AppFault}
 use Rattle.scene_app.specs.declared.fault.AppFault.TheVariants.{NoMemory, ReadFault, WriteFault, TooLong}
@@ -12,8 +15,9 @@ use Rattle.scene_player.specs.Player.{Player, player_reply}
 use Rattle.scene_player.specs.Changes.{frame_is_open}
 use Rattle.scene_shell.specs.declared.kept_fault.KeptFault.{KeptFault}
 use Rattle.scene_shell.specs.declared.kept_fault.KeptFault.TheVariants.{Ended, Keep}
-use Rattle.scene_shell.specs.Shell.{AddsAnswer, HasAnswered, HasSaid, AnswerStyle, IsSaid, bad_count, player_after}
-use Rattle.scene_shell.specs.Kept.{Comes, EndsAs, EndsBy, FailsToSettle, Grows, HasCome, HasComeSomewhere, HasKept, HasSettled, IsAllSettled, IsBad, IsPlayed, Keeping, LeadsTo, StopsAt, is_write_fault, begun, behind, kept_after, kept_line, kept_of, noted, released}
+use Rattle.scene_shell.specs.Shell.{AddsAnswer, Answers, AnswerStyle, HasSaid, IsSaid, Parts, Stops, StopsWith, bad_count, player_after}
+use Rattle.scene_shell.specs.Kept.{Continues, EndsAs, Grows, IsSettled, Keeping, MaySend, StaysKept, StopsBy, behind, kept_after, kept_line, kept_of, noted, released, starting}
+use Rattle.scene_shell.specs.Waits.{FailsToSettle, HasCome, IsBad, IsPlayed, IsStop, IsUnread, LeadsTo, MaySettle}
 use Rattle.scene_shell.proofs.Lines.{first_line_of}
 
 released_behind : (b : Bool) (p : Player) (t due held : List ℕ)
@@ -61,316 +65,379 @@ kept_player k (l ∷ ls) =
     let r = player_reply k.player l in
     kept_player (kept_line k l) ls ∙ ap (λ p. player_after p ls) (released_player (frame_is_open r.player) r.player k.due (noted k.player l k.held))
 
-module _ {K : Type 0} (keeps : K → List ℕ → Type 0) (style : AnswerStyle) (script : List ℕ) (old : Option (List ℕ)) (kept : K) (first : Player) where
-  abbrev Come : List ℕ → Option (List ℕ) → K → Keeping → List ℕ → ℕ → Type 0
-  Come rest new keeper now answers count = HasCome keeps style script rest old new kept keeper first now answers count
+-- ---- the reader
+
+-- no byte is a part of a line
+pub stops_none : StopsAt [] 10
+stops_none = All-nil (λ x. x ≢ 10)
+
+-- before the first line
+parts_first : (script : Option (List ℕ)) → Parts script script [] []
+parts_first None = tt
+parts_first (Some s) = refl
+
+short_whole : (xs : List ℕ) → length xs ≤ 1 → take_through 10 xs ≡ xs
+short_whole [] few = refl
+short_whole (x ∷ []) few = one (eqb x 10)
+  where
+    one : (b : Bool) → cond b (x ∷ []) (x ∷ []) ≡ x ∷ []
+    one true = refl
+    one false = refl
+short_whole (x ∷ y ∷ xs) few = absurd (omega (arith, few))
+
+-- what was read of a line has no line feed but at its end
+stops_whole : (xs : List ℕ) → StopsAt xs 10 → take_through 10 xs ≡ xs
+stops_whole xs stops =
+    let n = length xs - 1 in
+    let parts : take n xs ++ drop n xs ≡ xs = take-append-drop n xs in
+    let few : length (drop n xs) ≤ 1 = omega (arith, length-drop n xs) in
+    ap (take_through 10) (sym parts) ∙ take_through-append 10 (take n xs) (drop n xs) stops ∙ ap (λ ys. take n xs ++ ys) (short_whole (drop n xs) few) ∙ parts
+
+-- a line that was read goes behind the others
+parts_line : (script rest more : Option (List ℕ)) (ls : List (List ℕ)) (line l : List ℕ) → lines line ≡ l ∷ []
+    → Parts script rest ls [] → IfSome rest (λ r. line ≡ take_through 10 r) → DropsThrough rest more 10 → 0 < length line
+    → Parts script more (ls ++ l ∷ []) []
+parts_line None rest more ls line l is parted taken left some = tt
+parts_line (Some s) None more ls line l is parted taken left some = absurd parted
+parts_line (Some s) (Some r) more ls line l is parted taken left some =
+    let it = first_line_of r (take_through_nonempty 10 r (subst (λ t. 0 < length t) taken some)) in
+    let one : it.0 ∷ [] ≡ l ∷ [] = sym it.1.0 ∙ ap lines (sym taken) ∙ is in
+    subst (λ m. Parts (Some s) m (ls ++ l ∷ []) []) (sym left)
+    (parted ∙ ap (λ x. ls ++ x) it.1.1 ∙ sym (append_assoc ls (it.0 ∷ []) (lines (drop_through 10 r))) ∙ ap (λ x. (ls ++ x) ++ lines (drop_through 10 r)) one)
+
+-- and one that isn't played stands before the rest
+parts_unplayed : (script rest more : Option (List ℕ)) (ls : List (List ℕ)) (line : List ℕ)
+    → Parts script rest ls [] → Consumes rest more line → Parts script more ls line
+parts_unplayed None rest more ls line parted taken = tt
+parts_unplayed (Some s) None more ls line parted taken = absurd parted
+parts_unplayed (Some s) (Some r) None ls line parted taken = absurd taken
+parts_unplayed (Some s) (Some r) (Some m) ls line parted taken = parted ∙ ap (λ x. ls ++ lines x) taken
+
+-- nothing is left at the end
+rest_ended : (script rest more : Option (List ℕ)) (ls : List (List ℕ)) (line : List ℕ) → length line ≡ 0
+    → Parts script rest ls [] → IfSome rest (λ r. line ≡ take_through 10 r) → DropsThrough rest more 10
+    → IfSome script (λ _. more ≡ Some [])
+rest_ended None rest more ls line none parted taken left = tt
+rest_ended (Some s) None more ls line none parted taken left = absurd parted
+rest_ended (Some s) (Some r) more ls line none parted taken left =
+    left ∙ ap (λ x. Some (drop_through 10 x)) (take_through-nil 10 r (sym (ap length taken) ∙ none))
+
+-- then all lines were played
+parts_all : (script rest : Option (List ℕ)) (ls : List (List ℕ)) → IfSome script (λ _. rest ≡ Some []) → Parts script rest ls [] → IfSome script (λ s. lines s ≡ ls)
+parts_all None rest ls ended parted = tt
+parts_all (Some s) rest ls ended parted = let so : Parts (Some s) (Some []) ls [] = subst (λ r. Parts (Some s) r ls []) ended parted in so ∙ append-nil ls
+
+-- the first lines of all
+parts_front : (script rest : Option (List ℕ)) (front next : List (List ℕ)) (last : List ℕ) → Parts script rest (front ++ next) last
+    → (others : List (List ℕ)) × IfSome script (λ s. lines s ≡ front ++ others)
+parts_front None rest front next last parted = ([], tt)
+parts_front (Some s) None front next last parted = absurd parted
+parts_front (Some s) (Some r) front next last parted = (next ++ lines (last ++ r), parted ∙ append_assoc front next (lines (last ++ r)))
+
+-- ---- what was written and kept
+
+pub Grows-trans : {K : Type 0} (keeps : K → List ℕ → Type 0) (a b c : K) (x y z : List ℕ) → z ≡ x ++ y → Grows keeps a b x → Grows keeps b c y → Grows keeps a c z
+Grows-trans keeps a b c x y z is first next text has =
+    subst (keeps c) (append_assoc text x y ∙ ap (λ t. text ++ t) (sym is)) (next (text ++ x) (first text has))
+
+Grows-stays : {K : Type 0} (keeps : K → List ℕ → Type 0) (a b c : K) (x : List ℕ) → Grows keeps a b x → StaysKept keeps b c → Grows keeps a c x
+Grows-stays keeps a b c x first stays text has = stays (text ++ x) (first text has)
+
+module _ {K : Type 0} (keeps : K → List ℕ → Type 0) (contents : K → Option (List ℕ)) (begun : K → K → Player → AnswerStyle → Type 0)
+    (style : AnswerStyle) (first : Player) (start : K) (script : Option (List ℕ)) where
+  abbrev Come : K → Option (List ℕ) → List ℕ → Keeping → List ℕ → ℕ → ℕ → Type 0
+  Come now rest last keeping answers count number = HasCome keeps contents begun style first start now script rest last keeping answers count number
+
+  -- before the first line
+  pub comes_first : (due held answers : List ℕ) → due ≡ [] → held ≡ [] → answers ≡ [] → begun start start first style
+      → Come start script [] (record { player = first; due = due; held = held }) answers 0 1
+  comes_first due held answers none unheld nothing is_of =
+      subst (λ d. Come start script [] (record { player = first; due = d; held = held }) answers 0 1) (sym none)
+      (subst (λ h. Come start script [] (record { player = first; due = []; held = h }) answers 0 1) (sym unheld)
+      (subst (λ t. Come start script [] (starting first) t 0 1) (sym nothing) record {
+        is_of = is_of;
+        front = [];
+        next = [];
+        parted = parts_first script;
+        said = [];
+        is_said = refl;
+        written = Appends-nil (contents start);
+        grown = λ text has. subst (keeps start) (sym (append-nil text)) has;
+        waits = refl;
+        reached = refl;
+        counted = refl;
+        numbered = refl;
+      }))
 
   -- the player is that of the lines so far
-  player_now : (front next : List (List ℕ)) (now : Keeping) → kept_after (begun first) (front ++ next) ≡ behind (kept_of first front) now → player_after (player_after first front) next ≡ now.player
-  player_now front next now reached = sym (after_append first front next) ∙ sym (kept_player (begun first) (front ++ next)) ∙ ap (λ (k : Keeping). k.player) reached
+  player_now : (front next : List (List ℕ)) (keeping : Keeping) → kept_after (starting first) (front ++ next) ≡ behind (kept_of first front) keeping
+      → player_after (player_after first front) next ≡ keeping.player
+  player_now front next keeping reached =
+      sym (after_append first front next) ∙ sym (kept_player (starting first) (front ++ next)) ∙ ap (λ (k : Keeping). k.player) reached
 
-  -- a line that is read, played and noted
-  come_line : (l rest more : List ℕ) (new : Option (List ℕ)) (keeper : K) (now : Keeping) (answers : List ℕ) (count : ℕ) → lines rest ≡ l ∷ lines more
-      → (said : List ℕ) → AddsAnswer style now.player l answers said
-      → Come rest new keeper now answers count
-      → Come more new keeper (kept_line now l) said (count + (if is_some (player_reply now.player l).bad then 1 else 0))
-  come_line l rest more new keeper now answers count first_is said adds so =
+  -- a line that is played and noted
+  come_line : (l : List ℕ) (now : K) (rest more : Option (List ℕ)) (keeping : Keeping) (answers said : List ℕ) (count number : ℕ)
+      → AddsAnswer style keeping.player l answers said
+      → (so : Come now rest [] keeping answers count number) → Parts script more ((so.front ++ so.next) ++ l ∷ []) []
+      → Come now more [] (kept_line keeping l) said (count + (if is_some (player_reply keeping.player l).bad then 1 else 0)) (number + 1)
+  come_line l now rest more keeping answers said count number adds so parted =
       let next = so.next ++ l ∷ [] in
-      let player = player_now so.front so.next now so.reached in
+      let player = player_now so.front so.next keeping so.reached in
       let all : so.front ++ next ≡ (so.front ++ so.next) ++ l ∷ [] = sym (append_assoc so.front so.next (l ∷ [])) in
-      let bad = (if is_some (player_reply now.player l).bad then 1 else 0) in
+      let bad : ℕ = (if is_some (player_reply keeping.player l).bad then 1 else 0) in
       record {
+        is_of = so.is_of;
         front = so.front;
         next = next;
-        parted = so.parted ∙ ap (λ ls. (so.front ++ so.next) ++ ls) first_is ∙ sym (append_assoc (so.front ++ so.next) (l ∷ []) (lines more)) ∙ ap (λ ls. ls ++ lines more) (sym all);
+        parted = subst (λ ls. Parts script more ls []) (sym all) parted;
         written = so.written;
         grown = so.grown;
         said = so.said;
         is_said = so.is_said;
         waits =
-            let one : IsSaid style now.player (l ∷ []) adds.0 = (adds.0, [], adds.1, refl, sym (append-nil adds.0)) in
+            let one : IsSaid style keeping.player (l ∷ []) adds.0 = (adds.0, [], adds.1, refl, sym (append-nil adds.0)) in
             subst (IsSaid style (player_after first so.front) next) (sym adds.2)
             (said_append style (player_after first so.front) so.next (l ∷ []) answers adds.0 so.waits (subst (λ p. IsSaid style p (l ∷ []) adds.0) (sym player) one));
-        reached = ap (kept_after (begun first)) all ∙ fold-append kept_line (begun first) (so.front ++ so.next) (l ∷ []) ∙ ap (λ k. kept_line k l) so.reached ∙ line_behind (kept_of first so.front) now l;
+        reached =
+            ap (kept_after (starting first)) all ∙ fold-append kept_line (starting first) (so.front ++ so.next) (l ∷ []) ∙ ap (λ k. kept_line k l) so.reached
+            ∙ line_behind (kept_of first so.front) keeping l;
         counted =
-            let before : player_after first (so.front ++ so.next) ≡ now.player = after_append first so.front so.next ∙ player in
-            let more_bad : bad_count first (so.front ++ next) ≡ bad_count first (so.front ++ so.next) + bad_count now.player (l ∷ []) =
+            let before : player_after first (so.front ++ so.next) ≡ keeping.player = after_append first so.front so.next ∙ player in
+            let more_bad : bad_count first (so.front ++ next) ≡ bad_count first (so.front ++ so.next) + bad_count keeping.player (l ∷ []) =
             ap (bad_count first) all ∙ bad_append first (so.front ++ so.next) (l ∷ []) ∙ ap (λ p. bad_count first (so.front ++ so.next) + bad_count p (l ∷ [])) before in
             let is : count + bad ≡ bad_count first (so.front ++ so.next) + (bad + 0) = omega (arith, so.counted) in
             is ∙ sym more_bad;
+        numbered =
+            let longer : length (so.front ++ next) ≡ length (so.front ++ so.next) + 1 = ap length all ∙ length-append (so.front ++ so.next) (l ∷ []) in
+            omega (arith, so.numbered, longer);
+      }
+
+  -- a line of a reader that is read, played and noted
+  pub comes_line : (now : K) (rest more : Option (List ℕ)) (keeping next : Keeping) (answers said : List ℕ) (count bad number : ℕ) (line : List ℕ)
+      → Come now rest [] keeping answers count number
+      → IfSome rest (λ r. line ≡ take_through 10 r) → DropsThrough rest more 10 → StopsAt line 10 → 0 < length line
+      → IsPlayed style line keeping next answers said → IsBad line keeping.player bad
+      → Come now more [] next said (count + bad) (number + 1)
+  comes_line now rest more keeping next answers said count bad number line so taken left part some played is_bad =
+      let it = first_line_of line some in
+      let l = it.0 in
+      let one : lines line ≡ l ∷ [] = ap lines (sym (stops_whole line part)) ∙ it.1.0 in
+      let did = played l [] one in
+      let come = come_line l now rest more keeping answers said count number did.1 so (parts_line script rest more (so.front ++ so.next) line l one so.parted taken left some) in
+      subst (λ n. Come now more [] next said (count + n) (number + 1)) (sym (is_bad l [] one))
+      (subst (λ k. Come now more [] k said (count + (if is_some (player_reply keeping.player l).bad then 1 else 0)) (number + 1)) (sym did.0) come)
+
+  -- one that isn't played
+  come_unplayed : (now : K) (rest more : Option (List ℕ)) (line : List ℕ) (keeping : Keeping) (answers said : List ℕ) (count number : ℕ)
+      → Come now rest [] keeping answers count number → Consumes rest more line → said ≡ answers → Come now more line keeping said count number
+  come_unplayed now rest more line keeping answers said count number so taken unsaid =
+      subst (λ t. Come now more line keeping t count number) (sym unsaid) record {
+        is_of = so.is_of;
+        front = so.front;
+        next = so.next;
+        parted = parts_unplayed script rest more (so.front ++ so.next) line so.parted taken;
+        said = so.said;
+        is_said = so.is_said;
+        written = so.written;
+        grown = so.grown;
+        waits = so.waits;
+        reached = so.reached;
+        counted = so.counted;
+        numbered = so.numbered;
       }
 
   -- what waited is kept and written
-  come_settled : (rest : List ℕ) (mid new : Option (List ℕ)) (before keeper : K) (now : Keeping) (answers : List ℕ) (count : ℕ)
-      → Come rest mid before now answers count → Grows keeps before keeper now.due → Appends mid new answers
-      → Come rest new keeper (record now { due = [] }) [] count
-  come_settled rest mid new before keeper now answers count so grew wrote =
+  come_settled : (now later : K) (rest : Option (List ℕ)) (last : List ℕ) (keeping : Keeping) (answers : List ℕ) (count number : ℕ)
+      → Come now rest last keeping answers count number → Grows keeps now later keeping.due → Appends (contents now) (contents later) answers
+      → Continues begun now later
+      → Come later rest last (record keeping { due = [] }) [] count number
+  come_settled now later rest last keeping answers count number so grew wrote goes_on =
       let all = so.front ++ so.next in
       let none : all ++ [] ≡ all = append-nil all in
-      let due : kept_of first all ≡ kept_of first so.front ++ now.due = ap (λ (k : Keeping). k.due) so.reached in
+      let due : kept_of first all ≡ kept_of first so.front ++ keeping.due = ap (λ (k : Keeping). k.due) so.reached in
       record {
+        is_of = goes_on start first style so.is_of;
         front = all;
         next = [];
-        parted = so.parted ∙ ap (λ ls. ls ++ lines rest) (sym none);
+        parted = subst (λ ls. Parts script rest ls last) (sym none) so.parted;
         said = so.said ++ answers;
         is_said = said_append style first so.front so.next so.said answers so.is_said so.waits;
-        written = Appends-trans old mid new so.said answers so.written wrote;
-        grown = λ text has. subst (keeps keeper) (append_assoc text (kept_of first so.front) now.due ∙ ap (λ t. text ++ t) (sym due)) (grew (text ++ kept_of first so.front) (so.grown text has));
+        written = Appends-trans (contents start) (contents now) (contents later) so.said answers so.written wrote;
+        grown = Grows-trans keeps start now later (kept_of first so.front) keeping.due (kept_of first all) due so.grown grew;
         waits = refl;
-        reached = ap (kept_after (begun first)) none ∙ so.reached ∙ ap (λ d. record now { due = d }) (sym due ∙ sym (append-nil (kept_of first all)));
+        reached = ap (kept_after (starting first)) none ∙ so.reached ∙ ap (λ d. record keeping { due = d }) (sym due ∙ sym (append-nil (kept_of first all)));
         counted = so.counted ∙ ap (bad_count first) (sym none);
+        numbered = so.numbered ∙ ap (λ ls. length ls + 1) (sym none);
       }
 
--- ---- how it ends
+  -- the same by its parts
+  pub comes_on : (now later : K) (rest : Option (List ℕ)) (last : List ℕ) (p : Player) (due held answers d h t : List ℕ) (count number : ℕ)
+      → Grows keeps now later due → Appends (contents now) (contents later) answers → Continues begun now later → d ≡ [] → h ≡ held → t ≡ []
+      → Come now rest last (record { player = p; due = due; held = held }) answers count number
+      → Come later rest last (record { player = p; due = d; held = h }) t count number
+  comes_on now later rest last p due held answers d h t count number grew wrote goes_on none same nothing so =
+      subst (λ x. Come later rest last (record { player = p; due = x; held = h }) t count number) (sym none)
+      (subst (λ x. Come later rest last (record { player = p; due = []; held = x }) t count number) (sym same)
+      (subst (λ x. Come later rest last (record { player = p; due = []; held = held }) x count number) (sym nothing)
+      (come_settled now later rest last (record { player = p; due = due; held = held }) answers count number so grew wrote goes_on)))
 
-module _ {K : Type 0} (keeps : K → List ℕ → Type 0) (style : AnswerStyle) (script : List ℕ) (old : Option (List ℕ)) (kept : K) (first : Player) where
-  -- what waited is neither kept nor sent
-  come_answered : (rest : List ℕ) (mid new : Option (List ℕ)) (keeper : K) (now : Keeping) (answers : List ℕ) (count : ℕ)
-      → HasCome keeps style script rest old mid kept keeper first now answers count → Keeps mid new → HasAnswered style first script old new
-  come_answered rest mid new keeper now answers count so same =
-      (so.front, so.next ++ lines rest, so.parted ∙ append_assoc so.front so.next (lines rest), (so.said, so.is_said, Appends-kept old mid new so.said so.written same))
-
-  -- what waited is kept, whatever was sent
-  come_kept : (rest : List ℕ) (new : Option (List ℕ)) (before keeper : K) (now : Keeping) (answers : List ℕ) (count : ℕ)
-      → HasCome keeps style script rest old new kept before first now answers count → Grows keeps before keeper now.due → HasKept keeps script kept keeper first
-  come_kept rest new before keeper now answers count so grew =
-      let due : kept_of first (so.front ++ so.next) ≡ kept_of first so.front ++ now.due = ap (λ (k : Keeping). k.due) so.reached in (
-        so.front ++ so.next,
-        lines rest,
-        so.parted,
-        λ text has. subst (keeps keeper) (append_assoc text (kept_of first so.front) now.due ∙ ap (λ t. text ++ t) (sym due)) (grew (text ++ kept_of first so.front) (so.grown text has)),
-      )
-
-  -- nothing of what waited is
-  come_kept_before : (rest : List ℕ) (new : Option (List ℕ)) (keeper : K) (now : Keeping) (answers : List ℕ) (count : ℕ)
-      → HasCome keeps style script rest old new kept keeper first now answers count → HasKept keeps script kept keeper first
-  come_kept_before rest new keeper now answers count so =
-      (so.front, so.next ++ lines rest, so.parted ∙ append_assoc so.front so.next (lines rest), so.grown)
-
-  -- a stream or the memory stops it
-  pub come_stops : (fault : AppFault) (rest : List ℕ) (new : Option (List ℕ)) (keeper : K) (now : Keeping) (due answers : List ℕ) (count : ℕ)
-      → HasCome keeps style script rest old new kept keeper first now answers count → now.due ≡ due
-      → StopsAt keeps style script old new kept keeper first due answers fault
-  come_stops WriteFault rest new keeper now due answers count so is = come_kept_before rest new keeper now answers count so
-  come_stops NoMemory rest new keeper now due answers count so is = (rest, count, (now, is, so))
-  come_stops ReadFault rest new keeper now due answers count so is = (rest, count, (now, is, so))
-  come_stops TooLong rest new keeper now due answers count so is = (rest, count, (now, is, so))
-
-  -- what waited wasn't settled
-  come_fails : {F : Type 0} (fault : KeptFault F) (rest : List ℕ) (mid new : Option (List ℕ)) (before keeper : K) (now : Keeping) (due answers : List ℕ) (count : ℕ)
-      → HasCome keeps style script rest old mid kept before first now answers count → now.due ≡ due
-      → FailsToSettle keeps before keeper due mid new fault
-      → EndsAs keeps style script old new kept keeper first (Err fault)
-  come_fails (Ended WriteFault) rest mid new before keeper now due answers count so is fails =
-      come_kept rest mid before keeper now answers count so (subst (Grows keeps before keeper) (sym is) fails.1)
-  come_fails (Ended NoMemory) rest mid new before keeper now due answers count so is fails = absurd (let e = fails.0 in cc)
-  come_fails (Ended ReadFault) rest mid new before keeper now due answers count so is fails = absurd (let e = fails.0 in cc)
-  come_fails (Ended TooLong) rest mid new before keeper now due answers count so is fails = absurd (let e = fails.0 in cc)
-  come_fails (Keep fault) rest mid new before keeper now due answers count so is fails = come_answered rest mid new before now answers count so fails
-
-  -- where it fails in the midst, it leads there at once
-  fails_there : {F : Type 0} (fault : KeptFault F) (new : Option (List ℕ)) (keeper : K) (due answers : List ℕ) (rest : List ℕ) (mid : Option (List ℕ)) (before : K) (now : Keeping)
-      (waited : List ℕ) (count : ℕ)
-      → HasCome keeps style script rest old mid kept before first now waited count
-      → FailsToSettle keeps before keeper now.due mid new fault
-      → LeadsTo keeps style script old new kept keeper first due answers (Err fault)
-  fails_there (Ended WriteFault) new keeper due answers rest mid before now waited count so fails =
-      come_kept rest mid before keeper now waited count so fails.1
-  fails_there (Ended NoMemory) new keeper due answers rest mid before now waited count so fails = absurd (let e = fails.0 in cc)
-  fails_there (Ended ReadFault) new keeper due answers rest mid before now waited count so fails = absurd (let e = fails.0 in cc)
-  fails_there (Ended TooLong) new keeper due answers rest mid before now waited count so fails = absurd (let e = fails.0 in cc)
-  fails_there (Keep fault) new keeper due answers rest mid before now waited count so fails = come_answered rest mid new before now waited count so fails
-
-  -- nothing is left, and what waited is settled
-  come_to_end : (mid new : Option (List ℕ)) (before keeper : K) (now : Keeping) (answers : List ℕ) (count : ℕ)
-      → HasCome keeps style script [] old mid kept before first now answers count → Grows keeps before keeper now.due → Appends mid new answers
-      → IsAllSettled keeps style script old new kept keeper first × (count ≡ bad_count first (lines script))
-  unfolding come_settled
-  come_to_end mid new before keeper now answers count so grew wrote =
-      let done = come_settled keeps style script old kept first [] mid new before keeper now answers count so grew wrote in
-      let all : lines script ≡ done.front = done.parted ∙ append-nil (done.front ++ []) ∙ append-nil done.front in (
-        ((done.said, subst (λ ls. IsSaid style first ls done.said) (sym all) done.is_said, done.written), subst (λ ls. Grows keeps kept keeper (kept_of first ls)) (sym all) done.grown),
-        done.counted ∙ ap (bad_count first) (append-nil done.front ∙ sym all),
-      )
-
-  some_after : (mid new : Option (List ℕ)) (before keeper : K) (due answers : List ℕ) → Grows keeps before keeper due → Appends mid new answers
-      → HasComeSomewhere keeps style script old mid kept before first due answers → HasSettled keeps style script old new kept keeper first
-  some_after mid new before keeper due answers grew wrote so =
-      let done = come_settled keeps style script old kept first so.0 mid new before keeper so.2.0 answers so.1 so.2.2 (subst (Grows keeps before keeper) (sym so.2.1) grew) wrote in
-      (done.front, done.next ++ lines so.0, done.parted ∙ append_assoc done.front done.next (lines so.0), (done.said, done.is_said, done.written), done.grown)
-
-  settled_stop : (fault : AppFault) (mid new : Option (List ℕ)) (before keeper : K) (due answers : List ℕ)
-      → Grows keeps before keeper due → Appends mid new answers → fault ≢ WriteFault
-      → StopsAt keeps style script old mid kept before first due answers fault → EndsBy keeps style script old new kept keeper first fault
-  settled_stop WriteFault mid new before keeper due answers grew wrote other so = absurd (other refl)
-  settled_stop NoMemory mid new before keeper due answers grew wrote other so = some_after mid new before keeper due answers grew wrote so
-  settled_stop ReadFault mid new before keeper due answers grew wrote other so = some_after mid new before keeper due answers grew wrote so
-  settled_stop TooLong mid new before keeper due answers grew wrote other so = some_after mid new before keeper due answers grew wrote so
-
-  failed_stop : {F : Type 0} (fault : KeptFault F) (first_fault : AppFault) (mid new : Option (List ℕ)) (before keeper : K) (due answers : List ℕ)
-      → FailsToSettle keeps before keeper due mid new fault → first_fault ≢ WriteFault
-      → StopsAt keeps style script old mid kept before first due answers first_fault → EndsAs keeps style script old new kept keeper first (Err fault)
-  failed_stop fault WriteFault mid new before keeper due answers fails other so = absurd (other refl)
-  failed_stop fault NoMemory mid new before keeper due answers fails other so = come_fails fault so.0 mid new before keeper so.2.0 due answers so.1 so.2.2 so.2.1 fails
-  failed_stop fault ReadFault mid new before keeper due answers fails other so = come_fails fault so.0 mid new before keeper so.2.0 due answers so.1 so.2.2 so.2.1 fails
-  failed_stop fault TooLong mid new before keeper due answers fails other so = come_fails fault so.0 mid new before keeper so.2.0 due answers so.1 so.2.2 so.2.1 fails
-
-module _ {K F : Type 0} (keeps : K → List ℕ → Type 0) (style : AnswerStyle) (script : List ℕ) (old : Option (List ℕ)) (kept : K) (first : Player) where
-  -- what waited behind the last line is settled
-  pub ends_settled : (played : Result ℕ (KeptFault F)) (mid new : Option (List ℕ)) (before keeper : K) (due answers : List ℕ)
-      → ((fault : F) → played ≢ Err (Keep fault)) → played ≢ Err (Ended WriteFault)
-      → Grows keeps before keeper due → Appends mid new answers
-      → LeadsTo keeps style script old mid kept before first due answers played → EndsAs keeps style script old new kept keeper first played
-  ends_settled (Ok count) mid new before keeper due answers none other grew wrote so =
-      come_to_end keeps style script old kept first mid new before keeper so.0 answers count so.2 (subst (Grows keeps before keeper) (sym so.1) grew) wrote
-  ends_settled (Err (Ended fault)) mid new before keeper due answers none other grew wrote so =
-      settled_stop keeps style script old kept first fault mid new before keeper due answers grew wrote (λ e. other (ap (λ f. Err (Ended f)) e)) so
-  ends_settled (Err (Keep fault)) mid new before keeper due answers none other grew wrote so = absurd (none fault refl)
-
-  -- or it isn't
-  pub ends_failed : (played : Result ℕ (KeptFault F)) (fault : KeptFault F) (mid new : Option (List ℕ)) (before keeper : K) (due answers : List ℕ)
-      → ((f : F) → played ≢ Err (Keep f)) → played ≢ Err (Ended WriteFault)
-      → FailsToSettle keeps before keeper due mid new fault
-      → LeadsTo keeps style script old mid kept before first due answers played → EndsAs keeps style script old new kept keeper first (Err fault)
-  ends_failed (Ok count) fault mid new before keeper due answers none other fails so =
-      come_fails keeps style script old kept first fault [] mid new before keeper so.0 due answers count so.2 so.1 fails
-  ends_failed (Err (Ended stop)) fault mid new before keeper due answers none other fails so =
-      failed_stop keeps style script old kept first fault stop mid new before keeper due answers fails (λ e. other (ap (λ f. Err (Ended f)) e)) so
-  ends_failed (Err (Keep f)) fault mid new before keeper due answers none other fails so = absurd (none f refl)
-
-other_fault : (fault : AppFault) → is_write_fault fault ≡ false → fault ≢ WriteFault
-other_fault fault is same = absurd (let wrong : true ≡ false = ap is_write_fault (sym same) ∙ is in cc)
-
-module _ {K : Type 0} (keeps : K → List ℕ → Type 0) (style : AnswerStyle) (script : List ℕ) (old : Option (List ℕ)) (kept : K) (first : Player) where
-  -- the lines have come to their end
-  pub ok_settled : (F : Type 0) (count : ℕ) (mid new : Option (List ℕ)) (before keeper : K) (due answers : List ℕ) → Grows keeps before keeper due → Appends mid new answers
-      → LeadsTo {F = F} keeps style script old mid kept before first due answers (Ok count) → EndsAs {F = F} keeps style script old new kept keeper first (Ok count)
-  ok_settled F count mid new before keeper due answers grew wrote so =
-      ends_settled {F = F} keeps style script old kept first (Ok count) mid new before keeper due answers (λ f e. absurd (let x = e in cc)) (λ e. absurd (let x = e in cc)) grew wrote so
-
-  pub ok_failed : (F : Type 0) (count : ℕ) (fault : KeptFault F) (mid new : Option (List ℕ)) (before keeper : K) (due answers : List ℕ) → FailsToSettle keeps before keeper due mid new fault
-      → LeadsTo {F = F} keeps style script old mid kept before first due answers (Ok count) → EndsAs keeps style script old new kept keeper first (Err fault)
-  ok_failed F count fault mid new before keeper due answers fails so =
-      ends_failed keeps style script old kept first (Ok count) fault mid new before keeper due answers (λ f e. absurd (let x = e in cc)) (λ e. absurd (let x = e in cc)) fails so
-
-  -- they were stopped
-  pub stop_settled : (F : Type 0) (stop : AppFault) → is_write_fault stop ≡ false → (mid new : Option (List ℕ)) (before keeper : K) (due answers : List ℕ) → Grows keeps before keeper due → Appends mid new answers
-      → LeadsTo {F = F} keeps style script old mid kept before first due answers (Err (Ended stop)) → EndsAs {F = F} keeps style script old new kept keeper first (Err (Ended stop))
-  stop_settled F stop other mid new before keeper due answers grew wrote so =
-      settled_stop keeps style script old kept first stop mid new before keeper due answers grew wrote (other_fault stop other) so
-
-  pub stop_failed : (F : Type 0) (stop : AppFault) → is_write_fault stop ≡ false → (fault : KeptFault F) (mid new : Option (List ℕ)) (before keeper : K) (due answers : List ℕ) → FailsToSettle keeps before keeper due mid new fault
-      → LeadsTo {F = F} keeps style script old mid kept before first due answers (Err (Ended stop)) → EndsAs keeps style script old new kept keeper first (Err fault)
-  stop_failed F stop other fault mid new before keeper due answers fails so =
-      failed_stop keeps style script old kept first fault stop mid new before keeper due answers fails (other_fault stop other) so
-
-  -- or the writer failed
-  pub write_stopped : (F : Type 0) (stop : AppFault) → is_write_fault stop ≡ true → (new : Option (List ℕ)) (keeper : K) (due answers : List ℕ)
-      → LeadsTo {F = F} keeps style script old new kept keeper first due answers (Err (Ended stop)) → EndsAs {F = F} keeps style script old new kept keeper first (Err (Ended stop))
-  write_stopped F WriteFault is new keeper due answers so = so
-  write_stopped F NoMemory is new keeper due answers so = absurd cc
-  write_stopped F ReadFault is new keeper due answers so = absurd cc
-  write_stopped F TooLong is new keeper due answers so = absurd cc
-
--- ---- where the reader tells its bytes
-
-module _ {K : Type 0} (keeps : K → List ℕ → Type 0) (style : AnswerStyle) (old : Option (List ℕ)) (kept : K) (first : Player) where
-  -- before the first line
-  pub comes_first : (a : Option (List ℕ)) → Comes keeps style a a old old kept kept first (begun first) [] 0
-  comes_first None = tt
-  comes_first (Some script) = record {
-    front = [];
-    next = [];
-    parted = refl;
-    said = [];
-    is_said = refl;
-    written = Appends-nil old;
-    grown = λ text has. subst (keeps kept) (sym (append-nil text)) has;
-    waits = refl;
-    reached = refl;
-    counted = refl;
+  -- what waits may be settled
+  pub come_may : (now : K) (rest : Option (List ℕ)) (last : List ℕ) (keeping : Keeping) (due answers : List ℕ) (count number : ℕ) → keeping.due ≡ due
+      → Come now rest last keeping answers count number → MaySettle keeps contents begun now due answers
+  come_may now rest last keeping due answers count number is so later grew same goes_on = record {
+    start = start;
+    first = first;
+    style = style;
+    is_of = goes_on start first style so.is_of;
+    front = so.front ++ so.next;
+    said = so.said;
+    written = Appends-kept (contents start) (contents now) (contents later) so.said so.written same;
+    are_answers = said_append style first so.front so.next so.said answers so.is_said so.waits;
+    grown =
+        let all : kept_of first (so.front ++ so.next) ≡ kept_of first so.front ++ due = ap (λ (k : Keeping). k.due) so.reached ∙ ap (λ d. kept_of first so.front ++ d) is in
+        Grows-trans keeps start now later (kept_of first so.front) due (kept_of first (so.front ++ so.next)) all so.grown grew;
   }
 
-  -- the same where nothing waits
-  pub begins : (a : Option (List ℕ)) (due held answers : List ℕ) → due ≡ [] → held ≡ [] → answers ≡ []
-      → Comes keeps style a a old old kept kept first (record { player = first; due = due; held = held }) answers 0
-  begins a due held answers none unheld nothing =
-      subst (λ d. Comes keeps style a a old old kept kept first (record { player = first; due = d; held = held }) answers 0) (sym none)
-      (subst (λ h. Comes keeps style a a old old kept kept first (record { player = first; due = []; held = h }) answers 0) (sym unheld)
-      (subst (λ t. Comes keeps style a a old old kept kept first (begun first) t 0) (sym nothing) (comes_first a)))
+  -- a line that isn't played stops it
+  pub come_stops : (F : Type 0) (fault : AppFault) (now : K) (rest more : Option (List ℕ)) (line : List ℕ) (keeping : Keeping) (due answers said : List ℕ) (count number : ℕ)
+      → Come now rest [] keeping answers count number → StopsAt line 10 → Consumes rest more line → keeping.due ≡ due → said ≡ answers
+      → IsStop script more line count number (Err fault)
+      → LeadsTo {F = F} keeps contents begun style first start now script more due said (Ok (Err fault))
+  come_stops F fault now rest more line keeping due answers said count number so part taken is unsaid stop =
+      (line, keeping, count, number, part, is, come_unplayed now rest more line keeping answers said count number so taken unsaid, stop)
 
-  -- a line that is read, played and noted
-  pub comes_line : (a b b' new : Option (List ℕ)) (keeper : K) (now next : Keeping) (answers more : List ℕ) (count bad : ℕ) (line : List ℕ)
-      → Comes keeps style a b old new kept keeper first now answers count
-      → IfSome b (λ rest. line ≡ take_through 10 rest) → DropsThrough b b' 10 → 0 < length line
-      → IsPlayed style line now next answers more → IsBad line now.player bad
-      → Comes keeps style a b' old new kept keeper first next more (count + bad)
-  comes_line None b b' new keeper now next answers more count bad line so taken left some played is_bad = tt
-  comes_line (Some script) None b' new keeper now next answers more count bad line so taken left some played is_bad = absurd so
-  comes_line (Some script) (Some rest) b' new keeper now next answers more count bad line so taken left some played is_bad =
-      let it = first_line_of rest (take_through_nonempty 10 rest (subst (λ t. 0 < length t) taken some)) in
-      let l = it.0 in
-      let is : lines line ≡ l ∷ [] = ap lines taken ∙ it.1.0 in
-      let did = played l [] is in
-      let come = come_line keeps style script old kept first l rest (drop_through 10 rest) new keeper now answers count it.1.1 more did.1 so in
-      subst (λ (z : Option (List ℕ)). Comes keeps style (Some script) z old new kept keeper first next more (count + bad)) (sym left)
-      (subst (λ n. HasCome keeps style script (drop_through 10 rest) old new kept keeper first next more (count + n)) (sym (is_bad l [] is))
-      (subst (λ k. HasCome keeps style script (drop_through 10 rest) old new kept keeper first k more (count + (if is_some (player_reply now.player l).bad then 1 else 0))) (sym did.0) come))
+  -- and so does the reader's end
+  pub nothing_left : (F : Type 0) (now : K) (rest more : Option (List ℕ)) (line : List ℕ) (keeping : Keeping) (answers : List ℕ) (count number : ℕ)
+      → Come now rest [] keeping answers count number → length line ≡ 0 → IfSome rest (λ r. line ≡ take_through 10 r) → DropsThrough rest more 10 → Consumes rest more line
+      → LeadsTo {F = F} keeps contents begun style first start now script more keeping.due answers (Ok (Ok count))
+  nothing_left F now rest more line keeping answers count number so none taken left gone =
+      let empty : line ≡ [] = nil_from_length line none in (
+        [],
+        keeping,
+        count,
+        number,
+        stops_none,
+        refl,
+        come_unplayed now rest more [] keeping answers answers count number so (subst (Consumes rest more) empty gone) refl,
+        (refl, rest_ended script rest more (so.front ++ so.next) line none so.parted taken left, refl),
+      )
 
-  -- what waited is kept and written
-  pub comes_settled : (a b mid new : Option (List ℕ)) (before keeper : K) (now : Keeping) (answers : List ℕ) (count : ℕ)
-      → Comes keeps style a b old mid kept before first now answers count → Grows keeps before keeper now.due → Appends mid new answers
-      → Comes keeps style a b old new kept keeper first (record now { due = [] }) [] count
-  comes_settled None b mid new before keeper now answers count so grew wrote = tt
-  comes_settled (Some script) None mid new before keeper now answers count so grew wrote = absurd so
-  comes_settled (Some script) (Some rest) mid new before keeper now answers count so grew wrote =
-      come_settled keeps style script old kept first rest mid new before keeper now answers count so grew wrote
+  -- and the number of lines
+  pub too_long : (F : Type 0) (now : K) (rest : Option (List ℕ)) (keeping : Keeping) (answers : List ℕ) (count number : ℕ)
+      → Come now rest [] keeping answers count number → 2 ^ 64 ≤ number + 1
+      → LeadsTo {F = F} keeps contents begun style first start now script rest keeping.due answers (Ok (Err TooLong))
+  too_long F now rest keeping answers count number so many = ([], keeping, count, number, stops_none, refl, so, many)
 
-  -- the same by its parts
-  pub comes_on : (a b mid new : Option (List ℕ)) (before keeper : K) (p : Player) (due held answers d h t : List ℕ) (count : ℕ)
-      → Grows keeps before keeper due → Appends mid new answers → d ≡ [] → h ≡ held → t ≡ []
-      → Comes keeps style a b old mid kept before first (record { player = p; due = due; held = held }) answers count
-      → Comes keeps style a b old new kept keeper first (record { player = p; due = d; held = h }) t count
-  comes_on a b mid new before keeper p due held answers d h t count grew wrote none same nothing so =
-      subst (λ x. Comes keeps style a b old new kept keeper first (record { player = p; due = x; held = h }) t count) (sym none)
-      (subst (λ x. Comes keeps style a b old new kept keeper first (record { player = p; due = []; held = x }) t count) (sym same)
-      (subst (λ x. Comes keeps style a b old new kept keeper first (record { player = p; due = []; held = held }) x count) (sym nothing)
-      (comes_settled a b mid new before keeper (record { player = p; due = due; held = held }) answers count so grew wrote)))
+  -- ---- how it ends
 
-  -- at the end of the reader
-  pub comes_to_end : (F : Type 0) (a b new : Option (List ℕ)) (keeper : K) (now : Keeping) (answers : List ℕ) (count : ℕ) (line due : List ℕ)
-      → Comes keeps style a b old new kept keeper first now answers count → IfSome b (λ rest. line ≡ take_through 10 rest) → length line ≡ 0 → now.due ≡ due
-      → IfSome a (λ script. LeadsTo {F = F} keeps style script old new kept keeper first due answers (Ok count))
-  comes_to_end F None b new keeper now answers count line due so taken none is = tt
-  comes_to_end F (Some script) None new keeper now answers count line due so taken none is = absurd so
-  comes_to_end F (Some script) (Some rest) new keeper now answers count line due so taken none is =
-      let empty : rest ≡ [] = take_through-nil 10 rest (sym (ap length taken) ∙ none) in
-      (now, is, subst (λ r. HasCome keeps style script r old new kept keeper first now answers count) empty so)
+  -- what waits isn't settled
+  pub come_fails : {F : Type 0} (fault : KeptFault F) (now later : K) (rest : Option (List ℕ)) (last : List ℕ) (keeping : Keeping) (due answers : List ℕ) (count number : ℕ)
+      → Come now rest last keeping answers count number → StopsAt last 10 → keeping.due ≡ due
+      → FailsToSettle keeps contents now later due fault
+      → EndsAs keeps contents style first start later script rest (Err fault)
+  come_fails (Ended WriteFault) now later rest last keeping due answers count number so part is fails =
+      let all : kept_of first (so.front ++ so.next) ≡ kept_of first so.front ++ due = ap (λ (k : Keeping). k.due) so.reached ∙ ap (λ d. kept_of first so.front ++ d) is in
+      (so.front ++ so.next, last, part, so.parted, Grows-trans keeps start now later (kept_of first so.front) due (kept_of first (so.front ++ so.next)) all so.grown fails.1)
+  come_fails (Ended NoMemory) now later rest last keeping due answers count number so part is fails = absurd (let e = fails.0 in cc)
+  come_fails (Ended ReadFault) now later rest last keeping due answers count number so part is fails = absurd (let e = fails.0 in cc)
+  come_fails (Ended TooLong) now later rest last keeping due answers count number so part is fails = absurd (let e = fails.0 in cc)
+  come_fails (Keep fault) now later rest last keeping due answers count number so part is fails =
+      let front = parts_front script rest so.front so.next last so.parted in
+      (so.front, front.0, front.1, (so.said, so.is_said, Appends-kept (contents start) (contents now) (contents later) so.said so.written fails))
 
-  -- where a stream or the memory stops it
-  pub comes_stops : (F : Type 0) (fault : AppFault) (a b new : Option (List ℕ)) (keeper : K) (now : Keeping) (answers : List ℕ) (count : ℕ) (due : List ℕ)
-      → Comes keeps style a b old new kept keeper first now answers count → now.due ≡ due
-      → IfSome a (λ script. LeadsTo {F = F} keeps style script old new kept keeper first due answers (Err (Ended fault)))
-  comes_stops F fault None b new keeper now answers count due so is = tt
-  comes_stops F fault (Some script) None new keeper now answers count due so is = absurd so
-  comes_stops F fault (Some script) (Some rest) new keeper now answers count due so is = come_stops keeps style script old kept first fault rest new keeper now due answers count so is
+  -- what waits is settled
+  settled : (now later : K) (rest : Option (List ℕ)) (last : List ℕ) (keeping : Keeping) (due answers : List ℕ) (count number : ℕ)
+      → (so : Come now rest last keeping answers count number) → keeping.due ≡ due → Grows keeps now later due → Appends (contents now) (contents later) answers
+      → IsSettled keeps contents style first start later (so.front ++ so.next)
+  settled now later rest last keeping due answers count number so is grew wrote =
+      let all : kept_of first (so.front ++ so.next) ≡ kept_of first so.front ++ due = ap (λ (k : Keeping). k.due) so.reached ∙ ap (λ d. kept_of first so.front ++ d) is in (
+        (
+          so.said ++ answers,
+          said_append style first so.front so.next so.said answers so.is_said so.waits,
+          Appends-trans (contents start) (contents now) (contents later) so.said answers so.written wrote,
+        ),
+        Grows-trans keeps start now later (kept_of first so.front) due (kept_of first (so.front ++ so.next)) all so.grown grew,
+      )
 
-  -- and at a line that isn't answered
-  pub comes_halts : (F : Type 0) (fault : AppFault) (a b new : Option (List ℕ)) (keeper : K) (now : Keeping) (answers said : List ℕ) (count : ℕ) (due : List ℕ)
-      → Comes keeps style a b old new kept keeper first now answers count → now.due ≡ due → said ≡ answers
-      → IfSome a (λ script. LeadsTo {F = F} keeps style script old new kept keeper first due said (Err (Ended fault)))
-  comes_halts F fault a b new keeper now answers said count due so is unsaid =
-      subst (λ t. IfSome a (λ script. LeadsTo {F = F} keeps style script old new kept keeper first due t (Err (Ended fault)))) (sym unsaid)
-      (comes_stops F fault a b new keeper now answers count due so is)
+  -- behind the last line
+  pub ends_ok : (F : Type 0) (bad : ℕ) (now later : K) (rest : Option (List ℕ)) (due answers : List ℕ)
+      → LeadsTo {F = F} keeps contents begun style first start now script rest due answers (Ok (Ok bad))
+      → Grows keeps now later due → Appends (contents now) (contents later) answers
+      → EndsAs {F = F} keeps contents style first start later script rest (Ok bad)
+  ends_ok F bad now later rest due answers (last, keeping, count, number, part, is, so, stop) grew wrote = (
+    so.front ++ so.next,
+    parts_all script rest (so.front ++ so.next) stop.1 (subst (λ l. Parts script rest (so.front ++ so.next) l) stop.2 so.parted),
+    settled now later rest last keeping due answers count number so is grew wrote,
+    stop.0 ∙ so.counted,
+  )
 
-  -- and where what waits isn't settled
-  pub comes_fails : {F : Type 0} (fault : KeptFault F) (a b mid new : Option (List ℕ)) (before keeper : K) (now : Keeping) (waited : List ℕ) (count : ℕ) (due answers : List ℕ)
-      → Comes keeps style a b old mid kept before first now waited count → FailsToSettle keeps before keeper now.due mid new fault
-      → IfSome a (λ script. LeadsTo keeps style script old new kept keeper first due answers (Err fault))
-  comes_fails fault None b mid new before keeper now waited count due answers so fails = tt
-  comes_fails fault (Some script) None mid new before keeper now waited count due answers so fails = absurd so
-  comes_fails fault (Some script) (Some rest) mid new before keeper now waited count due answers so fails =
-      fails_there keeps style script old kept first fault new keeper due answers rest mid before now waited count so fails
+  -- behind a line that something stopped
+  stops : (fault : AppFault) (later : K) (rest : Option (List ℕ)) (last : List ℕ) (count number : ℕ) (ls : List (List ℕ)) → number ≡ length ls + 1
+      → IsSettled keeps contents style first start later ls → IsStop script rest last count number (Err fault)
+      → StopsBy keeps contents style first start later ls fault
+  stops NoMemory later rest last count number ls numbered so stop = so
+  stops ReadFault later rest last count number ls numbered so stop = so
+  stops WriteFault later rest last count number ls numbered so stop = absurd stop
+  stops TooLong later rest last count number ls numbered so stop = (so, omega (arith, numbered, stop))
+
+  pub ends_stopped : (F : Type 0) (fault : AppFault) (now later : K) (rest : Option (List ℕ)) (due answers : List ℕ)
+      → LeadsTo {F = F} keeps contents begun style first start now script rest due answers (Ok (Err fault))
+      → Grows keeps now later due → Appends (contents now) (contents later) answers
+      → EndsAs {F = F} keeps contents style first start later script rest (Err (Ended fault))
+  ends_stopped F fault now later rest due answers (last, keeping, count, number, part, is, so, stop) grew wrote = (
+    so.front ++ so.next,
+    last,
+    part,
+    so.parted,
+    stops fault later rest last count number (so.front ++ so.next) so.numbered (settled now later rest last keeping due answers count number so is grew wrote) stop,
+  )
+
+  -- or what waits isn't settled
+  pub ends_unsettled : {F : Type 0} (played : Result ℕ AppFault) (fault : KeptFault F) (now later : K) (rest : Option (List ℕ)) (due answers : List ℕ)
+      → LeadsTo {F = F} keeps contents begun style first start now script rest due answers (Ok played)
+      → FailsToSettle keeps contents now later due fault
+      → EndsAs {F = F} keeps contents style first start later script rest (Err fault)
+  ends_unsettled played fault now later rest due answers (last, keeping, count, number, part, is, so, stop) fails =
+      come_fails fault now later rest last keeping due answers count number so part is fails
+
+  -- and it may be
+  pub led_may : (F : Type 0) (played : Result ℕ AppFault) (now : K) (rest : Option (List ℕ)) (due answers : List ℕ)
+      → LeadsTo {F = F} keeps contents begun style first start now script rest due answers (Ok played)
+      → MaySettle keeps contents begun now due answers
+  led_may F played now rest due answers (last, keeping, count, number, part, is, so, stop) = come_may now rest last keeping due answers count number is so
+
+-- why a line wasn't read
+pub unread_stops : (script rest : Option (List ℕ)) (last : List ℕ) (count number : ℕ) (fault : AppFault) → IsUnread fault → IsStop script rest last count number (Err fault)
+unread_stops script rest last count number NoMemory h = tt
+unread_stops script rest last count number ReadFault h = tt
+unread_stops script rest last count number WriteFault h = absurd h
+unread_stops script rest last count number TooLong h = absurd h
+
+-- ---- from the call on
+
+module _ {K : Type 0} (keeps : K → List ℕ → Type 0) (contents : K → Option (List ℕ)) (style : AnswerStyle) (first : Player) (old start now : K)
+    (stays : StaysKept keeps old start) (same : contents start ≡ contents old) where
+  grows_from : (x : List ℕ) → Grows keeps start now x → Grows keeps old now x
+  grows_from x grew text has = grew text (stays text has)
+
+  said_from : (ls : List (List ℕ)) → HasSaid style first ls (contents start) (contents now) → HasSaid style first ls (contents old) (contents now)
+  said_from ls said = subst (λ o. HasSaid style first ls o (contents now)) same said
+
+  settled_from : (ls : List (List ℕ)) → IsSettled keeps contents style first start now ls → IsSettled keeps contents style first old now ls
+  settled_from ls so = (said_from ls so.0, grows_from (kept_of first ls) so.1)
+
+  stops_from : (ls : List (List ℕ)) (fault : AppFault) → StopsBy keeps contents style first start now ls fault → StopsBy keeps contents style first old now ls fault
+  stops_from ls NoMemory so = settled_from ls so
+  stops_from ls ReadFault so = settled_from ls so
+  stops_from ls WriteFault so = grows_from (kept_of first ls) so
+  stops_from ls TooLong so = (settled_from ls so.0, so.1)
+
+  -- what a shell did since it began it did since it was called
+  pub ends_from : {F : Type 0} (script rest : Option (List ℕ)) (r : Result ℕ (KeptFault F))
+      → EndsAs keeps contents style first start now script rest r → EndsAs keeps contents style first old now script rest r
+  ends_from script rest (Ok count) (ls, all, so, counted) = (ls, all, settled_from ls so, counted)
+  ends_from script rest (Err (Ended fault)) (ls, last, part, parted, so) = (ls, last, part, parted, stops_from ls fault so)
+  ends_from script rest (Err (Keep fault)) (ls, others, parted, said) = (ls, others, parted, said_from ls said)
 
 -- ---- parts
 
@@ -391,31 +458,17 @@ noted_line k l p d h is is_due is_held = released_parts (frame_is_open p) p k.du
 
 -- ---- without a store
 
-module _ {K : Type 0} (keeps : K → List ℕ → Type 0) (style : AnswerStyle) (old new : Option (List ℕ)) (kept keeper : K) (first : Player) where
-  pub ends_said : (F : Type 0) (a : Option (List ℕ)) (count : ℕ) → IfSome a (λ script. EndsAs {F = F} keeps style script old new kept keeper first (Ok count))
-      → IfSome a (λ script. HasSaid style first (lines script) old new)
-  ends_said F None count h = tt
-  ends_said F (Some script) count h = h.0.0
+module _ {K : Type 0} (keeps : K → List ℕ → Type 0) (contents : K → Option (List ℕ)) (style : AnswerStyle) (first : Player) (start now : K) (script rest : Option (List ℕ)) where
+  pub ends_answered : (F : Type 0) (count : ℕ) → EndsAs {F = F} keeps contents style first start now script rest (Ok count)
+      → Answers style first (contents start) (contents now) script count
+  ends_answered F count (ls, all, so, counted) = (ls, all, so.0, counted)
 
-  pub ends_counted : (F : Type 0) (a : Option (List ℕ)) (count : ℕ) → IfSome a (λ script. EndsAs {F = F} keeps style script old new kept keeper first (Ok count))
-      → IfSome a (λ script. count ≡ bad_count first (lines script))
-  ends_counted F None count h = tt
-  ends_counted F (Some script) count h = h.1
+  with_fault : (ls : List (List ℕ)) (fault : AppFault) → StopsBy keeps contents style first start now ls fault → StopsWith style first (contents start) (contents now) ls fault
+  with_fault ls NoMemory so = so.0
+  with_fault ls ReadFault so = so.0
+  with_fault ls WriteFault so = tt
+  with_fault ls TooLong so = (so.0.0, so.1)
 
-  answered : (script : List ℕ) → HasSettled keeps style script old new kept keeper first → HasAnswered style first script old new
-  answered script h = (h.0, h.1, h.2, h.3)
-
-  by_fault : (script : List ℕ) (fault : AppFault) → fault ≢ WriteFault → EndsBy keeps style script old new kept keeper first fault → HasAnswered style first script old new
-  by_fault script WriteFault other h = absurd (other refl)
-  by_fault script NoMemory other h = answered script h
-  by_fault script ReadFault other h = answered script h
-  by_fault script TooLong other h = answered script h
-
-  pub ends_answered : (F : Type 0) (a : Option (List ℕ)) (fault : AppFault) → fault ≢ WriteFault
-      → IfSome a (λ script. EndsAs {F = F} keeps style script old new kept keeper first (Err (Ended fault))) → IfSome a (λ script. HasAnswered style first script old new)
-  ends_answered F None fault other h = tt
-  ends_answered F (Some script) fault other h = by_fault script fault other h
-
-pub ruleset ends = (ends_answered, ends_said, ends_counted)
-
-pub ruleset settles = (ok_failed, ok_settled, stop_failed, stop_settled, write_stopped)
+  pub ends_unanswered : (F : Type 0) (fault : AppFault) → EndsAs {F = F} keeps contents style first start now script rest (Err (Ended fault))
+      → Stops style first (contents start) (contents now) script rest fault
+  ends_unanswered F fault (ls, last, part, parted, so) = (ls, last, part, parted, with_fault ls fault so)

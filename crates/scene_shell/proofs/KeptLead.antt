@@ -10,7 +10,7 @@ use Rattle.scene_player.specs.Player.{Player, player_reply}
 use Rattle.scene_player.specs.Changes.{changes, frame_is_open}
 use Rattle.scene_player.proofs.ChangeLaws.{unchanged}
 use Rattle.scene_shell.specs.Shell.{player_after}
-use Rattle.scene_shell.specs.Kept.{Keeping, noted, kept_line, kept_after, begun, kept_of, ended}
+use Rattle.scene_shell.specs.Kept.{Keeping, noted, kept_line, kept_after, starting, kept_of, ended}
 use Rattle.scene_shell.proofs.Lines.{HasPart, has_part, is_end, line_before}
 
 -- no byte of a line ends a line
@@ -101,8 +101,8 @@ module _ (first : Player) where
   after_leads k [] are so = so
   after_leads k (l ∷ ls) are so = after_leads (kept_line k l) ls are.1 (line_leads k l are.0 so)
 
-  pub kept_leads : (ls : List (List ℕ)) → AllByRecursion IsLine ls → Leads first (kept_after (begun first) ls)
-  kept_leads ls are = after_leads (begun first) ls are (λ ys. refl, refl)
+  pub kept_leads : (ls : List (List ℕ)) → AllByRecursion IsLine ls → Leads first (kept_after (starting first) ls)
+  kept_leads ls are = after_leads (starting first) ls are (λ ys. refl, refl)
 
 -- ---- the lines of a text
 
@@ -159,11 +159,11 @@ held_after k (l ∷ l₂ ∷ ls) none closed =
 pub kept_lines_lead : (p : Player) (text : List ℕ)
     → frame_is_open (player_after p (lines text)) ≡ false → player_after p (lines (kept_of p (lines text))) ≡ player_after p (lines text)
 kept_lines_lead p text closed =
-    let k = kept_after (begun p) (lines text) in
+    let k = kept_after (starting p) (lines text) in
     let led = kept_leads p (lines text) (lines_are text) in
-    let none = held_after (begun p) (lines text) refl closed in
+    let none = held_after (starting p) (lines text) refl closed in
     let due : all_of k ≡ k.due = ap (λ t. k.due ++ t) none ∙ append-nil k.due in
-    ap (λ t. player_after p (lines t)) (sym due) ∙ led.1 ∙ kept_player (begun p) (lines text)
+    ap (λ t. player_after p (lines t)) (sym due) ∙ led.1 ∙ kept_player (starting p) (lines text)
   where
     kept_player : (j : Keeping) (ls : List (List ℕ)) → (kept_after j ls).player ≡ player_after j.player ls
     kept_player j [] = refl

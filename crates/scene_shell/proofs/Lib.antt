@@ -1,4 +1,5 @@
-pub mod Lines
-pub mod SaidLaws
-pub mod KeptLaws
-pub mod KeptLead
+mod KeptLaws
+mod KeptLead
+mod Lines
+mod RunLaws
+mod SaidLaws

@@ -1,46 +1,17 @@
 -- What a shell says of lines.
-use Rattle.std.proofs.Common.{sym, Bool, IfOk, OnOk, Result, Ok, Err, ◌≡◌, ℕ, ◌+◌, List, [], ◌∷◌, ◌++◌, true, Option, Some, None, is_some, if◌then◌else◌, length, arith, refl, ap, subst, ◌∙◌, append-nil}
-use Rattle.std.proofs.lemmas.List.{length-append}
+use Rattle.std.proofs.Common.{sym, Bool, IfOk, OnOk, Result, Ok, Err, ◌≡◌, ℕ, List, [], ◌∷◌, ◌++◌, true, Option, refl, ap, subst, ◌∙◌, append-nil}
 use Rattle.scene_script.specs.declared.bad_line.BadLine.{BadLine}
-use Rattle.scene_app.specs.Play.{printed_from, reports_at}
 use Rattle.scene_player.specs.JsonLine.{IsAnsweredAsJson, AddsJson, asked_in}
 use Rattle.scene_player.specs.Player.{Player, player_reply}
-use Rattle.scene_shell.specs.Shell.{IsAnswer, IsSaid, bad_count, plain_style, said_of}
-
--- the answers to lines are what a run of them prints; no text says the number of a line
-pub said_printed : (p : Player) (number : ℕ) (ls : List (List ℕ)) → said_of p ls ≡ (printed_from number p ls).text
-said_printed p number [] = refl
-said_printed p number (l ∷ ls) =
-    let r = player_reply p l in ap (λ (t : List ℕ). r.text ++ t) (said_printed r.player (number + 1) ls)
-
--- a line has one report where it is bad
-one_report : (number : ℕ) (bad : Option BadLine) → (if is_some bad then 1 else 0) ≡ length (reports_at number bad)
-one_report number None = refl
-one_report number (Some reason) = refl
-
--- and as many are bad
-pub counted_printed : (p : Player) (number : ℕ) (ls : List (List ℕ)) → bad_count p ls ≡ length (printed_from number p ls).bad
-counted_printed p number [] = refl
-counted_printed p number (l ∷ ls) =
-    let r = player_reply p l in
-    let rest = printed_from (number + 1) r.player ls in
-    let all : length (reports_at number r.bad ++ rest.bad) ≡ length (reports_at number r.bad) + length rest.bad = length-append (reports_at number r.bad) rest.bad in
-    let one = one_report number r.bad in
-    let others : bad_count r.player ls ≡ length rest.bad = counted_printed r.player (number + 1) ls in
-    omega (arith, all, one, others)
+use Rattle.scene_shell.specs.Shell.{IsAnswer, IsSaid, plain_style, said_of}
 
 -- the answers of a script that aren't framed are those, one after another
-said_plainly : (p : Player) (ls : List (List ℕ)) (text : List ℕ) → IsSaid plain_style p ls text → text ≡ said_of p ls
+pub said_plainly : (p : Player) (ls : List (List ℕ)) (text : List ℕ) → IsSaid plain_style p ls text → text ≡ said_of p ls
 said_plainly p [] text said = said
 said_plainly p (l ∷ ls) text said =
     let r = player_reply p l in
     let first : said.0 ≡ r.text = said.2.2 ∙ append-nil said.2.0 ∙ said.2.1 in
     said.4 ∙ ap (λ t. t ++ said.1) first ∙ ap (λ t. r.text ++ t) (said_plainly r.player ls said.1 said.3)
-
--- and so what a run prints
-pub said_is_output : (p : Player) (number : ℕ) (ls : List (List ℕ)) (text : List ℕ) → IsSaid plain_style p ls text
-    → text ≡ (printed_from number p ls).text
-said_is_output p number ls text said = said_plainly p ls text said ∙ said_printed p number ls
 
 -- an answer that is JSON
 pub is_json_answer : (p after : Player) (l text : List ℕ) (bad : Option BadLine) → IsAnsweredAsJson [] text p after l bad → IsAnswer true p l text

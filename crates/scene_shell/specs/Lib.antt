@@ -1,2 +1,3 @@
 pub mod Shell
 pub mod Kept
+pub mod Waits

@@ -1,9 +1,12 @@
 -- What a shell says to the lines that it is given.
-use Rattle.std.specs.Prelude.{◌≡◌, ℕ, ◌+◌, List, [], ◌∷◌, ◌++◌, Bool, true, false, Option, is_some, if◌then◌else◌, codes}
+use Rattle.std.specs.Prelude.{◌≡◌, ℕ, ◌+◌, ◌^◌, ◌≤◌, List, [], ◌∷◌, ◌++◌, ⊤, Bool, true, false, Option, Some, None, IfSome, is_some, if◌then◌else◌, codes, length}
+use Rattle.std.specs.Io.{StopsAt}
 use Rattle.std.specs.Io.KnownBytes.{Appends}
 use Rattle.std.specs.Str.Lines.{lines}
 use Rattle.scene_player.specs.JsonLine.{IsAnsweredAsJson}
 use Rattle.scene_player.specs.Player.{Player, player_reply}
+use Rattle.scene_app.specs.declared.fault.AppFault.{AppFault}
+use Rattle.scene_app.specs.declared.fault.AppFault.TheVariants.{NoMemory, ReadFault, WriteFault, TooLong}
 pub use Rattle.scene_shell.specs.declared.style.AnswerStyle.{AnswerStyle}
 
 -- ---- one line
@@ -54,7 +57,27 @@ said_of p (l ∷ ls) = (player_reply p l).text ++ said_of (player_reply p l).pla
 abbrev pub HasSaid : AnswerStyle → Player → List (List ℕ) → (old new : Option (List ℕ)) → Type 0
 HasSaid style p ls old new = (text : List ℕ) × IsSaid style p ls text × Appends old new text
 
--- just the answers to the first lines of a script are written, each whole
-abbrev pub HasAnswered : AnswerStyle → Player → List ℕ → (old new : Option (List ℕ)) → Type 0
-HasAnswered style p script old new =
-    (front : List (List ℕ)) × (back : List (List ℕ)) × (lines script ≡ front ++ back) × HasSaid style p front old new
+-- ---- the lines of a reader
+
+-- where the reader tells its bytes: these lines were read of it, then this part of one; the others are still to be read
+abbrev pub Parts : (script rest : Option (List ℕ)) → List (List ℕ) → List ℕ → Type 0
+Parts None rest ls last = ⊤
+Parts (Some script) None ls last = ⊥
+Parts (Some script) (Some rest) ls last = lines script ≡ ls ++ lines (last ++ rest)
+
+-- all lines of a reader are answered, of which so many are bad
+abbrev pub Answers : AnswerStyle → Player → (old new script : Option (List ℕ)) → ℕ → Type 0
+Answers style p old new script count =
+    (ls : List (List ℕ)) × IfSome script (λ s. lines s ≡ ls) × HasSaid style p ls old new × (count ≡ bad_count p ls)
+
+-- what is known of the answers to the lines before the one that was read when something stopped a shell
+abbrev pub StopsWith : AnswerStyle → Player → (old new : Option (List ℕ)) → List (List ℕ) → AppFault → Type 0
+StopsWith style p old new ls WriteFault = ⊤
+StopsWith style p old new ls NoMemory = HasSaid style p ls old new
+StopsWith style p old new ls ReadFault = HasSaid style p ls old new
+StopsWith style p old new ls TooLong = HasSaid style p ls old new × (2 ^ 64 ≤ length ls + 2)
+
+-- all lines are answered before the one that was read, or a part of it, when something stopped a shell
+abbrev pub Stops : AnswerStyle → Player → (old new script rest : Option (List ℕ)) → AppFault → Type 0
+Stops style p old new script rest fault =
+    (ls : List (List ℕ)) × (last : List ℕ) × StopsAt last 10 × Parts script rest ls last × StopsWith style p old new ls fault

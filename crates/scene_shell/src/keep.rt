@@ -1,4 +1,8 @@
 //! What keeps lines for good.
+use crate::style::AnswerStyle;
+use scene_app::AppFault;
+use scene_player::Player;
+use std::alloc::Global;
 
 /// What keeps lines for good, as a file does (docs/SHELL.md, "A store").
 ///
@@ -7,12 +11,90 @@ pub trait Keep {
     /// Why lines weren't kept.
     type Fault: Drop;
 
-    ghost use Rattle.std.specs.Prelude.{◌++◌, ℕ, List, OnOk};
+    ghost use Rattle.std.specs.Prelude.{ℕ, List, OnOk};
+    ghost use Rattle.scene_shell.specs.Kept.{Grows};
 
     ghost keeps: { Self → List ℕ → Type 0 };
 
     /// Keeps lines, each with its line break, behind those that are kept. Where it gives an error nothing says which
     /// are kept.
     fn keep(&mut self, lines: &[u8]) -> Result<(), Self::Fault>
-        ensures { OnOk result ((text : List ℕ) → keeps self.old text → keeps self.new (text ++ lines.now)) };
+        ensures { OnOk result (Grows keeps self.old self.new lines.now) };
+}
+
+/// The lines that were kept, as a text.
+#[derive(Drop)]
+pub struct KeptText {
+    /// How many calls the player takes that plays the lines.
+    pub calls: u64,
+    /// The lines, each with its line break.
+    pub text: Vec<u8>,
+}
+
+/// What has kept lines, which can be read again.
+///
+/// The meaning that contracts use: `is_store` says that lines are kept as they have to be, whichever they are; and
+/// `plays` that a player plays this text which takes so many calls.
+pub trait KeptLines: Keep {
+    ghost use Rattle.std.specs.Prelude.{ℕ, List, IfOk, OnOk};
+    ghost use Rattle.scene_shell.specs.Kept.{StaysKept};
+
+    ghost is_store: { Self → Type 0 };
+
+    ghost plays: { List ℕ → ℕ → Type 0 };
+
+    /// All lines that are kept. After an error what was kept is kept.
+    fn lines(&mut self, alloc: Global) -> Result<KeptText, Self::Fault>
+        ensures whole { is_store self.old → IfOk result (λ found. Self.keeps self.new found.text.items) }
+        ensures calls { IfOk result (λ found. plays found.text.items found.calls) }
+        ensures same { OnOk result (StaysKept Self.keeps self.old self.new) };
+}
+
+/// What keeps the lines of a shell for good and writes its answers: those of lines that are kept alone (docs/SHELL.md,
+/// "A store"). A shell on it has no other way to write an answer.
+///
+/// The meaning that contracts use: `keeps` says that these are the bytes of all lines that are kept, and `contents`
+/// gives what is written, where that is known. `begun` says which shell it is at: what it was when the shell began, the
+/// player before its first line, and the style of its answers. It may say less, as that of a writer that has no notes
+/// of them; each call keeps what it says.
+pub trait KeptWriter {
+    /// Why lines weren't kept.
+    type Fault: Drop;
+
+    ghost use Rattle.std.specs.Prelude.{◌≡◌, ℕ, List, Option, OnOk, IfErr};
+    ghost use Rattle.std.specs.Io.KnownBytes.{Appends, Keeps};
+    ghost use Rattle.scene_app.specs.declared.fault.AppFault.TheVariants.{WriteFault};
+    ghost use Rattle.scene_player.specs.Player.{Player as State, player_of};
+    ghost use Rattle.scene_shell.specs.Kept.{Continues, Grows, MaySend, StaysKept};
+    ghost use Rattle.scene_shell.specs.Shell.{AnswerStyle as Style};
+
+    ghost keeps: { Self → List ℕ → Type 0 };
+
+    ghost contents: { Self → Option (List ℕ) };
+
+    ghost begun: { Self → Self → State → Style → Type 0 };
+
+    /// A shell begins, which answers by this player in this style.
+    fn begin(&mut self, player: &Player, style: AnswerStyle)
+        ensures begun { begun self.new self.new (player_of player.now) style }
+        ensures kept { StaysKept keeps self.old self.new }
+        ensures written { contents self.new ≡ contents self.old };
+
+    /// Keeps lines, each with its line break, behind those that are kept. Where it gives an error nothing says which
+    /// are kept.
+    fn keep(&mut self, lines: &[u8]) -> Result<(), Self::Fault>
+        ensures kept { OnOk result (Grows keeps self.old self.new lines.now) }
+        ensures unsaid { Keeps (contents self.old) (contents self.new) }
+        ensures begun { Continues begun self.old self.new };
+
+    /// Writes answers behind those that were written, and hands them on at once. What the lines of all of them have to
+    /// keep is kept.
+    ///
+    /// `WriteFault` where they weren't written whole.
+    fn send(&mut self, answers: &[u8]) -> Result<(), AppFault>
+        requires { MaySend keeps contents begun self.old answers.now }
+        ensures sent { OnOk result (Appends (contents self.old) (contents self.new) answers.now) }
+        ensures fault { IfErr result (λ f. f ≡ WriteFault) }
+        ensures kept { StaysKept keeps self.old self.new }
+        ensures begun { Continues begun self.old self.new };
 }

@@ -5,23 +5,28 @@
 //! `a_shell_says_what_a_run_says` that without JSON and frames it is what `scene run` prints for the same lines
 //! (docs/SHELL.md).
 //!
-//! `run_kept_shell` does the same, and gives the lines that change the player to something that keeps them, as a store
-//! does, before their answers are written. `specs/Kept.antt` says which lines, and `kept_lines_lead_to_the_player` that
+//! `run_kept_shell` does the same on a `KeptWriter`, which also keeps the lines that change the player, as a store does,
+//! and writes an answer only behind them. `specs/Kept.antt` says which lines, and `kept_lines_lead_to_the_player` that
 //! they are enough.
 #![tactic(auto)]
 
 mod keep;
 mod kept_fault;
+mod kept_line;
 mod kept_shell;
 mod laws;
 mod shell;
+mod store_writer;
 mod streams;
 mod style;
+mod unkept;
 mod waiting;
 
-pub use keep::Keep;
+pub use keep::{Keep, KeptLines, KeptText, KeptWriter};
 pub use kept_fault::KeptFault;
+pub use kept_line::push_kept_line;
 pub use kept_shell::run_kept_shell;
 pub use laws::{a_shell_says_what_a_run_says, kept_lines_lead_to_the_player};
 pub use shell::{ShellSettings, run_shell};
+pub use store_writer::StoreWriter;
 pub use style::AnswerStyle;

@@ -1,8 +1,10 @@
 //! The streams of a shell.
 ghost use Rattle.std.specs.Prelude.{◌≡◌, IfErr, OnOk, IfSome};
-ghost use Rattle.std.specs.Io.KnownBytes.{Appends};
+ghost use Rattle.std.specs.Io.{StopsAt};
+ghost use Rattle.std.specs.Io.KnownBytes.{Appends, Consumes};
 ghost use Rattle.std.specs.Io.BufRead.{DropsThrough, take_through};
 ghost use Rattle.scene_app.specs.declared.fault.AppFault.TheVariants.{WriteFault};
+ghost use Rattle.scene_shell.specs.Waits.{IsUnread};
 
 use scene_app::AppFault;
 use scene_player::Halt;
@@ -34,10 +36,14 @@ pub(crate) fn send<W: Write>(writer: &mut W, answer: &[u8]) -> Result<(), AppFau
     }
 }
 
-/// The next line of a reader, with its line break, in the place of the one before; it is empty at the end.
+/// The next line of a reader, with its line break, in the place of the one before; it is empty at the end. After an
+/// error it is what was read of the line.
 pub(crate) fn read_line<B: BufRead>(reader: &mut B, line: &mut Vec<u8>) -> Result<(), AppFault>
     ensures line { OnOk result (IfSome (B.remaining reader.old) (λ rest. line.new.items ≡ take_through 10 rest)) }
     ensures rest { OnOk result (DropsThrough (B.remaining reader.old) (B.remaining reader.new) 10) }
+    ensures part { StopsAt line.new.items 10 }
+    ensures taken { Consumes (B.remaining reader.old) (B.remaining reader.new) line.new.items }
+    ensures fault { IfErr result IsUnread }
 {
     line.clear();
     match reader.read_until(b'\n', line) {

@@ -1,14 +1,16 @@
 //! Lines that were played, whose answers wait until they are kept.
-ghost use Rattle.std.specs.Prelude.{ℕ, List, Option, ◌≡◌, ◌++◌, ◌<◌, ◌≤◌, [], IfErr, IfOk, MatchResult, OnErr, OnOk, if◌then◌else◌, length, string_bytes};
+ghost use Rattle.std.specs.Prelude.{ℕ, List, Option, ◌≡◌, ◌++◌, ◌<◌, ◌≤◌, [], IfErr, IfOk, OnErr, OnOk, if◌then◌else◌, length, string_bytes};
 ghost use Rattle.std.specs.Io.KnownBytes.{Appends, Keeps};
 ghost use Rattle.scene_app.specs.declared.fault.AppFault.TheVariants.{NoMemory, WriteFault};
 ghost use Rattle.scene_player.specs.Player.{Player as State, player_of, player_reply};
-ghost use Rattle.scene_shell.specs.Kept.{Comes, FailsToSettle, Grows, IsBad, IsPlayed, break_of, ended, keeping_of, kept_line, waiting_of};
+ghost use Rattle.scene_shell.specs.Kept.{Continues, Grows, MaySend, StaysKept, ended, kept_line};
+ghost use Rattle.scene_shell.specs.Waits.{FailsToSettle, HasCome, IsBad, IsPlayed, MaySettle, keeping_of, waiting_of};
 ghost use Rattle.scene_shell.specs.Shell.{AddsAnswer, AnswerStyle as Style, IsAnswer, IsSent};
 
-use crate::keep::Keep;
+use crate::keep::KeptWriter;
 use crate::kept_fault::KeptFault;
-use crate::streams::{send, tell_bad, tell_halt};
+use crate::kept_line::push_kept_line;
+use crate::streams::{tell_bad, tell_halt};
 use crate::style::AnswerStyle;
 use scene_app::AppFault;
 use scene_hand::Performer;
@@ -31,27 +33,6 @@ pub(crate) struct Waiting {
     pub(crate) answers: Vec<u8>,
     /// The answer to the line that is played.
     answer: String,
-}
-
-/// The line break that a line is kept with. A carriage return that is part of the line needs one more behind it, since
-/// the one before a line feed is dropped.
-fn break_of(line: &[u8]) -> &'static [u8]
-    ensures { result.now ≡ break_of line.now }
-{
-    let n = line.len();
-    if n > 0 && line[n - 1] == b'\r' {
-        b"\r\n"
-    } else {
-        b"\n"
-    }
-}
-
-/// Adds a line with its line break.
-fn push_ended(lines: &mut Vec<u8>, line: &[u8]) -> Result<(), AllocError>
-    ensures { OnOk result (lines.new.items ≡ lines.old.items ++ ended line.now) }
-{
-    lines.extend_from_slice(line)?;
-    lines.extend_from_slice(break_of(line))
 }
 
 /// Plays a line, and puts its answer in the place of the one before. It gives why the line is bad, where it is.
@@ -136,7 +117,7 @@ impl Waiting {
         ensures answers { self.new.answers ≡ self.old.answers }
     {
         if is_changed {
-            push_ended(&mut self.held, line)?;
+            push_kept_line(&mut self.held, line)?;
         }
         if is_frame_open {
             Ok(())
@@ -219,8 +200,10 @@ impl Waiting {
 
     /// Keeps the lines that are due.
     #[tactic(auto, using(crate::proofs::KeptLaws::grows_none))]
-    fn keep_due<K: Keep>(&mut self, keeper: &mut K) -> Result<(), K::Fault>
+    fn keep_due<K: KeptWriter>(&mut self, keeper: &mut K) -> Result<(), K::Fault>
         ensures kept { OnOk result (Grows K.keeps keeper.old keeper.new self.old.due.items) }
+        ensures unsaid { Keeps (K.contents keeper.old) (K.contents keeper.new) }
+        ensures begun { Continues K.begun keeper.old keeper.new }
         ensures due { OnOk result (self.new.due.items ≡ []) }
         ensures held { self.new.held ≡ self.old.held }
         ensures answers { self.new.answers ≡ self.old.answers }
@@ -238,15 +221,18 @@ impl Waiting {
     }
 
     /// Sends the answers.
-    fn send_answers<W: Write>(&mut self, writer: &mut W) -> Result<(), AppFault>
-        ensures sent { OnOk result (Appends (W.contents writer.old) (W.contents writer.new)
+    fn send_answers<K: KeptWriter>(&mut self, keeper: &mut K) -> Result<(), AppFault>
+        requires { MaySend K.keeps K.contents K.begun keeper.old self.old.answers.items }
+        ensures sent { OnOk result (Appends (K.contents keeper.old) (K.contents keeper.new)
             self.old.answers.items) }
         ensures answers { OnOk result (self.new.answers.items ≡ []) }
         ensures fault { IfErr result (λ f. f ≡ WriteFault) }
+        ensures kept { StaysKept K.keeps keeper.old keeper.new }
+        ensures begun { Continues K.begun keeper.old keeper.new }
         ensures due { self.new.due ≡ self.old.due }
         ensures held { self.new.held ≡ self.old.held }
     {
-        match send(writer, self.answers.as_slice()) {
+        match keeper.send(self.answers.as_slice()) {
             Ok(()) => {
                 self.answers.clear();
                 Ok(())
@@ -256,25 +242,25 @@ impl Waiting {
     }
 
     /// Keeps the lines that are due, and then sends the answers.
-    pub(crate) fn settle<K: Keep, W: Write>(
+    pub(crate) fn settle<K: KeptWriter>(
         &mut self,
         keeper: &mut K,
-        writer: &mut W,
     ) -> Result<(), KeptFault<K::Fault>>
+        requires { MaySettle K.keeps K.contents K.begun keeper.old self.old.due.items self.old.answers.items }
         ensures kept { OnOk result (Grows K.keeps keeper.old keeper.new self.old.due.items) }
-        ensures sent { OnOk result (Appends (W.contents writer.old) (W.contents writer.new)
+        ensures sent { OnOk result (Appends (K.contents keeper.old) (K.contents keeper.new)
             self.old.answers.items) }
+        ensures begun { OnOk result (Continues K.begun keeper.old keeper.new) }
         ensures due { OnOk result (self.new.due.items ≡ []) }
         ensures held { OnOk result (self.new.held ≡ self.old.held) }
         ensures answers { OnOk result (self.new.answers.items ≡ []) }
-        ensures fails { IfErr result (FailsToSettle K.keeps keeper.old keeper.new self.old.due.items
-            (W.contents writer.old) (W.contents writer.new)) }
+        ensures fails { IfErr result (FailsToSettle K.keeps K.contents keeper.old keeper.new self.old.due.items) }
     {
         match self.keep_due(keeper) {
             Ok(()) => {}
             Err(fault) => return Err(KeptFault::Keep(fault)),
         }
-        match self.send_answers(writer) {
+        match self.send_answers(keeper) {
             Ok(()) => Ok(()),
             Err(fault) => Err(KeptFault::Ended(fault)),
         }
@@ -282,25 +268,20 @@ impl Waiting {
 
     /// Does so where it is due.
     #[tactic(auto, using(crate::proofs::KeptLaws::comes_on))]
-    pub(crate) fn settle_where<K: Keep, W: Write>(
+    pub(crate) fn settle_where<K: KeptWriter>(
         &mut self,
         is_due: bool,
         keeper: &mut K,
-        writer: &mut W,
     ) -> Result<(), KeptFault<K::Fault>>
-        ensures come { OnOk result ((style : Style) → (script : Option (List ℕ)) → (rest : Option (List ℕ))
-            → (start : Option (List ℕ)) → (kept : K) → (first : State) → (player : State) → (count : ℕ)
-            → Comes K.keeps style script rest start (W.contents writer.old) kept keeper.old first
-            (waiting_of player self.old) self.old.answers.items count
-            → Comes K.keeps style script rest start (W.contents writer.new) kept keeper.new first
-            (waiting_of player self.new) self.new.answers.items count) }
-        ensures fails { IfErr result (FailsToSettle K.keeps keeper.old keeper.new self.old.due.items
-            (W.contents writer.old) (W.contents writer.new)) }
+        requires { MaySettle K.keeps K.contents K.begun keeper.old self.old.due.items self.old.answers.items }
+        ensures come { OnOk result ((style : Style) (first : State) (start : K) (script rest : Option (List ℕ))
+            (last : List ℕ) (player : State) (count number : ℕ)
+            → HasCome K.keeps K.contents K.begun style first start keeper.old script rest last
+            (waiting_of player self.old) self.old.answers.items count number
+            → HasCome K.keeps K.contents K.begun style first start keeper.new script rest last
+            (waiting_of player self.new) self.new.answers.items count number) }
+        ensures fails { IfErr result (FailsToSettle K.keeps K.contents keeper.old keeper.new self.old.due.items) }
     {
-        if is_due {
-            self.settle(keeper, writer)
-        } else {
-            Ok(())
-        }
+        if is_due { self.settle(keeper) } else { Ok(()) }
     }
 }

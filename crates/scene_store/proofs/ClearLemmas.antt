@@ -27,7 +27,8 @@ use Rattle.sqlite.specs.State.{State, mode_of, Executes}
 use Rattle.sqlite.proofs.Callers.{IsPlain, command_of, runs_as, one_step}
 use Rattle.sqlite_schema.specs.declared.program.Program.{Program}
 use Rattle.sqlite_tied.specs.Compute.{everything}
-use Rattle.scene_store.specs.Store.{add_text, table_text, no_schema, head_line, clear_text, batch_table, store_schema, rows_from, HasBatches}
+use Rattle.scene_store.specs.Head.{head_line}
+use Rattle.scene_store.specs.Store.{add_text, table_text, no_schema, clear_text, batch_table, store_schema, rows_from, HasBatches}
 use Rattle.scene_store.proofs.StoreLemmas.{row_at, length_rows, any_at, went, same_value, adds_inside, creates_inside}
 
 abbrev query : Query
@@ -135,7 +136,15 @@ three_steps start cleared headed last lines batches counts has rows one two thre
     let head = adds_inside cleared headed [] head_line counts.1 none.0 none.1 two in
     adds_inside headed last (head_line ∷ []) lines counts.2 head.0 head.1 three
 
--- CREATE TABLE and the head
-pub two_steps : (start made last : State) (counts : ℕ × ℕ) → start.now.schema ≡ no_schema → Executes table_text [] start made (Ok counts.0)
-    → Executes add_text (Blob head_line ∷ []) made last (Ok counts.1) → (last.now.schema ≡ store_schema) × HasBatches last.now.trees (head_line ∷ [])
-two_steps start made last counts has one two = let table = creates_inside start made counts.0 has one in adds_inside made last [] head_line counts.1 table.0 table.1 two
+-- CREATE TABLE and the first row
+pub two_steps : (start made last : State) (head : List ℕ) (counts : ℕ × ℕ) → start.now.schema ≡ no_schema → Executes table_text [] start made (Ok counts.0)
+    → Executes add_text (Blob head ∷ []) made last (Ok counts.1) → (last.now.schema ≡ store_schema) × HasBatches last.now.trees (head ∷ [])
+two_steps start made last head counts has one two = let table = creates_inside start made counts.0 has one in adds_inside made last [] head counts.1 table.0 table.1 two
+
+-- and a second row
+pub fill_steps : (start made headed last : State) (head lines : List ℕ) (counts : ℕ × ℕ × ℕ) → start.now.schema ≡ no_schema → Executes table_text [] start made (Ok counts.0)
+    → Executes add_text (Blob head ∷ []) made headed (Ok counts.1) → Executes add_text (Blob lines ∷ []) headed last (Ok counts.2)
+    → (last.now.schema ≡ store_schema) × HasBatches last.now.trees (head ∷ lines ∷ [])
+fill_steps start made headed last head lines counts has one two three =
+    let first = two_steps start made headed head (counts.0, counts.1) has one two in
+    adds_inside headed last (head ∷ []) lines counts.2 first.0 first.1 three

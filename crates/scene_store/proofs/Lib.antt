@@ -1,2 +1,4 @@
 pub mod ClearLemmas
+pub mod FileLemmas
+pub mod HeadLemmas
 pub mod StoreLemmas

@@ -44,7 +44,8 @@ use Rattle.sqlite_schema.specs.declared.schema.Constraint.TheVariants.{Datatype,
 use Rattle.sqlite.specs.Store.{Ghosts}
 use Rattle.scene_store.specs.declared.store.Store.{Store}
 use Rattle.sqlite.proofs.Callers.{IsPlain, command_of, statement_of, runs_as, reads_as, one_step, never_commits}
-use Rattle.scene_store.specs.Store.{head_line, KeepsIfOpen, IsStore, IsIdle, HoldText, IsShown, AddsRow, table_text, add_text, all_text, IsQuiet, Keeps, within, batch_table, store_schema, no_schema, row_of, rows_from, HasBatches, Holds, AreShown}
+use Rattle.scene_store.specs.Head.{head_line}
+use Rattle.scene_store.specs.Store.{KeepsIfOpen, IsStore, IsIdle, HoldText, IsShown, AddsRow, table_text, add_text, all_text, IsQuiet, Keeps, within, batch_table, store_schema, no_schema, row_of, rows_from, HasBatches, Holds, AreShown}
 
 abbrev terms : List Term
 terms = lit Null ∷ lit Null ∷ col 0 0 ∷ []

@@ -13,6 +13,7 @@ use Rattle.sqlite.specs.Store.{Ghosts}
 use Rattle.sqlite.specs.State.{State, HasCleanDisk, IsUnchanged, IsRolledBack}
 use Rattle.sqlite.specs.Held.{state}
 use Rattle.scene_store.specs.declared.store.Store.{Store}
+use Rattle.scene_store.specs.Head.{head_line}
 
 -- ---- the texts of its statements
 
@@ -31,10 +32,6 @@ all_text = codes "SELECT number, lines FROM batch"
 -- no row is left
 abbrev pub clear_text : List ℕ
 clear_text = codes "DELETE FROM batch"
-
--- the first line of a store, which says what it is
-abbrev pub head_line : List ℕ
-head_line = codes "# scene store 1" ++ 10 ∷ []
 
 -- ---- its database
 
@@ -55,6 +52,15 @@ batch_table = record {
   stamps = record { places = []; terms = []; formats = [] };
   is_counted = false;
 }
+
+-- the table has no rule but its key and its columns
+pub record IsPlainTable (table : Table) : Type 0 where
+  pub uniques : table.uniques ≡ []
+  pub orders : table.orders ≡ []
+  pub checks : table.checks ≡ []
+  pub references : table.references ≡ []
+  pub computed : table.computed ≡ []
+  pub stamps : table.stamps ≡ batch_table.stamps
 
 -- the schema of a store
 abbrev pub store_schema : Schema

@@ -1,13 +1,24 @@
 //! A file of lines that are kept for good: an SQLite database.
 #![tactic(auto)]
 
+mod backup;
 mod fault;
+mod file_lines;
 mod kept;
+mod look;
 mod rewrite;
 mod rows;
 mod schema;
+mod snapshot;
 mod statements;
 mod store;
+mod version;
 
-pub use fault::StoreFault;
-pub use store::{FileLines, Store};
+pub use backup::{BackupFault, back_up};
+pub use fault::{FileFault, OpenFault, StoreFault};
+pub use file_lines::{FileLines, lines_at};
+pub use rows::StoredLines;
+pub use snapshot::Snapshot;
+pub use sqlite::Unknown;
+pub use store::Store;
+pub use version::Version;

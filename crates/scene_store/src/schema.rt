@@ -2,7 +2,7 @@
 ghost use Rattle.std.specs.Prelude.{◌≡◌, ◌↔◌, true, [], ◌∷◌, IsTrue, Some};
 ghost use Rattle.sqlite.specs.declared.types.Value.TheVariants.{Null};
 ghost use Rattle.sqlite.specs.Collation.TheVariants.{Binary};
-ghost use Rattle.scene_store.specs.Store.{batch_table, no_schema, store_schema};
+ghost use Rattle.scene_store.specs.Store.{batch_table, no_schema, store_schema, IsPlainTable};
 
 use sqlite_schema::schema::{Column, Kind, Schema, Table};
 use sqlite_value::keys::Collation;
@@ -17,7 +17,7 @@ pub(crate) fn is_blank(schema: &Schema) -> bool
 
 /// Whether a value is NULL.
 fn is_null(value: &Value) -> bool
-    ensures { IsTrue result → value.now ≡ Null }
+    ensures { IsTrue result ↔ (value.now ≡ Null) }
 {
     match value {
         Value::Null => true,
@@ -27,14 +27,14 @@ fn is_null(value: &Value) -> bool
 
 /// Whether a column is just this one.
 fn is_column(column: &Column, name: &[u8], kind: Kind, not_null: bool) -> bool
-    ensures { IsTrue result → column.now ≡ record {
+    ensures { IsTrue result ↔ (column.now ≡ record {
       name = name.now;
       kind = kind;
       is_strict = true;
       not_null = not_null;
       default = Null;
       collation = Binary;
-    } }
+    }) }
 {
     column.name.as_slice() == name
         && column.kind == kind
@@ -46,7 +46,7 @@ fn is_column(column: &Column, name: &[u8], kind: Kind, not_null: bool) -> bool
 
 /// Whether the columns are those of a store.
 fn are_columns(columns: &[Column]) -> bool
-    ensures { IsTrue result → columns.now ≡ batch_table.columns }
+    ensures { IsTrue result ↔ (columns.now ≡ batch_table.columns) }
 {
     columns.len() == 2
         && is_column(&columns[0], b"number", Kind::Integer, false)
@@ -55,19 +55,14 @@ fn are_columns(columns: &[Column]) -> bool
 
 /// Whether these are one place, the first.
 fn is_first(places: &[usize]) -> bool
-    ensures { IsTrue result → places.now ≡ 0 ∷ [] }
+    ensures { IsTrue result ↔ (places.now ≡ 0 ∷ []) }
 {
     places.len() == 1 && places[0] == 0
 }
 
 /// Whether a table has no rule but its key and its columns.
 fn is_plain(table: &Table) -> bool
-    ensures uniques { IsTrue result → table.now.uniques ≡ [] }
-    ensures orders { IsTrue result → table.now.orders ≡ [] }
-    ensures checks { IsTrue result → table.now.checks ≡ [] }
-    ensures references { IsTrue result → table.now.references ≡ [] }
-    ensures computed { IsTrue result → table.now.computed ≡ [] }
-    ensures stamps { IsTrue result → table.now.stamps ≡ batch_table.stamps }
+    ensures { IsTrue result ↔ IsPlainTable table.now }
 {
     table.uniques.is_empty()
         && table.orders.is_empty()
@@ -81,7 +76,7 @@ fn is_plain(table: &Table) -> bool
 
 /// Whether a table is that of a store.
 fn is_batch(table: &Table) -> bool
-    ensures { IsTrue result → table.now ≡ batch_table }
+    ensures { IsTrue result ↔ (table.now ≡ batch_table) }
 {
     table.name.as_slice() == b"batch".as_slice()
         && table.tree == 0
@@ -94,7 +89,7 @@ fn is_batch(table: &Table) -> bool
 
 /// Whether the schema is just that of a store.
 pub(crate) fn is_store(schema: &Schema) -> bool
-    ensures { IsTrue result → schema.now ≡ store_schema }
+    ensures { IsTrue result ↔ (schema.now ≡ store_schema) }
 {
     schema.indexes.is_empty()
         && schema.views.is_empty()

@@ -1,7 +1,8 @@
 //! The statements of a store, each in a function of its own.
-ghost use Rattle.std.specs.Prelude.{◌≡◌, ◌≢◌, List, ℕ, [], ◌∷◌, ◌++◌, IfOk, OnOk, OnErr};
+ghost use Rattle.std.specs.Prelude.{◌≡◌, ◌≢◌, List, ℕ, [], ◌∷◌, ◌++◌, IfOk, IfErr, OnOk, OnErr};
 ghost use Rattle.sqlite.specs.Held.{state};
 ghost use Rattle.sqlite.specs.State.{HasCleanDisk, IsLive, Survives, Shown};
+ghost use Rattle.scene_store.specs.Fault.{IsOfUse};
 ghost use Rattle.scene_store.specs.Store.{all_text, store_schema, Holds, IsQuiet, LeavesMore};
 
 use crate::fault::StoreFault;
@@ -28,6 +29,7 @@ pub(crate) fn all_rows<S: Alter>(conn: &mut Connection<S>) -> Result<Vec<Row>, S
         → IfOk result (λ rows. Shown all_text [] (state S.Store conn.old) (state S.Store conn.new) rows.items) }
     ensures err { HasCleanDisk (state S.Store conn.new)
         → OnErr result (IsQuiet (state S.Store conn.old) (state S.Store conn.new)) }
+    ensures fault { IfErr result IsOfUse }
     ensures survives { Survives (state S.Store conn.old) (state S.Store conn.new)
         (λ _. (state S.Store conn.old).now.schema ≢ store_schema) }
     ensures live { IsLive (state S.Store conn.old) }

@@ -1,71 +1,34 @@
 //! A store of lines.
-ghost use Rattle.std.specs.Prelude.{◌≡◌, ◌≢◌, List, ℕ, ◌++◌, IfOk, OnOk, OnErr};
+ghost use Rattle.std.specs.Prelude.{◌≡◌, ◌≢◌, ◌⊎◌, List, ℕ, ◌++◌, Err, IfOk, IfErr, IsOkAnd, OnOk, OnErr};
 ghost use Rattle.sqlite.specs.Held.{state};
-ghost use Rattle.sqlite.specs.Files.{over_files};
 ghost use Rattle.sqlite.specs.State.{HasCleanDisk, Survives};
-ghost use Rattle.scene_store.specs.Store.{no_schema, store_schema, head_line, IsStore, StartsIdle, within};
+ghost use Rattle.scene_store.specs.Head.{head_line, head_of, Begins, MayRefuse};
+ghost use Rattle.scene_store.specs.Store.{no_schema, store_schema, IsStore, StartsIdle, within};
 ghost use Rattle.scene_store.specs.Store.{Keeps, KeepsOn, KeepsIfOpen, LeavesMore, LeavesOthers};
+ghost use Rattle.scene_store.specs.declared.fault.StoreFault.TheVariants.{NotAStore};
 
 use crate::fault::StoreFault;
-use crate::rewrite::{rewrite, start};
-use crate::rows::{headed, text_of};
+use crate::rewrite::{fill, rewrite, start};
+use crate::rows::{StoredLines, headed, text_of, version_of};
 use crate::schema::{is_blank, is_store};
 use crate::statements::{add, all_rows};
-use sqlite::{Alter, Connection, FileFrom, FileStore, Unknown};
+use sqlite::{Alter, Connection};
 use std::alloc::Global;
 
-/// A store in a file, with its log beside it, PATH-wal.
-pub type FileLines = Store<FileStore<FileFrom<Unknown>>>;
-
 /// Lines that are kept for good: each call of `keep` is one row of an SQLite database, which a crash leaves whole or
-/// not at all. The first row is the head, the comment line `# scene store 1`, so all lines together are a script.
+/// not at all. The first row is the head, the comment line `# scene store 2`, so all lines together are a script.
 ///
 /// What a store keeps is known where the disk has returned what was written (`HasCleanDisk`). After a failure of the
 /// disk the database may be shut: then each call answers `DiskFault`, and another open may find the store well.
 #[derive(Drop)]
 pub struct Store<S: Alter + Drop> {
-    conn: Connection<S>,
-}
-
-impl FileLines {
-    /// Opens the store in the file at a path, or makes it where there is no file or an empty one. What is opened is a
-    /// store, whatever lines it keeps.
-    ///
-    /// - `StoreInUse`: another handle has the file open.
-    /// - `StoreUnopened`: the system doesn't open the file, or the path is empty, a URI or `:memory:`.
-    /// - `NotAStore`: the file is no database, or has other tables than a store.
-    /// - `StoreDamaged`, `DiskFull`, `DiskFault`: the file's pages are unsound, or the disk is full or failed.
-    /// - `NoMemory`: no memory was found.
-    ///
-    /// It reads the whole file once.
-    pub fn open(rt: &HostRuntime, path: &str) -> Result<FileLines, StoreFault>
-        ensures { IfOk result (IsStore over_files) }
-    {
-        match Connection::open_from(rt, path, true, Unknown) {
-            Ok(conn) => Store::over(conn),
-            Err((error, _)) => Err(StoreFault::of(error)),
-        }
-    }
-
-    /// Ends the use of the file, and copies the log into it. A store that is dropped loses nothing, but leaves its
-    /// lines in the log, and the two files have to be kept together. No clause says what the files hold then.
-    ///
-    /// - `DiskFull`, `DiskFault`, `StoreDamaged`, `NoMemory`: the log wasn't copied whole. The two files still
-    ///   belong together.
-    ///
-    /// It writes each page of the log once.
-    pub fn close(self) -> Result<(), StoreFault> {
-        let Store { conn } = self;
-        match conn.close() {
-            Ok(()) => Ok(()),
-            Err(error) => Err(StoreFault::of(error)),
-        }
-    }
+    pub(crate) conn: Connection<S>,
 }
 
 impl<S: Alter + Drop> Store<S> {
     /// The store of a database outside a transaction, which has nothing in it or is a store. One that has nothing in
-    /// it is made a store, which keeps just the head.
+    /// it is made a store of the newest version, which keeps just the head. A store is left as it is, whatever its
+    /// version.
     ///
     /// - `NotAStore`: the database has something else than the table of a store. It is as it was.
     /// - `DiskFull`, `DiskFault`, `StoreDamaged`, `NoMemory`: the disk or the memory failed while the store was made,
@@ -73,7 +36,12 @@ impl<S: Alter + Drop> Store<S> {
     pub fn over(conn: Connection<S>) -> Result<Store<S>, StoreFault>
         ensures made { (state S.Store conn).now.schema ≡ no_schema → StartsIdle (state S.Store conn)
             → IfOk result (λ store. Keeps S.Store store head_line) }
+        ensures there { (state S.Store conn).now.schema ≡ store_schema → IsOkAnd result (λ store. store.conn ≡ conn) }
+        ensures other { (state S.Store conn).now.schema ≢ no_schema → (state S.Store conn).now.schema ≢ store_schema
+            → result ≡ Err NotAStore }
+        ensures known { OnOk result (((state S.Store conn).now.schema ≡ no_schema) ⊎ ((state S.Store conn).now.schema ≡ store_schema)) }
         ensures store { StartsIdle (state S.Store conn) → IfOk result (IsStore S.Store) }
+        ensures clean { IfOk result (λ store. HasCleanDisk (within S.Store store) → HasCleanDisk (state S.Store conn)) }
     {
         let mut conn = conn;
         if is_blank(conn.schema()) {
@@ -81,10 +49,51 @@ impl<S: Alter + Drop> Store<S> {
                 Ok(()) => Ok(Store { conn }),
                 Err(fault) => Err(fault),
             }
-        } else if is_store(conn.schema()) {
+        } else {
+            Store::over_store(conn)
+        }
+    }
+
+    /// The store of a database that is one, outside a transaction. It is left as it is, whatever its version.
+    ///
+    /// - `NotAStore`: the database hasn't just the table of a store. It is as it was.
+    pub fn over_store(conn: Connection<S>) -> Result<Store<S>, StoreFault>
+        ensures there { (state S.Store conn).now.schema ≡ store_schema → IsOkAnd result (λ store. store.conn ≡ conn) }
+        ensures other { (state S.Store conn).now.schema ≢ store_schema → result ≡ Err NotAStore }
+        ensures known { OnOk result ((state S.Store conn).now.schema ≡ store_schema) }
+        ensures store { StartsIdle (state S.Store conn) → IfOk result (IsStore S.Store) }
+    {
+        if is_store(conn.schema()) {
             Ok(Store { conn })
         } else {
             Err(StoreFault::NotAStore)
+        }
+    }
+
+    /// A store of these lines, in a database outside a transaction that has nothing in it: a copy of the store whose
+    /// lines they are, of the same version.
+    ///
+    /// - `NotAStore`: the database has something in it; it is as it was. Or the first line is no head.
+    /// - `NewerStore`: the first line is the head of another version.
+    /// - `DiskFull`, `DiskFault`, `StoreDamaged`, `NoMemory`: the disk or the memory failed. All is made in one commit:
+    ///   the next `over` finds nothing, or a store that keeps all these lines. `DiskFull` also where the lines are more
+    ///   than a row can take.
+    pub fn filled(conn: Connection<S>, text: &[u8]) -> Result<Store<S>, StoreFault>
+        ensures made { StartsIdle (state S.Store conn) → IfOk result (λ store. Keeps S.Store store text.now) }
+        ensures blank { OnOk result ((state S.Store conn).now.schema ≡ no_schema) }
+        ensures other { (state S.Store conn).now.schema ≢ no_schema → result ≡ Err NotAStore }
+    {
+        let mut conn = conn;
+        if !is_blank(conn.schema()) {
+            return Err(StoreFault::NotAStore);
+        }
+        let (head, lines) = match split_head(text) {
+            Ok(parts) => parts,
+            Err(fault) => return Err(fault),
+        };
+        match fill(&mut conn, head, lines) {
+            Ok(()) => Ok(Store { conn }),
+            Err(fault) => Err(fault),
         }
     }
 
@@ -108,8 +117,8 @@ impl<S: Alter + Drop> Store<S> {
         add(&mut self.conn, lines)
     }
 
-    /// All lines that are kept, the head first. Of a store that was opened they are what it keeps from then on, and
-    /// what it was known to keep they are.
+    /// All lines that are kept, the head first, and the version that it says. Of a store that was opened they are what
+    /// it keeps from then on, and what it was known to keep they are.
     ///
     /// - `NewerStore`: the first line is the head of another version.
     /// - `NotAStore`: the first line is no head.
@@ -117,10 +126,13 @@ impl<S: Alter + Drop> Store<S> {
     /// - `DiskFault`, `NoMemory`: the disk failed, now or before, or no memory was found.
     ///
     /// Nothing is changed. It reads all rows, and holds their lines twice for a while.
-    pub fn lines(&mut self, alloc: Global) -> Result<Vec<u8>, StoreFault>
-        ensures whole { IsStore S.Store self.old → IfOk result (λ found. Keeps S.Store self.new found.items) }
+    pub fn lines(&mut self, alloc: Global) -> Result<StoredLines, StoreFault>
+        ensures whole { IsStore S.Store self.old → IfOk result (λ found. Keeps S.Store self.new found.text.items) }
         ensures found { HasCleanDisk (within S.Store self.new)
-            → IfOk result (λ found. (text : List ℕ) → Keeps S.Store self.old text → found.items ≡ text) }
+            → IfOk result (λ found. (text : List ℕ) → Keeps S.Store self.old text → found.text.items ≡ text) }
+        ensures head { IfOk result (λ found. Begins found.text.items (head_of found.version)) }
+        ensures refused { HasCleanDisk (within S.Store self.new)
+            → IfErr result (λ fault. (text : List ℕ) → Keeps S.Store self.old text → MayRefuse text fault) }
         ensures same { OnOk result (KeepsOn S.Store self.old self.new) }
         ensures err { OnErr result (KeepsIfOpen S.Store self.old self.new) }
         ensures survives { Survives (within S.Store self.old) (within S.Store self.new)
@@ -131,8 +143,8 @@ impl<S: Alter + Drop> Store<S> {
         headed(text)
     }
 
-    /// Puts the head and these lines in place of all that is kept, in one commit, so that a store whose lines say less
-    /// than they are long gets short. A crash at any moment of the call leaves what it could leave before, or the
+    /// Puts the head of the newest version and these lines in place of all that is kept, in one commit, so that a store
+    /// whose lines say less than they are long gets short. A crash at any moment of the call leaves what it could leave before, or the
     /// two new rows.
     ///
     /// - `DiskFull`: the disk is full, or the lines are more than a row can take.
@@ -149,5 +161,15 @@ impl<S: Alter + Drop> Store<S> {
             (LeavesOthers (within S.Store self.old) lines.now) }
     {
         rewrite(&mut self.conn, lines)
+    }
+}
+
+/// The first line of a store's text, and the others.
+fn split_head(text: &[u8]) -> Result<(&[u8], &[u8]), StoreFault>
+    ensures { IfOk result (λ parts. text.now ≡ parts.0.now ++ parts.1.now) }
+{
+    match version_of(text) {
+        Ok(version) => Ok(text.split_at(version.head().len())),
+        Err(fault) => Err(fault),
     }
 }

@@ -8,6 +8,8 @@
 mod home_tests;
 mod left;
 #[cfg(test)]
+mod opening_tests;
+#[cfg(test)]
 mod queue_tests;
 #[cfg(test)]
 mod run_tests;

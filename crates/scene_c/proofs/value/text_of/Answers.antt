@@ -9,6 +9,11 @@ returns-in_ok-from_str-in-Ok c =
     let good = is_utf8-from_IsUtf8 c.args.bytes.now c.in-Ok.ensures.cases.1 in
     search (rules, good)
 
+pub returns-in_err-from_str-in-Ok-clause-memory : goal.returns-in_err-from_str-in-Ok-clause-memory
+returns-in_err-from_str-in-Ok-clause-memory c =
+    let good = is_utf8-from_IsUtf8 c.args.bytes.now c.in-Ok.ensures.cases.1 in
+    search (rules, good)
+
 pub returns-in-Err : goal.returns-in-Err
 returns-in-Err c =
     let bytes = c.args.bytes.now in

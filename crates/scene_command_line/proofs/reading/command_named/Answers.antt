@@ -6,7 +6,7 @@ use Rattle.clap.specs.Words.{Row, Text, first_of, found_of, rows_of}
 use Rattle.clap.specs.declared.parser.matches.ArgMatches.{ArgMatches}
 use Rattle.clap.proofs.WalkLemmas.{first_value-rows}
 use Rattle.scene_command_line.specs.Asks.{ToCompact, ToLog, ToShow}
-use Rattle.scene_command_line.specs.Words.{command_named, file_asked, has_flag, run_asked, shell_asked}
+use Rattle.scene_command_line.specs.Words.{backup_asked, command_named, file_asked, has_flag, run_asked, shell_asked}
 use Rattle.scene_command_line.proofs.reading.command_named.Goals as goal
 
 abbrev options_of : ArgMatches → List Row
@@ -67,3 +67,14 @@ returns-in-compact c =
     rw c.in-compact.is refl in
     IfOk-weaker c.compact_asked.result _ _
     (λ asked is. is ∙ (ap (file_asked ToCompact) file ∙ sym named)) c.compact_asked.ensures
+
+pub returns-in-backup : goal.returns-in-backup
+returns-in-backup c =
+    let options = options_of c.args.options.now in
+    let file = value_of c.args.options.now (codes "file") c.get_str-in-backup.result c.get_str-in-backup.ensures in
+    let copy = value_of c.args.options.now (codes "copy") c.get_str-in-backup-2.result c.get_str-in-backup-2.ensures in
+    let named : command_named c.args.name.now options
+    ≡ backup_asked (first_of (codes "file") options) (first_of (codes "copy") options) =
+    rw c.in-backup.is refl in
+    IfOk-weaker c.backup_asked.result _ _
+    (λ asked is. is ∙ (ap₂ backup_asked file copy ∙ sym named)) c.backup_asked.ensures

@@ -9,6 +9,8 @@ returns c =
     ∙ ap₂ with_subcommand c.in_ok-commands_without_file.ensures c.in_ok-show.ensures.shape in
     let second = c.in_ok-subcommand-2.ensures.shape c.in_ok-log.ensures.local
     ∙ ap₂ with_subcommand first c.in_ok-log.ensures.shape in
-    IfOk-weaker c.subcommand-3.result _ _
-    (λ made adds. adds.shape c.in_ok-compact.ensures.local ∙ ap₂ with_subcommand second c.in_ok-compact.ensures.shape)
-    c.subcommand-3.ensures
+    let third = c.in_ok-subcommand-3.ensures.shape c.in_ok-compact.ensures.local
+    ∙ ap₂ with_subcommand second c.in_ok-compact.ensures.shape in
+    IfOk-weaker c.subcommand-4.result _ _
+    (λ made adds. adds.shape c.in_ok-backup.ensures.local ∙ ap₂ with_subcommand third c.in_ok-backup.ensures.shape)
+    c.subcommand-4.ensures

@@ -1,9 +1,13 @@
-use Rattle.std.proofs.Common.{◌≡◌}
+use Rattle.std.proofs.Common.{◌+◌, ◌≤◌, length}
 use Rattle.std.specs.Str.Lines.{lines}
 use Rattle.scene_player.specs.Player.{player_of}
-use Rattle.scene_shell.specs.Shell.{player_after}
+use Rattle.scene_kept.proofs.Played.{HasPlayed}
 use Rattle.scene_kept.proofs.play_again.play_noted.Given as goal
 
--- the lines that are left lead to the player that all lead to
+-- each line takes a byte at least
+abbrev pub decreases-lines : goal.decreases-lines
+decreases-lines g l = length l.rest
+
+-- the lines before the rest are played
 abbrev pub invariant-lines : goal.invariant-lines
-invariant-lines g l = player_after (player_of l.player) (lines l.rest) ≡ player_after (player_of l.initial.player) (lines l.text)
+invariant-lines g l = HasPlayed (player_of l.initial.player) (player_of l.player) (lines l.text) (lines l.rest) l.number × (l.number + length l.rest ≤ length l.text)

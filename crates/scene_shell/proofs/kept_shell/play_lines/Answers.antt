@@ -1,74 +1,98 @@
-use Rattle.std.proofs.Common.{◌≡◌, ◌<◌, ◌+◌, IfSome, ◌∙◌, ap, sym, refl, subst, arith, length}
+use Rattle.std.proofs.Common.{◌≡◌, ◌<◌, ◌+◌, [], ◌∙◌, ap, sym, refl, subst, arith, length}
 use Rattle.std.proofs.lemmas.Bool.Decides.{nat_tests}
 use Rattle.std.specs.Io.Buffered.{reader_remaining}
-use Rattle.std.specs.Io.BufRead.{take_through}
-use Rattle.scene_app.specs.declared.fault.AppFault.TheVariants.{TooLong}
 use Rattle.scene_player.specs.Player.{player_of}
-use Rattle.scene_shell.specs.Kept.{keeping_of}
-use Rattle.scene_shell.proofs.KeptLaws.{begins, comes_fails, comes_halts, comes_line, comes_stops, comes_to_end}
+use Rattle.scene_shell.specs.Waits.{IsBad, IsPlayed, IsUnread, keeping_of}
+use Rattle.scene_shell.proofs.KeptLaws.{come_fails, come_may, come_stops, comes_first, comes_line, nothing_left, stops_none, too_long, unread_stops}
 use Rattle.scene_shell.proofs.kept_shell.play_lines.Goals as goal
 
 pub lines-init : goal.lines-init
 lines-init g c = record {
-  come = begins g.K.Keep.keeps c.args.style (g.W.Write.contents c.args.writer.now) c.args.keeper.now (player_of c.args.player.now)
+  come = comes_first g.K.KeptWriter.keeps g.K.KeptWriter.contents g.K.KeptWriter.begun c.args.style (player_of c.args.player.now) c.args.keeper.now
       (reader_remaining g.R.Read.remaining c.args.reader.now) c.args.waiting.now.due.items c.args.waiting.now.held.items c.args.waiting.now.answers.items
-      c.requires.due c.requires.held c.requires.answers;
+      c.requires.due c.requires.held c.requires.answers c.requires.begun;
   few = omega arith;
 }
 
 pub returns-in-Err : goal.returns-in-Err
 returns-in-Err g c =
-    comes_stops g.K.Keep.keeps c.args.style (g.W.Write.contents c.args.writer.now) c.args.keeper.now (player_of c.args.player.now) g.row.K-Fault.Denot c.in-Err.fault
-    (reader_remaining g.R.Read.remaining c.args.reader.now) (reader_remaining g.R.Read.remaining c.lines.reader) (g.W.Write.contents c.lines.writer) c.lines.keeper
-    (keeping_of c.lines.player c.lines.waiting) c.lines.waiting.answers.items c.lines.bad_lines c.lines.waiting.due.items c.lines.invariant.come refl
+    come_stops g.K.KeptWriter.keeps g.K.KeptWriter.contents g.K.KeptWriter.begun c.args.style (player_of c.args.player.now) c.args.keeper.now
+    (reader_remaining g.R.Read.remaining c.args.reader.now) g.row.K-Fault.Denot c.in-Err.fault c.lines.keeper (reader_remaining g.R.Read.remaining c.lines.reader)
+    (reader_remaining g.R.Read.remaining c.read_line.new.reader) c.read_line.new.line.items (keeping_of c.lines.player c.lines.waiting) c.lines.waiting.due.items
+    c.lines.waiting.answers.items c.lines.waiting.answers.items c.lines.bad_lines c.lines.number c.lines.invariant.come c.in-Err.ensures.part c.in-Err.ensures.taken refl refl
+    (unread_stops (reader_remaining g.R.Read.remaining c.args.reader.now) (reader_remaining g.R.Read.remaining c.read_line.new.reader) c.read_line.new.line.items c.lines.bad_lines
+    c.lines.number c.in-Err.fault c.in-Err.ensures.fault)
 
 pub returns-then-is_empty : goal.returns-then-is_empty
 returns-then-is_empty g c =
-    let none : length c.as_slice-read.result.now ≡ 0 = grind (arith, nat_tests, c.is_empty.ensures, c.if-is_empty.true) in
-    comes_to_end g.K.Keep.keeps c.args.style (g.W.Write.contents c.args.writer.now) c.args.keeper.now (player_of c.args.player.now) g.row.K-Fault.Denot
-    (reader_remaining g.R.Read.remaining c.args.reader.now) (reader_remaining g.R.Read.remaining c.lines.reader) (g.W.Write.contents c.lines.writer) c.lines.keeper
-    (keeping_of c.lines.player c.lines.waiting) c.lines.waiting.answers.items c.lines.bad_lines c.read_line.new.line.items c.lines.waiting.due.items
-    c.lines.invariant.come c.in_default.ensures.line (ap length (sym c.as_slice-read.ensures.value) ∙ none) refl
+    let none : length c.read_line.new.line.items ≡ 0 =
+    ap length (sym c.as_slice-read.ensures.value) ∙ (grind (arith, nat_tests, c.is_empty.ensures, c.if-is_empty.true)) in
+    nothing_left g.K.KeptWriter.keeps g.K.KeptWriter.contents g.K.KeptWriter.begun c.args.style (player_of c.args.player.now) c.args.keeper.now
+    (reader_remaining g.R.Read.remaining c.args.reader.now) g.row.K-Fault.Denot c.lines.keeper (reader_remaining g.R.Read.remaining c.lines.reader)
+    (reader_remaining g.R.Read.remaining c.read_line.new.reader) c.read_line.new.line.items (keeping_of c.lines.player c.lines.waiting)
+    c.lines.waiting.answers.items c.lines.bad_lines c.lines.number c.lines.invariant.come none c.in_default.ensures.line c.in_default.ensures.rest c.in_default.ensures.taken
 
 pub returns-in-Err-play : goal.returns-in-Err-play
 returns-in-Err-play g c =
-    comes_halts g.K.Keep.keeps c.args.style (g.W.Write.contents c.args.writer.now) c.args.keeper.now (player_of c.args.player.now) g.row.K-Fault.Denot c.in-Err-play.fault
-    (reader_remaining g.R.Read.remaining c.args.reader.now) (reader_remaining g.R.Read.remaining c.lines.reader) (g.W.Write.contents c.lines.writer) c.lines.keeper
-    (keeping_of c.lines.player c.lines.waiting) c.lines.waiting.answers.items c.play.new.self.answers.items c.lines.bad_lines c.play.new.self.due.items
-    c.lines.invariant.come (sym c.in-Err-play.ensures.due) c.in-Err-play.ensures.unsaid
+    come_stops g.K.KeptWriter.keeps g.K.KeptWriter.contents g.K.KeptWriter.begun c.args.style (player_of c.args.player.now) c.args.keeper.now
+    (reader_remaining g.R.Read.remaining c.args.reader.now) g.row.K-Fault.Denot c.in-Err-play.fault c.lines.keeper (reader_remaining g.R.Read.remaining c.lines.reader)
+    (reader_remaining g.R.Read.remaining c.read_line.new.reader) c.read_line.new.line.items (keeping_of c.lines.player c.lines.waiting) c.play.new.self.due.items
+    c.lines.waiting.answers.items c.play.new.self.answers.items c.lines.bad_lines c.lines.number c.lines.invariant.come c.in_default.ensures.part c.in_default.ensures.taken
+    (sym c.in-Err-play.ensures.due) c.in-Err-play.ensures.unsaid
+    (unread_stops (reader_remaining g.R.Read.remaining c.args.reader.now) (reader_remaining g.R.Read.remaining c.read_line.new.reader) c.read_line.new.line.items c.lines.bad_lines
+    c.lines.number c.in-Err-play.fault (subst IsUnread (sym c.in-Err-play.ensures.fault) tt))
+
+pub settle_where-requires : goal.settle_where-requires
+settle_where-requires g c =
+    let line = c.read_line.new.line.items in
+    let same : c.as_slice-read.result.now ≡ line = c.as_slice-read.ensures.value in
+    let some : 0 < length line = subst (λ t. 0 < length t) same (grind (arith, nat_tests, c.is_empty.ensures, c.if-is_empty.false)) in
+    let more = reader_remaining g.R.Read.remaining c.read_line.new.reader in
+    let next = keeping_of c.play.new.player c.play.new.self in
+    let come = comes_line g.K.KeptWriter.keeps g.K.KeptWriter.contents g.K.KeptWriter.begun c.args.style (player_of c.args.player.now) c.args.keeper.now (reader_remaining g.R.Read.remaining c.args.reader.now) c.lines.keeper
+    (reader_remaining g.R.Read.remaining c.lines.reader) more (keeping_of c.lines.player c.lines.waiting) next c.lines.waiting.answers.items c.play.new.self.answers.items
+    c.lines.bad_lines c.in-Ok.bad c.lines.number line c.lines.invariant.come c.in_default.ensures.line c.in_default.ensures.rest c.in_default.ensures.part some
+    (subst (λ t. IsPlayed c.args.style t (keeping_of c.lines.player c.lines.waiting) next c.lines.waiting.answers.items c.play.new.self.answers.items) same c.in-Ok.ensures.played)
+    (subst (λ t. IsBad t (player_of c.lines.player) c.in-Ok.bad) same c.in-Ok.ensures.bad) in
+    come_may g.K.KeptWriter.keeps g.K.KeptWriter.contents g.K.KeptWriter.begun c.args.style (player_of c.args.player.now) c.args.keeper.now (reader_remaining g.R.Read.remaining c.args.reader.now) c.lines.keeper more []
+    next c.play.new.self.due.items c.play.new.self.answers.items (c.lines.bad_lines + c.in-Ok.bad) (c.lines.number + 1) refl come
 
 pub returns-in-Err-settle_where : goal.returns-in-Err-settle_where
 returns-in-Err-settle_where g c =
-    let read = c.as_slice-read.result.now in
-    let some : 0 < length read = grind (arith, nat_tests, c.is_empty.ensures, c.if-is_empty.false) in
-    let b = reader_remaining g.R.Read.remaining c.lines.reader in
-    let come = comes_line g.K.Keep.keeps c.args.style (g.W.Write.contents c.args.writer.now) c.args.keeper.now (player_of c.args.player.now)
-    (reader_remaining g.R.Read.remaining c.args.reader.now) b (reader_remaining g.R.Read.remaining c.read_line.new.reader) (g.W.Write.contents c.lines.writer) c.lines.keeper
-    (keeping_of c.lines.player c.lines.waiting) (keeping_of c.play.new.player c.play.new.self) c.lines.waiting.answers.items c.play.new.self.answers.items c.lines.bad_lines c.in-Ok.bad read
-    c.lines.invariant.come (subst (λ t. IfSome b (λ rest. t ≡ take_through 10 rest)) (sym c.as_slice-read.ensures.value) c.in_default.ensures.line)
-    c.in_default.ensures.rest some c.in-Ok.ensures.played c.in-Ok.ensures.bad in
-    comes_fails g.K.Keep.keeps c.args.style (g.W.Write.contents c.args.writer.now) c.args.keeper.now (player_of c.args.player.now) c.in-Err-settle_where.fault
-    (reader_remaining g.R.Read.remaining c.args.reader.now) (reader_remaining g.R.Read.remaining c.read_line.new.reader) (g.W.Write.contents c.lines.writer) (g.W.Write.contents c.settle_where.new.writer)
-    c.lines.keeper c.settle_where.new.keeper (keeping_of c.play.new.player c.play.new.self) c.play.new.self.answers.items (c.lines.bad_lines + c.in-Ok.bad) _ _ come c.in-Err-settle_where.ensures.fails
+    let line = c.read_line.new.line.items in
+    let same : c.as_slice-read.result.now ≡ line = c.as_slice-read.ensures.value in
+    let some : 0 < length line = subst (λ t. 0 < length t) same (grind (arith, nat_tests, c.is_empty.ensures, c.if-is_empty.false)) in
+    let more = reader_remaining g.R.Read.remaining c.read_line.new.reader in
+    let next = keeping_of c.play.new.player c.play.new.self in
+    let come = comes_line g.K.KeptWriter.keeps g.K.KeptWriter.contents g.K.KeptWriter.begun c.args.style (player_of c.args.player.now) c.args.keeper.now (reader_remaining g.R.Read.remaining c.args.reader.now) c.lines.keeper
+    (reader_remaining g.R.Read.remaining c.lines.reader) more (keeping_of c.lines.player c.lines.waiting) next c.lines.waiting.answers.items c.play.new.self.answers.items
+    c.lines.bad_lines c.in-Ok.bad c.lines.number line c.lines.invariant.come c.in_default.ensures.line c.in_default.ensures.rest c.in_default.ensures.part some
+    (subst (λ t. IsPlayed c.args.style t (keeping_of c.lines.player c.lines.waiting) next c.lines.waiting.answers.items c.play.new.self.answers.items) same c.in-Ok.ensures.played)
+    (subst (λ t. IsBad t (player_of c.lines.player) c.in-Ok.bad) same c.in-Ok.ensures.bad) in
+    come_fails g.K.KeptWriter.keeps g.K.KeptWriter.contents g.K.KeptWriter.begun c.args.style (player_of c.args.player.now) c.args.keeper.now (reader_remaining g.R.Read.remaining c.args.reader.now) c.in-Err-settle_where.fault c.lines.keeper
+    c.settle_where.new.keeper more [] next c.play.new.self.due.items c.play.new.self.answers.items (c.lines.bad_lines + c.in-Ok.bad) (c.lines.number + 1) come
+    stops_none refl c.in-Err-settle_where.ensures.fails
 
 pub lines-preserved : goal.lines-preserved
 lines-preserved g c =
-    let read = c.as_slice-read.result.now in
-    let some : 0 < length read = grind (arith, nat_tests, c.is_empty.ensures, c.if-is_empty.false) in
-    let b = reader_remaining g.R.Read.remaining c.lines.reader in
-    let come = comes_line g.K.Keep.keeps c.args.style (g.W.Write.contents c.args.writer.now) c.args.keeper.now (player_of c.args.player.now)
-    (reader_remaining g.R.Read.remaining c.args.reader.now) b (reader_remaining g.R.Read.remaining c.read_line.new.reader) (g.W.Write.contents c.lines.writer) c.lines.keeper
-    (keeping_of c.lines.player c.lines.waiting) (keeping_of c.play.new.player c.play.new.self) c.lines.waiting.answers.items c.play.new.self.answers.items c.lines.bad_lines c.in-Ok.bad read
-    c.lines.invariant.come (subst (λ t. IfSome b (λ rest. t ≡ take_through 10 rest)) (sym c.as_slice-read.ensures.value) c.in_default.ensures.line)
-    c.in_default.ensures.rest some c.in-Ok.ensures.played c.in-Ok.ensures.bad in
+    let line = c.read_line.new.line.items in
+    let same : c.as_slice-read.result.now ≡ line = c.as_slice-read.ensures.value in
+    let some : 0 < length line = subst (λ t. 0 < length t) same (grind (arith, nat_tests, c.is_empty.ensures, c.if-is_empty.false)) in
+    let more = reader_remaining g.R.Read.remaining c.read_line.new.reader in
+    let next = keeping_of c.play.new.player c.play.new.self in
+    let come = comes_line g.K.KeptWriter.keeps g.K.KeptWriter.contents g.K.KeptWriter.begun c.args.style (player_of c.args.player.now) c.args.keeper.now (reader_remaining g.R.Read.remaining c.args.reader.now) c.lines.keeper
+    (reader_remaining g.R.Read.remaining c.lines.reader) more (keeping_of c.lines.player c.lines.waiting) next c.lines.waiting.answers.items c.play.new.self.answers.items
+    c.lines.bad_lines c.in-Ok.bad c.lines.number line c.lines.invariant.come c.in_default.ensures.line c.in_default.ensures.rest c.in_default.ensures.part some
+    (subst (λ t. IsPlayed c.args.style t (keeping_of c.lines.player c.lines.waiting) next c.lines.waiting.answers.items c.play.new.self.answers.items) same c.in-Ok.ensures.played)
+    (subst (λ t. IsBad t (player_of c.lines.player) c.in-Ok.bad) same c.in-Ok.ensures.bad) in
     record {
-      come = c.in-Ok-settle_where.ensures.come c.args.style (reader_remaining g.R.Read.remaining c.args.reader.now) (reader_remaining g.R.Read.remaining c.read_line.new.reader)
-          (g.W.Write.contents c.args.writer.now) c.args.keeper.now (player_of c.args.player.now) (player_of c.play.new.player) (c.lines.bad_lines + c.in-Ok.bad) come;
+      come = c.in-Ok-settle_where.ensures.come c.args.style (player_of c.args.player.now) c.args.keeper.now (reader_remaining g.R.Read.remaining c.args.reader.now) more []
+          (player_of c.play.new.player) (c.lines.bad_lines + c.in-Ok.bad) (c.lines.number + 1) come;
       few = omega (arith, c.in-Ok.ensures.one, c.lines.invariant.few);
     }
 
 pub returns : goal.returns
 returns g c =
-    comes_stops g.K.Keep.keeps c.args.style (g.W.Write.contents c.args.writer.now) c.args.keeper.now (player_of c.args.player.now) g.row.K-Fault.Denot TooLong
-    (reader_remaining g.R.Read.remaining c.args.reader.now) (reader_remaining g.R.Read.remaining c.lines.reader) (g.W.Write.contents c.lines.writer) c.lines.keeper
-    (keeping_of c.lines.player c.lines.waiting) c.lines.waiting.answers.items c.lines.bad_lines c.lines.waiting.due.items c.lines.invariant.come refl
+    too_long g.K.KeptWriter.keeps g.K.KeptWriter.contents g.K.KeptWriter.begun c.args.style (player_of c.args.player.now) c.args.keeper.now (reader_remaining g.R.Read.remaining c.args.reader.now) g.row.K-Fault.Denot c.lines.keeper
+    (reader_remaining g.R.Read.remaining c.lines.reader) (keeping_of c.lines.player c.lines.waiting) c.lines.waiting.answers.items c.lines.bad_lines c.lines.number c.lines.invariant.come
+    (omega (arith, c.lines-test.false))

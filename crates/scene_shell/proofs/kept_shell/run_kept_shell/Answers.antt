@@ -1,9 +1,10 @@
-use Rattle.std.proofs.lemmas.Option.{IfSome_then}
 use Rattle.std.specs.Io.Buffered.{reader_remaining}
 use Rattle.scene_player.specs.Player.{player_of}
+use Rattle.scene_shell.proofs.KeptLaws.{ends_from}
 use Rattle.scene_shell.proofs.kept_shell.run_kept_shell.Goals as goal
 
 pub returns : goal.returns
 returns g c =
-    IfSome_then (reader_remaining g.R.Read.remaining c.args.reader.now) c.play_lines-played.ensures
-    (λ script led. c.settle_last.ensures c.args.style script (g.W.Write.contents c.args.writer.now) c.args.keeper.now (player_of c.args.player.now) led)
+    ends_from g.K.KeptWriter.keeps g.K.KeptWriter.contents c.args.style (player_of c.args.player.now) c.args.keeper.now c.begin.new.self c.play_settled.new.keeper
+    c.begin.ensures.kept c.begin.ensures.written
+    (reader_remaining g.R.Read.remaining c.args.reader.now) (reader_remaining g.R.Read.remaining c.play_settled.new.reader) c.play_settled.result c.play_settled.ensures

@@ -5,7 +5,8 @@ use Rattle.sqlite.specs.Held.{state}
 use Rattle.sqlite.specs.State.{HasCleanDisk, Survives}
 use Rattle.sqlite.proofs.StateLemmas.{survives_then}
 use Rattle.sqlite.proofs.Callers.{survives_begin}
-use Rattle.scene_store.specs.Store.{head_line, store_schema, HasBatches, Holds, LeavesOthers}
+use Rattle.scene_store.specs.Head.{head_line}
+use Rattle.scene_store.specs.Store.{store_schema, HasBatches, Holds, LeavesOthers}
 use Rattle.scene_store.proofs.ClearLemmas.{three_steps}
 use Rattle.scene_store.proofs.rewrite.rewrite.Goals as goal
 
@@ -26,7 +27,7 @@ returns-clause-done g c clean batches holds =
     let rows : HasBatches (state g.S.Store tx).now.trees batches = rw begun holds.rows in
     let done : ((state g.S.Store last).now.schema ≡ store_schema) × HasBatches (state g.S.Store last).now.trees (head_line ∷ c.args.lines.now ∷ []) =
     three_steps (state g.S.Store tx) (state g.S.Store cleared) (state g.S.Store headed) (state g.S.Store last) c.args.lines.now batches (_, _, _) has rows
-    one.0 (rw c.params-to_sql.ensures at two.0) (rw c.params-to_sql-2.ensures at three.0) in
+    one.0 (rw (c.params-to_sql.ensures, c.head.ensures) at two.0) (rw c.params-to_sql-2.ensures at three.0) in
     done in
     let same : c.commit.new.self.0 ≡ c.conn-2-1.given.0 = search rules in
     let late : HasCleanDisk (state g.S.Store c.commit.new.self.0) = search rules in
@@ -57,7 +58,7 @@ returns-clause-crash g c =
     let rows : HasBatches (state g.S.Store tx).now.trees batches = rw begun holds.rows in
     let done : ((state g.S.Store last).now.schema ≡ store_schema) × HasBatches (state g.S.Store last).now.trees (head_line ∷ c.args.lines.now ∷ []) =
     three_steps (state g.S.Store tx) (state g.S.Store cleared) (state g.S.Store headed) (state g.S.Store last) c.args.lines.now batches (_, _, _) has rows
-    one.0 (rw c.params-to_sql.ensures at two.0) (rw c.params-to_sql-2.ensures at three.0) in
+    one.0 (rw (c.params-to_sql.ensures, c.head.ensures) at two.0) (rw c.params-to_sql-2.ensures at three.0) in
     done in
     let none = λ (_ : Trees). ⊥ in
     let two_in = survives_then (state g.S.Store tx) (state g.S.Store cleared) (state g.S.Store headed) _ _ none (λ _ db no. no) (λ _ db no. no) c.execute.ensures.survives c.execute-2.ensures.survives in
@@ -86,7 +87,7 @@ returns-in_err-commit-clause-crash g c =
     let rows : HasBatches (state g.S.Store tx).now.trees batches = rw begun holds.rows in
     let done : ((state g.S.Store last).now.schema ≡ store_schema) × HasBatches (state g.S.Store last).now.trees (head_line ∷ c.args.lines.now ∷ []) =
     three_steps (state g.S.Store tx) (state g.S.Store cleared) (state g.S.Store headed) (state g.S.Store last) c.args.lines.now batches (_, _, _) has rows
-    one.0 (rw c.params-to_sql.ensures at two.0) (rw c.params-to_sql-2.ensures at three.0) in
+    one.0 (rw (c.params-to_sql.ensures, c.head.ensures) at two.0) (rw c.params-to_sql-2.ensures at three.0) in
     done in
     let none = λ (_ : Trees). ⊥ in
     let two_in = survives_then (state g.S.Store tx) (state g.S.Store cleared) (state g.S.Store headed) _ _ none (λ _ db no. no) (λ _ db no. no) c.execute.ensures.survives c.execute-2.ensures.survives in

@@ -4,7 +4,8 @@ use Rattle.sqlite.specs.Held.{state}
 use Rattle.sqlite.specs.State.{HasCleanDisk, Survives}
 use Rattle.sqlite.proofs.StateLemmas.{survives_then}
 use Rattle.sqlite.proofs.Callers.{survives_begin}
-use Rattle.scene_store.specs.Store.{head_line, no_schema, store_schema, HasBatches, Holds, LeavesHead}
+use Rattle.scene_store.specs.Head.{head_line}
+use Rattle.scene_store.specs.Store.{no_schema, store_schema, HasBatches, Holds, LeavesHead}
 use Rattle.scene_store.proofs.ClearLemmas.{two_steps}
 use Rattle.scene_store.proofs.rewrite.start.Goals as goal
 
@@ -20,7 +21,7 @@ returns-clause-made g c clean none =
     let two = c.in_ok-execute-2.ensures.runs clean one.1.mode in
     let has : (state g.S.Store tx).now.schema ≡ no_schema = rw begun none in
     let done : ((state g.S.Store last).now.schema ≡ store_schema) × HasBatches (state g.S.Store last).now.trees (head_line ∷ []) =
-    two_steps (state g.S.Store tx) (state g.S.Store made) (state g.S.Store last) (_, _) has one.0 (rw c.params-to_sql.ensures at two.0) in
+    two_steps (state g.S.Store tx) (state g.S.Store made) (state g.S.Store last) head_line (_, _) has one.0 (rw (c.params-to_sql.ensures, c.head.ensures) at two.0) in
     done in
     let same : c.commit.new.self.0 ≡ c.conn-2-1.given.0 = search rules in
     let late : HasCleanDisk (state g.S.Store c.commit.new.self.0) = search rules in
@@ -46,7 +47,7 @@ returns-clause-crash g c =
     let two = c.in_ok-execute-2.ensures.runs clean one.1.mode in
     let has : (state g.S.Store tx).now.schema ≡ no_schema = rw begun none in
     let done : ((state g.S.Store last).now.schema ≡ store_schema) × HasBatches (state g.S.Store last).now.trees (head_line ∷ []) =
-    two_steps (state g.S.Store tx) (state g.S.Store made) (state g.S.Store last) (_, _) has one.0 (rw c.params-to_sql.ensures at two.0) in
+    two_steps (state g.S.Store tx) (state g.S.Store made) (state g.S.Store last) head_line (_, _) has one.0 (rw (c.params-to_sql.ensures, c.head.ensures) at two.0) in
     done in
     let inside = survives_then (state g.S.Store tx) (state g.S.Store made) (state g.S.Store last) _ _ (λ _. ⊥) (λ _ db no. no) (λ _ db no. no) c.execute.ensures.survives c.execute-2.ensures.survives in
     let P = LeavesHead (state g.S.Store old) in
@@ -68,7 +69,7 @@ returns-in_err-commit-clause-crash g c =
     let two = c.in_ok-execute-2.ensures.runs clean one.1.mode in
     let has : (state g.S.Store tx).now.schema ≡ no_schema = rw begun none in
     let done : ((state g.S.Store last).now.schema ≡ store_schema) × HasBatches (state g.S.Store last).now.trees (head_line ∷ []) =
-    two_steps (state g.S.Store tx) (state g.S.Store made) (state g.S.Store last) (_, _) has one.0 (rw c.params-to_sql.ensures at two.0) in
+    two_steps (state g.S.Store tx) (state g.S.Store made) (state g.S.Store last) head_line (_, _) has one.0 (rw (c.params-to_sql.ensures, c.head.ensures) at two.0) in
     done in
     let inside = survives_then (state g.S.Store tx) (state g.S.Store made) (state g.S.Store last) _ _ (λ _. ⊥) (λ _ db no. no) (λ _ db no. no) c.execute.ensures.survives c.execute-2.ensures.survives in
     let P = LeavesHead (state g.S.Store old) in

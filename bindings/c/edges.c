@@ -1,0 +1,128 @@
+/* What callers may do at the edges: a pointer that nothing was written to yet, no room for a text, bytes that are no
+ * text, numbers without a meaning, frames that are dropped, and calls on NULL. try_scene runs it under valgrind too.
+ *
+ * The status is 1, with a line for each check that fails. */
+#include "scene.h"
+
+#include <stdbool.h>
+#include <stdio.h>
+#include <stdlib.h>
+#include <string.h>
+
+static int failed;
+
+#define CHECK(fact) check((fact), #fact)
+static void check(bool fact, const char *what)
+{
+    if (fact) return;
+    fprintf(stderr, "edges: %s\n", what);
+    failed = 1;
+}
+
+static scene_code play(scene **s, const char *line)
+{
+    return scene_line(s, (const uint8_t *)line, strlen(line));
+}
+
+/* Whether the text of the last answer is, or begins with, this one. */
+static bool answers(scene **s, const char *wanted, bool is_whole)
+{
+    uint8_t room[128];
+    size_t len = scene_answer(s, room, sizeof room), begin = strlen(wanted);
+    return len <= sizeof room && (is_whole ? len == begin : len >= begin) && memcmp(room, wanted, begin) == 0;
+}
+
+static bool refused_by(scene **s, uint32_t fault)
+{
+    scene_refusal why;
+    return scene_refused(s, &why) == SCENE_DONE && why.fault == fault;
+}
+
+/* The length of a text can be asked for with no room, and a short room gets as much as it holds. */
+static void ask_for_texts(scene **s)
+{
+    uint8_t room[4] = "____";
+    CHECK(scene_answer(s, NULL, 0) == 0);
+    CHECK(play(s, "kind Name Text") == SCENE_DONE && answers(s, "ok\n", true));
+    CHECK(scene_answer(s, NULL, 0) == 3 && scene_answer(s, room, 0) == 3 && memcmp(room, "____", 4) == 0);
+    CHECK(scene_answer(s, room, 2) == 3 && memcmp(room, "ok__", 4) == 0);
+    CHECK(scene_answer(s, room, 4) == 3 && memcmp(room, "ok\n_", 4) == 0);
+    CHECK(scene_fault_name(1, NULL, 0) == 12 && scene_fault_name(15, room, 4) == 13 && memcmp(room, "Noth", 4) == 0);
+    CHECK(scene_fault_name(0, NULL, 0) == 0 && scene_fault_name(25, room, 4) == 0);
+    CHECK(scene_fault_name(57, room, 4) == 0 && scene_fault_name(UINT32_MAX, room, 4) == 0);
+    CHECK(memcmp(room, "Noth", 4) == 0);
+    CHECK(scene_version() == SCENE_VERSION);
+}
+
+/* What has no meaning is bad, and nothing is done. */
+static void pass_what_means_nothing(scene **s)
+{
+    const uint8_t none[] = {0xff, 0xfe};
+    scene_cell cell = {.kind = 256, .shape = SCENE_TAG};
+    CHECK(scene_load(s, none, 2) == SCENE_BAD && scene_with_text(s, 0, none, 2) == SCENE_BAD);
+    CHECK(scene_with_text(s, 256, none, 0) == SCENE_BAD && scene_insert_text(s, SCENE_NONE, 0, none, 2) == SCENE_BAD);
+    CHECK(scene_with(s, cell) == SCENE_BAD && scene_remove(s, SCENE_NONE, 256) == SCENE_BAD);
+    CHECK(scene_get(s, SCENE_NONE, 256, &cell) == SCENE_BAD && cell.kind == 256);
+    CHECK(scene_bad_reason(s) == SCENE_BAD);
+    CHECK(scene_line(s, none, 2) == SCENE_BAD && answers(s, "bad line\n", true));
+    CHECK(scene_bad_reason(s) == SCENE_DONE && answers(s, "the line is no UTF-8", true));
+}
+
+/* A refused line is refused, whatever it asks for. */
+static void be_refused(scene **s)
+{
+    CHECK(play(s, "undo") == SCENE_REFUSED && refused_by(s, 15) && answers(s, "refused 15 NothingToUndo\n", true));
+    CHECK(play(s, "get 9v9") == SCENE_REFUSED && refused_by(s, 1) && answers(s, "refused 1 NoSuchEntity\n", true));
+    CHECK(play(s, "despawn 9v9") == SCENE_REFUSED && refused_by(s, 1));
+    CHECK(scene_bad_reason(s) == SCENE_BAD && answers(s, "refused 1 NoSuchEntity at 0.0.0\n", true));
+    CHECK(play(s, "get x") == SCENE_BAD && scene_refused(s, &(scene_refusal){0}) == SCENE_BAD);
+}
+
+/* A dropped frame is no call. */
+static void drop_frames(scene **s)
+{
+    scene_entity made;
+    CHECK(scene_drop_frame(s) == SCENE_BAD);
+    CHECK(scene_spawn(s) == SCENE_DONE && play(s, "history") == SCENE_DONE && answers(s, "history 3\n", true));
+    CHECK(scene_begin(s) == SCENE_DONE && scene_spawn(s) == SCENE_DONE && scene_drop_frame(s) == SCENE_DONE);
+    CHECK(scene_drop_frame(s) == SCENE_BAD && scene_commit(s) == SCENE_BAD && scene_answer(s, NULL, 0) == 0);
+    CHECK(scene_bad_reason(s) == SCENE_DONE && answers(s, "no frame is open", false));
+    CHECK(scene_bad_reason(s) == SCENE_DONE && answers(s, "no frame is open", false));
+    CHECK(play(s, "history") == SCENE_DONE && answers(s, "history 3\n", true));
+    CHECK(scene_spawn(s) == SCENE_DONE && scene_spawned(s, 0, &made) == SCENE_DONE && made.index == 1);
+}
+
+/* A script's own limit of calls stays. */
+static void limit_calls(void)
+{
+    scene *s;
+    CHECK(scene_open(&s) == SCENE_DONE && play(&s, "calls 2") == SCENE_DONE);
+    CHECK(scene_spawn(&s) == SCENE_DONE && scene_undo(&s) == SCENE_DONE);
+    CHECK(scene_redo(&s) == SCENE_REFUSED && refused_by(&s, 17));
+    scene_close(&s);
+}
+
+static void call_on_null(scene **s)
+{
+    scene_entity made;
+    scene_close(s);
+    CHECK(*s == NULL && scene_answer(s, NULL, 0) == 0 && play(s, "undo") == SCENE_CLOSED);
+    CHECK(scene_drop_frame(s) == SCENE_CLOSED && scene_bad_reason(s) == SCENE_CLOSED && scene_undo(s) == SCENE_CLOSED);
+    CHECK(scene_spawned(s, 0, &made) == SCENE_BAD && scene_load(s, (const uint8_t *)"\xff", 1) == SCENE_BAD);
+    scene_close(s);
+}
+
+int main(void)
+{
+    /* Nothing was written to what malloc gives, and valgrind knows. */
+    scene **s = malloc(sizeof *s);
+    if (s == NULL || scene_open(s) != SCENE_DONE) return 2;
+    ask_for_texts(s);
+    pass_what_means_nothing(s);
+    be_refused(s);
+    drop_frames(s);
+    limit_calls();
+    call_on_null(s);
+    free(s);
+    return failed;
+}

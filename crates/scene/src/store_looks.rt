@@ -1,0 +1,89 @@
+//! What the program does with a store that it doesn't change (docs/SHELL.md, "A store").
+use crate::ending::Ending;
+use crate::printed;
+use scene_app::AppFault;
+use scene_command_line::BackupWords;
+use scene_kept::{KeptLineFault, LogCounts, show_lines, write_log};
+use scene_player::PlayerSettings;
+use scene_script::Limit;
+use scene_store::{BackupFault, FileFault, StoreFault, StoredLines, Version, back_up, lines_at};
+
+/// Says on standard error why kept lines weren't played, which is a fault.
+pub fn told_lines(rt: &HostRuntime, fault: &KeptLineFault) -> Ending {
+    let _told = eprintln!(rt; "scene: {fault}");
+    Ending::Told
+}
+
+/// Says on standard error what is wrong with the store at a path, which is a fault.
+pub fn told_store(rt: &HostRuntime, path: &str, fault: StoreFault) -> Ending {
+    let _told = eprintln!(rt; "scene: {}", FileFault { path, fault });
+    Ending::Told
+}
+
+/// With which settings a player plays the lines of a store of a version.
+pub fn settings_of(version: Version) -> PlayerSettings {
+    PlayerSettings {
+        depth: Limit::most(),
+        calls: version.call_limit(),
+    }
+}
+
+/// The lines of the store at a path, which stays as it is.
+fn lines_of(rt: &HostRuntime, path: &str) -> Result<StoredLines, Ending> {
+    match lines_at(rt, path) {
+        Ok(lines) => Ok(lines),
+        Err(fault) => Err(told_store(rt, path, fault)),
+    }
+}
+
+/// Shows the world of a store.
+pub fn show_store(rt: &HostRuntime, path: &str) -> Ending {
+    let lines = match lines_of(rt, path) {
+        Ok(lines) => lines,
+        Err(ending) => return ending,
+    };
+    let mut world = String::new(rt.alloc());
+    match show_lines(
+        rt.alloc(),
+        settings_of(lines.version),
+        lines.text.as_slice(),
+        &mut world,
+    ) {
+        Ok(()) => printed(rt, world.as_str()),
+        Err(fault) => told_lines(rt, &fault),
+    }
+}
+
+/// Says how many calls came to what.
+fn tell_counts(rt: &HostRuntime, counts: LogCounts) -> Ending {
+    match println!(rt; "{counts}") {
+        Ok(()) => Ending::Done,
+        Err(_) => Ending::Fault(AppFault::WriteFault),
+    }
+}
+
+/// Writes what the lines of a store have done, and at the end how many frames there were.
+pub fn log_store(rt: &HostRuntime, path: &str) -> Ending {
+    let lines = match lines_of(rt, path) {
+        Ok(lines) => lines,
+        Err(ending) => return ending,
+    };
+    match write_log(
+        rt.alloc(),
+        settings_of(lines.version),
+        lines.text.as_slice(),
+        &mut rt.stdout(),
+    ) {
+        Ok(counts) => tell_counts(rt, counts),
+        Err(fault) => told_lines(rt, &fault),
+    }
+}
+
+/// Copies a store into another file.
+pub fn backup_store(rt: &HostRuntime, words: &BackupWords) -> Ending {
+    match back_up(rt, words.file.as_str(), words.copy.as_str()) {
+        Ok(()) => Ending::Done,
+        Err(BackupFault::Store(fault)) => told_store(rt, words.file.as_str(), fault),
+        Err(BackupFault::Copy(fault)) => told_store(rt, words.copy.as_str(), fault),
+    }
+}

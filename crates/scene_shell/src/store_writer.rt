@@ -1,0 +1,39 @@
+//! A store and a stream in one.
+use crate::keep::{Keep, KeptWriter};
+use crate::streams::send;
+use crate::style::AnswerStyle;
+use scene_app::AppFault;
+use scene_player::Player;
+use std::io::Write;
+
+/// A store beside the stream that takes the answers of a shell on it.
+#[derive(Drop)]
+pub struct StoreWriter<K, W> {
+    /// What keeps the lines.
+    pub store: K,
+    /// What takes the answers.
+    pub writer: W,
+}
+
+impl<K: Keep + Drop, W: Write + Drop> KeptWriter for StoreWriter<K, W> {
+    type Fault = K::Fault;
+
+    ghost use Rattle.std.specs.Prelude.{⊤};
+
+    ghost keeps = { λ s. K.keeps s.store };
+
+    ghost contents = { λ s. W.contents s.writer };
+
+    // It has no notes of the shell that it is at.
+    ghost begun = { λ _ _ _ _. ⊤ };
+
+    fn begin(&mut self, _player: &Player, _style: AnswerStyle) {}
+
+    fn keep(&mut self, lines: &[u8]) -> Result<(), K::Fault> {
+        self.store.keep(lines)
+    }
+
+    fn send(&mut self, answers: &[u8]) -> Result<(), AppFault> {
+        send(&mut self.writer, answers)
+    }
+}

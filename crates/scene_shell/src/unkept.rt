@@ -1,0 +1,37 @@
+//! A stream without a store.
+use crate::keep::KeptWriter;
+use crate::streams::send;
+use crate::style::AnswerStyle;
+use scene_app::AppFault;
+use scene_player::Player;
+use std::convert::Infallible;
+use std::io::Write;
+
+/// A stream that takes the answers of a shell whose lines aren't kept.
+#[derive(Drop)]
+pub(crate) struct Unkept<W> {
+    /// What takes the answers.
+    pub(crate) writer: W,
+}
+
+impl<W: Write + Drop> KeptWriter for Unkept<W> {
+    type Fault = Infallible;
+
+    ghost use Rattle.std.specs.Prelude.{⊤};
+
+    ghost keeps = { λ _ _. ⊤ };
+
+    ghost contents = { λ s. W.contents s.writer };
+
+    ghost begun = { λ _ _ _ _. ⊤ };
+
+    fn begin(&mut self, _player: &Player, _style: AnswerStyle) {}
+
+    fn keep(&mut self, _lines: &[u8]) -> Result<(), Infallible> {
+        Ok(())
+    }
+
+    fn send(&mut self, answers: &[u8]) -> Result<(), AppFault> {
+        send(&mut self.writer, answers)
+    }
+}
