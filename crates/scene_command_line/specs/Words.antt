@@ -51,6 +51,10 @@ file_shape name = record (new_shape name) { rules = file_rule ∷ [] }
 abbrev pub backup_shape : Shape
 backup_shape = record (new_shape (codes "backup")) { rules = file_rule ∷ copy_rule ∷ [] }
 
+-- the program before it has commands, of which one has to be named
+abbrev pub bare_line : App
+bare_line = on_top (λ s. record s { subcommand_required = true }) (new_app (codes "scene"))
+
 -- the program with the commands that no file follows: one of `run`, `shell`, `check` and `print` has to be named, and
 -- but for the options none takes a word more
 abbrev pub line_without_file : App
@@ -58,7 +62,7 @@ line_without_file =
     with_subcommand
     (with_subcommand
     (with_subcommand
-    (with_subcommand (on_top (λ s. record s { subcommand_required = true }) (new_app (codes "scene")))
+    (with_subcommand bare_line
     run_shape)
     shell_shape)
     (new_shape (codes "check")))

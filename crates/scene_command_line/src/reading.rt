@@ -1,12 +1,12 @@
 //! The words of a command line, read by `clap`.
 ghost use Rattle.std.specs.Prelude.{◌≡◌, true, false, IfOk, IsErr, map, string_bytes};
-ghost use Rattle.clap.specs.Words.{app_of, found_of, kind_of, rows_of, rule_of, shape_of, subcommand_rows_of};
+ghost use Rattle.clap.specs.Words.{app_of, found_of, kind_of, rows_of, rule_of, shape_of, subcommand_rows_of, with_subcommand};
 ghost use Rattle.clap.specs.declared.builder.command.Command.TheViews.{out-Command as fields_of};
 ghost use Rattle.clap.specs.Simple.{new_shape};
 ghost use Rattle.clap.specs.declared.error.kind.ErrorKind.TheVariants.{OutOfMemory};
 ghost use Rattle.scene_command_line.specs.Asks.{ToHelp, asks_of};
 ghost use Rattle.scene_command_line.specs.Plain.{AsksForShell, are_plain, asks_for_backup, asks_for_file, asks_for_help, asks_for_workers, plainly_asked, workers_asked};
-ghost use Rattle.scene_command_line.specs.Words.{AsksFor, backup_shape, by_kind, command_named, command_of, copy_rule, file_rule, file_shape, flag_rule, has_flag, line_without_file, option_rule, run_shape, scene_line, shell_shape, workers_rule};
+ghost use Rattle.scene_command_line.specs.Words.{AsksFor, backup_shape, bare_line, by_kind, command_named, command_of, copy_rule, file_rule, file_shape, flag_rule, has_flag, line_without_file, option_rule, run_shape, scene_line, shell_shape, workers_rule};
 
 use crate::asked::{
     Asked, backup_asked, compact_asked, log_asked, run_asked, shell_asked, show_asked,
@@ -123,20 +123,64 @@ fn backup_command<'a>(alloc: Global) -> Result<Command<'a>, AllocError>
         .arg(copy_argument(alloc))
 }
 
-/// The commands that no file follows, as `clap` reads them.
-fn commands_without_file<'a>(alloc: Global) -> Result<Command<'a>, AllocError>
-    ensures { IfOk result (λ c. app_of c ≡ line_without_file) }
+/// The line with the command `run` behind its others.
+fn with_run_command<'a>(alloc: Global, line: Command<'a>) -> Result<Command<'a>, AllocError>
+    ensures { IfOk result (λ c. app_of c ≡ with_subcommand (app_of line.entry) run_shape) }
 {
     let run = run_command(alloc)?;
+    line.subcommand(run)
+}
+
+/// The line with the command `shell` behind its others.
+fn with_shell_command<'a>(alloc: Global, line: Command<'a>) -> Result<Command<'a>, AllocError>
+    ensures { IfOk result (λ c. app_of c ≡ with_subcommand (app_of line.entry) shell_shape) }
+{
     let shell = shell_command(alloc)?;
+    line.subcommand(shell)
+}
+
+/// The line with a command behind its others that takes the name of a store's file.
+fn with_file_command<'a>(
+    alloc: Global,
+    line: Command<'a>,
+    name: &'a str,
+    about: &'a str,
+    more: &'a str,
+) -> Result<Command<'a>, AllocError>
+    ensures { IfOk result (λ c. app_of c ≡ with_subcommand (app_of line.entry) (file_shape name.entry.now)) }
+{
+    let command = file_command(alloc, name, about, more)?;
+    line.subcommand(command)
+}
+
+/// The line with the command `backup` behind its others.
+fn with_backup_command<'a>(alloc: Global, line: Command<'a>) -> Result<Command<'a>, AllocError>
+    ensures { IfOk result (λ c. app_of c ≡ with_subcommand (app_of line.entry) backup_shape) }
+{
+    let backup = backup_command(alloc)?;
+    line.subcommand(backup)
+}
+
+/// The program before it has commands, as `clap` reads it.
+fn bare_line<'a>(alloc: Global) -> Result<Command<'a>, AllocError>
+    ensures { IfOk result (λ c. app_of c ≡ bare_line) }
+{
     Command::new(alloc, "scene")
         .about(texts::PROGRAM)
         .after_help(texts::PROGRAM_MORE)
         .subcommand_required(true)
-        .bin_name("scene")?
-        .subcommand(run)?
-        .subcommand(shell)?
-        .subcommand(command(alloc, "check", texts::CHECK, texts::CHECK_MORE))?
+        .bin_name("scene")
+}
+
+/// The commands that no file follows, as `clap` reads them. Each command is made where it is added, so that a failure
+/// has nothing else to drop.
+fn commands_without_file<'a>(alloc: Global) -> Result<Command<'a>, AllocError>
+    ensures { IfOk result (λ c. app_of c ≡ line_without_file) }
+{
+    let line = bare_line(alloc)?;
+    let line = with_run_command(alloc, line)?;
+    let line = with_shell_command(alloc, line)?;
+    line.subcommand(command(alloc, "check", texts::CHECK, texts::CHECK_MORE))?
         .subcommand(command(alloc, "print", texts::PRINT, texts::PRINT_MORE))
 }
 
@@ -144,15 +188,11 @@ fn commands_without_file<'a>(alloc: Global) -> Result<Command<'a>, AllocError>
 fn commands<'a>(alloc: Global) -> Result<Command<'a>, AllocError>
     ensures { IfOk result (λ c. app_of c ≡ scene_line) }
 {
-    let show = file_command(alloc, "show", texts::SHOW, texts::SHOW_MORE)?;
-    let log = file_command(alloc, "log", texts::LOG, texts::LOG_MORE)?;
-    let compact = file_command(alloc, "compact", texts::COMPACT, texts::COMPACT_MORE)?;
-    let backup = backup_command(alloc)?;
-    commands_without_file(alloc)?
-        .subcommand(show)?
-        .subcommand(log)?
-        .subcommand(compact)?
-        .subcommand(backup)
+    let line = commands_without_file(alloc)?;
+    let line = with_file_command(alloc, line, "show", texts::SHOW, texts::SHOW_MORE)?;
+    let line = with_file_command(alloc, line, "log", texts::LOG, texts::LOG_MORE)?;
+    let line = with_file_command(alloc, line, "compact", texts::COMPACT, texts::COMPACT_MORE)?;
+    with_backup_command(alloc, line)
 }
 
 /// Whether the flag of this name is given.

@@ -1,16 +1,14 @@
-use Rattle.std.proofs.Common.{◌∙◌, ap₂}
+use Rattle.std.proofs.Common.{◌∙◌, ap, codes}
 use Rattle.std.proofs.lemmas.Result.{IfOk-weaker}
 use Rattle.clap.specs.Words.{with_subcommand}
+use Rattle.scene_command_line.specs.Words.{backup_shape, file_shape}
 use Rattle.scene_command_line.proofs.reading.commands.Goals as goal
 
 pub returns : goal.returns
 returns c =
-    let first = c.in_ok-subcommand.ensures.shape c.in_ok-show.ensures.local
-    ∙ ap₂ with_subcommand c.in_ok-commands_without_file.ensures c.in_ok-show.ensures.shape in
-    let second = c.in_ok-subcommand-2.ensures.shape c.in_ok-log.ensures.local
-    ∙ ap₂ with_subcommand first c.in_ok-log.ensures.shape in
-    let third = c.in_ok-subcommand-3.ensures.shape c.in_ok-compact.ensures.local
-    ∙ ap₂ with_subcommand second c.in_ok-compact.ensures.shape in
-    IfOk-weaker c.subcommand-4.result _ _
-    (λ made adds. adds.shape c.in_ok-backup.ensures.local ∙ ap₂ with_subcommand third c.in_ok-backup.ensures.shape)
-    c.subcommand-4.ensures
+    let show = c.in_ok-line-2.ensures ∙ ap (λ a. with_subcommand a (file_shape (codes "show"))) c.in_ok-line.ensures in
+    let log = c.in_ok-line-3.ensures ∙ ap (λ a. with_subcommand a (file_shape (codes "log"))) show in
+    let compact = c.in_ok-line-4.ensures ∙ ap (λ a. with_subcommand a (file_shape (codes "compact"))) log in
+    IfOk-weaker c.with_backup_command.result _ _
+    (λ made adds. adds ∙ ap (λ a. with_subcommand a backup_shape) compact)
+    c.with_backup_command.ensures
