@@ -2,7 +2,7 @@
 use Rattle.std.proofs.Common.{◌≡◌, ◌∙◌, ap₂, true, false, Some, List, refl, ap, codes, [], ◌∷◌}
 use Rattle.std.specs.Str.{bytes_eq}
 use Rattle.std.proofs.lemmas.Bool.{and_parts, false≢true, not-true}
-use Rattle.clap.specs.Words.{Shape, Text, fault_of, first_of}
+use Rattle.clap.specs.Words.{Shape, Text, first_of}
 use Rattle.clap.specs.Simple.{built_leaf}
 use Rattle.clap.specs.Walk.{Walk, arg_by_index, nothing_held, to_positional, walked}
 use Rattle.clap.specs.Faults.{turn_fault}

@@ -1,5 +1,5 @@
 -- What is wrong with a bad command line, by its second word.
-use Rattle.std.proofs.Common.{◌≡◌, ◌<◌, List, [], ◌∷◌, length, map, get_or, sym, ap, arith}
+use Rattle.std.proofs.Common.{◌≡◌, ◌<◌, List, [], ◌∷◌, length, map, get_or, ap, arith}
 use Rattle.clap.specs.Words.{Text}
 use Rattle.scene_command_line.specs.Mistakes.{mistake_in, mistake_of}
 
