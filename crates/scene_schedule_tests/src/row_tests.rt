@@ -16,9 +16,13 @@ const SPEED: u8 = 2;
 /// A world without entities.
 fn empty_world(alloc: Global) -> Result<World, Refusal> {
     let mut schema = Schema::new(alloc);
-    let _number = schema.add(String::from_str(alloc, "Number")?, Shape::Int)?;
-    let _place = schema.add(String::from_str(alloc, "Place")?, Shape::Vec3)?;
-    let _speed = schema.add(String::from_str(alloc, "Speed")?, Shape::Vec3)?;
+    for (name, shape) in [
+        ("Number", Shape::Int),
+        ("Place", Shape::Vec3),
+        ("Speed", Shape::Vec3),
+    ] {
+        let _kind = schema.add(String::from_str(alloc, name)?, shape)?;
+    }
     Ok(World::new(alloc, schema, 5000))
 }
 

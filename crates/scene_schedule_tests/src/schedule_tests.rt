@@ -150,26 +150,36 @@ fn a_schedule_is_for_its_schema(rt: HostRuntime) -> Result<(), Fail> {
     Ok(())
 }
 
+/// A schema of one kind.
 fn one_kind(alloc: Global, name: &str, shape: Shape) -> Result<Schema, Refusal> {
     let mut schema = Schema::new(alloc);
     let _kind = schema.add(String::from_str(alloc, name)?, shape)?;
     Ok(schema)
 }
 
+/// Whether each of two schemas is the same as the other one.
+fn are_same(one: &Schema, other: &Schema) -> bool {
+    same_schema(one, other) && same_schema(other, one)
+}
+
+/// Whether a schema is the same as that of one kind.
+fn is_one_kind(alloc: Global, schema: &Schema, name: &str, shape: Shape) -> Result<bool, Refusal> {
+    let other = one_kind(alloc, name, shape)?;
+    Ok(are_same(schema, &other))
+}
+
 #[test]
 fn schemas_are_the_same_by_name_and_shape(rt: HostRuntime) -> Result<(), Fail> {
     let alloc = rt.alloc();
-    let number = one_kind(alloc, "A", Shape::Int)?;
+    let number = one_kind(alloc, "A", Shape::Int).expect(&rt, "a schema");
     for (name, shape, wanted) in [
         ("A", Shape::Int, true),
         ("A", Shape::Tag, false),
         ("B", Shape::Int, false),
     ] {
-        let other = one_kind(alloc, name, shape)?;
-        assert_eq!(rt; same_schema(&number, &other), wanted, "{name} {shape:?}");
-        assert_eq!(rt; same_schema(&other, &number), wanted, "{name} {shape:?}");
+        let found = is_one_kind(alloc, &number, name, shape);
+        assert_eq!(rt; found, Ok(wanted), "{name} {shape:?}");
     }
-    assert!(rt; !same_schema(&number, &Schema::new(alloc)));
-    assert!(rt; same_schema(&Schema::new(alloc), &Schema::new(alloc)));
+    assert!(rt; !are_same(&number, &Schema::new(alloc)));
     Ok(())
 }
