@@ -19,7 +19,8 @@
 # beside that of the workload spawn are held also where no peer is there. --propose prints bounds for what was measured instead, in
 # the form of bench/bounds. --keep leaves what the sections printed in a folder; tools/plot_cost draws a picture of scripts.txt there.
 #
-# The last four sections build their programs by rt; SCENE_BENCH, SCENE_SESSION_BENCH and SCENE_LOCK_BENCH name ones that are built.
+# The last four sections prove and build their programs by tools/bench_program; SCENE_BENCH, SCENE_SESSION_BENCH and
+# SCENE_LOCK_BENCH name ones that are built.
 # It takes a quarter of an hour; nothing else should run meanwhile.
 set -euo pipefail
 cd "$(dirname "$0")/.."

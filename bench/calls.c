@@ -1,5 +1,5 @@
 /* Calls of the library for C, for bench/calls.sh: `calls WORK COUNT` makes so many of one sort on a new scene, and
- * prints how many there were and the nanoseconds that they took, as crates/scene_session_bench does of the same work.
+ * prints how many there were and the nanoseconds that they took, as bench/programs/scene_session_bench does of the same work.
  *
  *     spawn      frames of one spawn
  *     spawn10    spawns in frames of ten

@@ -6,7 +6,7 @@
 #
 # It prints nanoseconds of processor time of a call, by bench/calls.c with the library for C: of spawns in frames of one
 # and of ten, of undos and redos, of reads, and of writes in frames of ten. Each is the least of the runs, which take
-# turns. Where the program of crates/scene_session_bench is built, or SCENE_SESSION_BENCH names it, two columns have the
+# turns. Where tools/bench_program has built scene_session_bench, or SCENE_SESSION_BENCH names it, two columns have the
 # same work by its editor and its state, which keeps each call in its history, and the last two how many times the
 # time of each C takes.
 #
@@ -15,7 +15,7 @@ set -euo pipefail
 cd "$(dirname "$0")/.."
 place=$(mktemp -d)
 trap 'rm -rf "$place"' EXIT
-beside=${SCENE_SESSION_BENCH:-crates/scene_session_bench/out/scene_session_bench}
+beside=${SCENE_SESSION_BENCH:-out/bench/scene_session_bench}
 if [ ! -x "$beside" ]; then
     echo "bench/calls.sh: there is no $beside, so the calls of C stand alone" >&2
     beside=

@@ -11,16 +11,12 @@
 #
 # Of 1,000, 2,000 and 4,000 records on a world of 20,000 entities it prints milliseconds in which they are tried, all together by an
 # editor that is made of them, and each apart, which looks at the whole world for each. Each is the least of the runs. It needs
-# python3, and rt or the program that SCENE_BENCH names.
+# python3, and rt for tools/bench_program, or the program that SCENE_BENCH names.
 set -euo pipefail
 cd "$(dirname "$0")/.."
 place=$(mktemp -d)
 trap 'rm -rf "$place"' EXIT
-program=${SCENE_BENCH:-}
-if [ -z "$program" ]; then
-    (cd crates/scene_bench && rt run > "$place/rt.log" 2>&1) || { cat "$place/rt.log" >&2; exit 1; }
-    program="$(pwd)/crates/scene_bench/out/scene_bench"
-fi
+program=${SCENE_BENCH:-$(tools/bench_program scene_bench)}
 python3 - "$program" "${1:-1000000}" "${2:-5}" <<'P'
 import os, subprocess, sys
 

@@ -5,17 +5,13 @@
 #
 # For 1, 2, 4 and 8 threads that write, read, or mix nine reads with one write, it prints a row with the millions of turns a second
 # of all threads together: of scene_lock, of the Mutex, of the RwLock. Each is the median of five runs; behind it stands the standard
-# error of their mean, as a part of that mean in percent. It needs rustc, python3, and rt or the program that SCENE_LOCK_BENCH names.
+# error of their mean, as a part of that mean in percent. It needs rustc, python3, and rt for tools/bench_program, or the program that SCENE_LOCK_BENCH names.
 set -euo pipefail
 cd "$(dirname "$0")/.."
 turns=${1:-200000}
 place=$(mktemp -d)
 trap 'rm -rf "$place"' EXIT
-program=${SCENE_LOCK_BENCH:-}
-if [ -z "$program" ]; then
-    (cd crates/scene_lock_bench && rt run > "$place/rt.log" 2>&1) || { cat "$place/rt.log" >&2; exit 1; }
-    program="$(pwd)/crates/scene_lock_bench/out/scene_lock_bench"
-fi
+program=${SCENE_LOCK_BENCH:-$(tools/bench_program scene_lock_bench)}
 rustc -O --edition 2021 -o "$place/lock_floor" bench/lock_floor.rs
 python3 - "$turns" "$place/lock_floor" "$program" <<'P'
 import statistics, subprocess, sys

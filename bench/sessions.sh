@@ -15,16 +15,12 @@
 # - what a million cursors take that are asked for without waiting: memory beyond that of one, and how many more times memory is asked
 #   for, both of which are to be 0.
 #
-# It needs python3, a C compiler, and rt or the program that SCENE_SESSION_BENCH names.
+# It needs python3, a C compiler, and rt for tools/bench_program, or the program that SCENE_SESSION_BENCH names.
 set -euo pipefail
 cd "$(dirname "$0")/.."
 place=$(mktemp -d)
 trap 'rm -rf "$place"' EXIT
-program=${SCENE_SESSION_BENCH:-}
-if [ -z "$program" ]; then
-    (cd crates/scene_session_bench && rt run > "$place/rt.log" 2>&1) || { cat "$place/rt.log" >&2; exit 1; }
-    program="$(pwd)/crates/scene_session_bench/out/scene_session_bench"
-fi
+program=${SCENE_SESSION_BENCH:-$(tools/bench_program scene_session_bench)}
 # counts how often memory is asked for
 cat > "$place/count.c" <<'C'
 #define _GNU_SOURCE

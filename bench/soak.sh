@@ -8,10 +8,8 @@
 # the one that was played again, their undos and redos, the reply of each entry with that of the replay and with the one that its session
 # was told, and the calls of each session, each once and in its order. A state that has seen half a million turns is compared, and
 # another one begun, while there is time. It prints threads, calls, entries and differences, and its status is 1 where there is a
-# difference. It needs rt.
+# difference. It needs rt, for tools/bench_program.
 set -euo pipefail
 cd "$(dirname "$0")/.."
-log=$(mktemp)
-trap 'rm -f "$log"' EXIT
-(cd crates/scene_session_bench && rt run > "$log" 2>&1) || { cat "$log" >&2; exit 1; }
-crates/scene_session_bench/out/scene_session_bench soak "${1:-60}" "${2:-1}"
+program=$(tools/bench_program scene_session_bench)
+"$program" soak "${1:-60}" "${2:-1}"

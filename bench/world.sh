@@ -8,16 +8,12 @@
 # of all calls grows between the least and the greatest of these, and how often the greatest takes the time of plain Rust. Each time
 # is the least of the runs, in which some million calls are made at every size, without that of the work before them: calls that
 # leave the world as it is are made in several passes over one world, the others in several worlds. Then it prints the memory of
-# the greatest world, whose entities have three kinds. It needs rustc, python3, and rt or the program that SCENE_BENCH names.
+# the greatest world, whose entities have three kinds. It needs rustc, python3, and rt for tools/bench_program, or the program that SCENE_BENCH names.
 set -euo pipefail
 cd "$(dirname "$0")/.."
 place=$(mktemp -d)
 trap 'rm -rf "$place"' EXIT
-program=${SCENE_BENCH:-}
-if [ -z "$program" ]; then
-    (cd crates/scene_bench && rt run > "$place/rt.log" 2>&1) || { cat "$place/rt.log" >&2; exit 1; }
-    program="$(pwd)/crates/scene_bench/out/scene_bench"
-fi
+program=${SCENE_BENCH:-$(tools/bench_program scene_bench)}
 rustc -O --edition 2021 -o "$place/world_floor" bench/world_floor.rs
 python3 - "$program" "$place/world_floor" "${1:-1000000}" "${2:-5}" <<'P'
 import math, os, subprocess, sys

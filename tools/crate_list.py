@@ -4,13 +4,19 @@ from pathlib import Path
 TOP = Path(__file__).resolve().parent.parent
 
 
-def crates():
-    """The crates by name, each with those of this repository that it names."""
+def listed_in(file):
+    """What a file in the form of crates.txt lists: crates by name, each with all that it names."""
     named = {}
-    for line in (TOP / "crates.txt").read_text().splitlines():
+    for line in file.read_text().splitlines():
         if line.strip() and not line.startswith("#"):
             name, _, others = line.partition(":")
             named[name.split()[0]] = others.split()
+    return named
+
+
+def crates():
+    """The crates by name, each with those of this repository that it names."""
+    named = listed_in(TOP / "crates.txt")
     return {name: [other for other in others if other in named] for name, others in named.items()}
 
 
