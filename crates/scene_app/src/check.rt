@@ -7,12 +7,12 @@ ghost use Rattle.scene_streams.specs.Sink.{writer_of, write_failed};
 ghost use Rattle.scene_streams.specs.Limits.{most_bytes};
 ghost use Rattle.scene_file.specs.Scene.{loaded};
 ghost use Rattle.scene_app.specs.Checked.{good_text, check_output, print_output, is_scene};
-ghost use Rattle.scene_app.specs.declared.fault.AppFault.TheVariants.{NoMemory, ReadFault, WriteFault, TooLong};
+ghost use Rattle.scene_shell.specs.declared.fault.AppFault.TheVariants.{NoMemory, ReadFault, WriteFault, TooLong};
 
-use crate::fault::AppFault;
 use scene_file::load_editor_text;
 use scene_pass::{Filter, matching};
 use scene_player::answer_file_fault;
+use scene_shell::AppFault;
 use scene_show::write_show;
 use scene_streams::{Sink, Source};
 use scene_undo::MOST_FRAMES;

@@ -8,12 +8,13 @@
 #![tactic(auto)]
 
 mod check;
-mod fault;
+mod laws;
 mod play;
 mod report;
 mod run;
 
 pub use check::{check_scene, print_scene};
-pub use fault::AppFault;
+pub use laws::a_shell_says_what_a_run_says;
 pub use report::BadLineReport;
 pub use run::{RunEnd, run_script};
+pub use scene_shell::AppFault;

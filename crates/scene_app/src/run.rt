@@ -8,14 +8,14 @@ ghost use Rattle.scene_streams.specs.Limits.{most_bytes};
 ghost use Rattle.scene_hand.specs.Hand.{HandState};
 ghost use Rattle.scene_hand.specs.Passes.{AreOf};
 ghost use Rattle.scene_app.specs.Play.{bad_lines, hand_after, output};
-ghost use Rattle.scene_app.specs.declared.fault.AppFault.TheVariants.{NoMemory, ReadFault, WriteFault, TooLong};
+ghost use Rattle.scene_shell.specs.declared.fault.AppFault.TheVariants.{NoMemory, ReadFault, WriteFault, TooLong};
 
-use crate::fault::AppFault;
 use crate::play::play_script;
 use crate::report::BadLineReport;
 use scene_hand::{OnThreads, Performer};
 use scene_lock::{Pass, WordLock};
 use scene_session::State;
+use scene_shell::AppFault;
 use scene_streams::{Sink, Source};
 use std::alloc::Global;
 use std::io::{Read, Write};

@@ -13,8 +13,9 @@ pub const T: u8 = 1;
 
 fn schema(alloc: Global) -> Result<Schema, Refusal> {
     let mut schema = Schema::new(alloc);
-    let _a = schema.add(String::from_str(alloc, "A")?, Shape::Int)?;
-    let _t = schema.add(String::from_str(alloc, "T")?, Shape::Tag)?;
+    for (name, shape) in [("A", Shape::Int), ("T", Shape::Tag)] {
+        let _kind = schema.add(String::from_str(alloc, name)?, shape)?;
+    }
     Ok(schema)
 }
 

@@ -5,7 +5,7 @@ ghost use Rattle.scene_script.specs.Script.{line_in};
 ghost use Rattle.scene_session.specs.Whole.{whole_of};
 ghost use Rattle.scene_player.specs.Answer.{Says};
 ghost use Rattle.scene_player.specs.Changes.{changes, frame_is_open};
-ghost use Rattle.scene_player.specs.Play.{first_state, said_reply};
+ghost use Rattle.scene_player.specs.Play.{first_hand, first_state, said_reply};
 ghost use Rattle.scene_player.specs.Player.{HaltsSetup, HasNoEditor, IsAnswered, Player as Reached, Playing, Tells, begun, first_player, halted, hand_of, lone_player, player_kinds, player_of, player_reply, player_said, systems_of, without_frame};
 ghost use Rattle.scene_player.specs.Setup.{setup_of};
 ghost use Rattle.scene_player.specs.declared.halt.Halt.TheVariants.{After, Begun};
@@ -77,6 +77,22 @@ fn begin<P: Performer>(
 
 /// Drops what a stage has. Only here: a drop of a whole scene is dear to check wherever it is, and a move isn't.
 fn leave(_stage: Stage) {}
+
+/// The sessions of a state, of which all else is dropped.
+fn hand_of_state(state: PlayState) -> Hand
+    ensures { result ≡ state.hand }
+{
+    let PlayState { hand, .. } = state;
+    hand
+}
+
+/// The sessions in which a setup ends, of which all else is dropped.
+fn hand_of_setup(alloc: Global, setup: Setup) -> Result<Hand, AllocError>
+    ensures { IfOk result (λ hand. hand ≡ first_hand (setup_of setup)) }
+{
+    let mut setup = setup;
+    setup.take_hand(alloc)
+}
 
 /// What a line that ended the setup came to.
 fn after_begin(answered: Result<Answer, AllocError>) -> Result<Answer, Halt>
@@ -339,14 +355,8 @@ impl Player {
     {
         let Player { alloc, stage, .. } = self;
         match stage {
-            Stage::Playing(state) => {
-                let PlayState { hand, .. } = state;
-                Ok(hand)
-            }
-            Stage::Setting(setup) => {
-                let mut setup = setup;
-                setup.take_hand(alloc)
-            }
+            Stage::Playing(state) => Ok(hand_of_state(state)),
+            Stage::Setting(setup) => hand_of_setup(alloc, setup),
         }
     }
 }

@@ -1,5 +1,4 @@
 mod KeptLaws
 mod KeptLead
 mod Lines
-mod RunLaws
-mod SaidLaws
+pub mod SaidLaws

@@ -6,8 +6,8 @@ use Rattle.std.specs.Io.KnownBytes.{Appends, Keeps}
 use Rattle.std.specs.Str.Lines.{lines}
 use Rattle.scene_player.specs.Player.{Player, player_reply}
 use Rattle.scene_player.specs.Changes.{changes, frame_is_open}
-use Rattle.scene_app.specs.declared.fault.AppFault.{AppFault}
-use Rattle.scene_app.specs.declared.fault.AppFault.TheVariants.{NoMemory, ReadFault, WriteFault, TooLong}
+use Rattle.scene_shell.specs.declared.fault.AppFault.{AppFault}
+use Rattle.scene_shell.specs.declared.fault.AppFault.TheVariants.{NoMemory, ReadFault, WriteFault, TooLong}
 use Rattle.scene_shell.specs.declared.kept_fault.KeptFault.{KeptFault}
 use Rattle.scene_shell.specs.declared.kept_fault.KeptFault.TheVariants.{Ended, Keep}
 use Rattle.scene_shell.specs.Shell.{AnswerStyle, HasSaid, IsSaid, Parts, bad_count}

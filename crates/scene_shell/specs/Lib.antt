@@ -1,3 +1,4 @@
 pub mod Shell
 pub mod Kept
 pub mod Waits
+pub mod Fault

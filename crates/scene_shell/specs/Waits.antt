@@ -5,8 +5,8 @@ use Rattle.std.specs.Io.KnownBytes.{Appends, Keeps}
 use Rattle.std.specs.Str.Lines.{lines}
 use Rattle.scene_player.specs.Player.{Player, player_of, player_reply}
 use Rattle.scene_player.specs.declared.player.Player.{Player as Code}
-use Rattle.scene_app.specs.declared.fault.AppFault.{AppFault}
-use Rattle.scene_app.specs.declared.fault.AppFault.TheVariants.{NoMemory, ReadFault, WriteFault, TooLong}
+use Rattle.scene_shell.specs.declared.fault.AppFault.{AppFault}
+use Rattle.scene_shell.specs.declared.fault.AppFault.TheVariants.{NoMemory, ReadFault, WriteFault, TooLong}
 use Rattle.scene_shell.specs.declared.kept_fault.KeptFault.{KeptFault}
 use Rattle.scene_shell.specs.declared.kept_fault.KeptFault.TheVariants.{Ended, Keep}
 use Rattle.scene_shell.specs.declared.waiting.Waiting.{Waiting}

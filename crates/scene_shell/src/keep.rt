@@ -1,6 +1,6 @@
 //! What keeps lines for good.
+use crate::fault::AppFault;
 use crate::style::AnswerStyle;
-use scene_app::AppFault;
 use scene_player::Player;
 use std::alloc::Global;
 
@@ -63,7 +63,7 @@ pub trait KeptWriter {
 
     ghost use Rattle.std.specs.Prelude.{◌≡◌, ℕ, List, Option, OnOk, IfErr};
     ghost use Rattle.std.specs.Io.KnownBytes.{Appends, Keeps};
-    ghost use Rattle.scene_app.specs.declared.fault.AppFault.TheVariants.{WriteFault};
+    ghost use Rattle.scene_shell.specs.declared.fault.AppFault.TheVariants.{WriteFault};
     ghost use Rattle.scene_player.specs.Player.{Player as State, player_of};
     ghost use Rattle.scene_shell.specs.Kept.{Continues, Grows, MaySend, StaysKept};
     ghost use Rattle.scene_shell.specs.Shell.{AnswerStyle as Style};

@@ -1,5 +1,5 @@
 //! Why a shell that keeps its lines ended.
-use scene_app::AppFault;
+use crate::fault::AppFault;
 
 /// Why a shell that keeps its lines ended before its input did.
 #[derive(Drop)]

@@ -5,12 +5,12 @@ ghost use Rattle.scene_player.specs.Player.{player_of};
 ghost use Rattle.scene_shell.specs.Kept.{EndsAs};
 ghost use Rattle.scene_shell.specs.Waits.{LeadsTo};
 
+use crate::fault::AppFault;
 use crate::keep::KeptWriter;
 use crate::kept_fault::KeptFault;
 use crate::streams::read_line;
 use crate::style::AnswerStyle;
 use crate::waiting::Waiting;
-use scene_app::AppFault;
 use scene_hand::Performer;
 use scene_player::Player;
 use std::alloc::Global;

@@ -4,11 +4,11 @@ ghost use Rattle.std.specs.Io.Buffered.{reader_remaining};
 ghost use Rattle.scene_player.specs.Player.{lone_player, player_of};
 ghost use Rattle.scene_shell.specs.Shell.{Answers, Stops};
 
+use crate::fault::AppFault;
 use crate::kept_fault::KeptFault;
 use crate::kept_shell::run_kept_shell;
 use crate::style::AnswerStyle;
 use crate::unkept::Unkept;
-use scene_app::AppFault;
 use scene_hand::Performer;
 use scene_player::{Player, PlayerSettings};
 use std::alloc::Global;

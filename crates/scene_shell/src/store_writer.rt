@@ -1,8 +1,8 @@
 //! A store and a stream in one.
+use crate::fault::AppFault;
 use crate::keep::{Keep, KeptWriter};
 use crate::streams::send;
 use crate::style::AnswerStyle;
-use scene_app::AppFault;
 use scene_player::Player;
 use std::io::Write;
 

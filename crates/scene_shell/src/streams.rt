@@ -3,10 +3,10 @@ ghost use Rattle.std.specs.Prelude.{◌≡◌, IfErr, OnOk, IfSome};
 ghost use Rattle.std.specs.Io.{StopsAt};
 ghost use Rattle.std.specs.Io.KnownBytes.{Appends, Consumes};
 ghost use Rattle.std.specs.Io.BufRead.{DropsThrough, take_through};
-ghost use Rattle.scene_app.specs.declared.fault.AppFault.TheVariants.{WriteFault};
+ghost use Rattle.scene_shell.specs.declared.fault.AppFault.TheVariants.{WriteFault};
 ghost use Rattle.scene_shell.specs.Waits.{IsUnread};
 
-use scene_app::AppFault;
+use crate::fault::AppFault;
 use scene_player::Halt;
 use scene_script::BadLine;
 use std::io::{BufRead, ErrorKind, Write};

@@ -1,8 +1,8 @@
 //! A stream without a store.
+use crate::fault::AppFault;
 use crate::keep::KeptWriter;
 use crate::streams::send;
 use crate::style::AnswerStyle;
-use scene_app::AppFault;
 use scene_player::Player;
 use std::convert::Infallible;
 use std::io::Write;

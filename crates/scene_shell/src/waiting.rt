@@ -1,18 +1,18 @@
 //! Lines that were played, whose answers wait until they are kept.
 ghost use Rattle.std.specs.Prelude.{ℕ, List, Option, ◌≡◌, ◌++◌, ◌<◌, ◌≤◌, [], IfErr, IfOk, OnErr, OnOk, if◌then◌else◌, length, string_bytes};
 ghost use Rattle.std.specs.Io.KnownBytes.{Appends, Keeps};
-ghost use Rattle.scene_app.specs.declared.fault.AppFault.TheVariants.{NoMemory, WriteFault};
+ghost use Rattle.scene_shell.specs.declared.fault.AppFault.TheVariants.{NoMemory, WriteFault};
 ghost use Rattle.scene_player.specs.Player.{Player as State, player_of, player_reply};
 ghost use Rattle.scene_shell.specs.Kept.{Continues, Grows, MaySend, StaysKept, ended, kept_line};
 ghost use Rattle.scene_shell.specs.Waits.{FailsToSettle, HasCome, IsBad, IsPlayed, MaySettle, keeping_of, waiting_of};
 ghost use Rattle.scene_shell.specs.Shell.{AddsAnswer, AnswerStyle as Style, IsAnswer, IsSent};
 
+use crate::fault::AppFault;
 use crate::keep::KeptWriter;
 use crate::kept_fault::KeptFault;
 use crate::kept_line::push_kept_line;
 use crate::streams::{tell_bad, tell_halt};
 use crate::style::AnswerStyle;
-use scene_app::AppFault;
 use scene_hand::Performer;
 use scene_player::{Halt, Player};
 use scene_script::{BadLine, first_line};

@@ -73,6 +73,9 @@ struct Framed {
     kept: FrameRecord,
 }
 
+/// Drops what no editor is made of. Only here: a drop of a world is dear to check wherever it is, and a move isn't.
+fn drop_parts(_world: World, _past: Vec<FrameRecord>, _future: Vec<FrameRecord>) {}
+
 /// Runs a frame on a recorder, and lists twice what it spawned. After a refusal the recorder can still go back to where
 /// it began.
 fn apply<F: Frame>(alloc: Global, asked: &F, recorder: &mut Recorder) -> Result<Made, Refusal>
@@ -173,9 +176,14 @@ impl Editor {
         ensures refused { IfErr result (NamesFrame (IsFaultOf (reverse past.items) future.items world.world)) }
     {
         let mut tried = world;
-        try_records(alloc, Direction::Undo, &mut tried, past.as_slice())?;
+        if let Err(refusal) = try_records(alloc, Direction::Undo, &mut tried, past.as_slice()) {
+            drop_parts(tried, past, future);
+            return Err(refusal);
+        }
         if let Err(refusal) = try_records(alloc, Direction::Redo, &mut tried, future.as_slice()) {
-            return Err(after_frames(refusal, past.len()));
+            let named = after_frames(refusal, past.len());
+            drop_parts(tried, past, future);
+            return Err(named);
         }
         let stacks = Stacks::from_parts(alloc, past, future, depth)?;
         let recorder = Recorder::idle(alloc, tried);

@@ -258,19 +258,24 @@ impl World {
     pub fn try_clone(&self) -> Result<World, AllocError>
         ensures { IfOk result (λ copy. copy.world ≡ self.now.world) }
     {
-        let schema = self.schema.try_clone()?;
-        let slots = self.slots.try_clone()?;
-        let tables = self.tables.try_clone()?;
-        let links = self.links.try_clone()?;
-        let resources = self.resources.try_clone()?;
-        Ok(World {
-            alloc: self.alloc,
-            schema,
-            slots,
-            tick: self.tick,
-            tables,
-            links,
-            resources,
-        })
+        // One way out drops all that was copied: five would be dear to check.
+        match (
+            self.schema.try_clone(),
+            self.slots.try_clone(),
+            self.tables.try_clone(),
+            self.links.try_clone(),
+            self.resources.try_clone(),
+        ) {
+            (Ok(schema), Ok(slots), Ok(tables), Ok(links), Ok(resources)) => Ok(World {
+                alloc: self.alloc,
+                schema,
+                slots,
+                tick: self.tick,
+                tables,
+                links,
+                resources,
+            }),
+            _ => Err(AllocError),
+        }
     }
 }

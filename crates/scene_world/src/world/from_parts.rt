@@ -31,19 +31,25 @@ fn build(alloc: Global, parts: WorldParts) -> Result<World, AllocError>
         children,
         resources,
     } = parts;
-    let tables = build_tables(alloc, tables, generations.as_slice().len())?;
-    let links = build_links(alloc, children)?;
-    let resources = build_resources(alloc, resources)?;
-    let slots = Slots::from_lists(limit, generations, free)?;
-    Ok(World {
-        alloc,
-        schema,
-        slots,
-        tick,
-        tables,
-        links,
-        resources,
-    })
+    let count = generations.as_slice().len();
+    // One way out drops all that was built: four would be dear to check.
+    match (
+        build_tables(alloc, tables, count),
+        build_links(alloc, children),
+        build_resources(alloc, resources),
+        Slots::from_lists(limit, generations, free),
+    ) {
+        (Ok(tables), Ok(links), Ok(resources), Ok(slots)) => Ok(World {
+            alloc,
+            schema,
+            slots,
+            tick,
+            tables,
+            links,
+            resources,
+        }),
+        _ => Err(AllocError),
+    }
 }
 
 impl World {

@@ -7,7 +7,7 @@ use Rattle.scene_world.proofs.BuiltWorlds.{storable, linkable, seen_world}
 use Rattle.scene_world.proofs.world.from_parts.build.Goals as goal
 
 pub build_tables-requires : goal.build_tables-requires
-build_tables-requires c = subst (λ (g : List ℕ). AreStorable (length g) (lists_seen c.args.parts.tables.items)) (sym c.as_slice.ensures.value) (storable (seen c.args.parts) c.are_in_range.ensures c.requires)
+build_tables-requires c = subst (λ (g : List ℕ). AreStorable (length g) (lists_seen c.args.parts.tables.items)) (sym c.as_slice-count.ensures.value) (storable (seen c.args.parts) c.are_in_range.ensures c.requires)
 
 pub build_links-requires : goal.build_links-requires
 build_links-requires c = linkable (seen c.args.parts) c.are_in_range.ensures c.requires
@@ -17,7 +17,7 @@ from_lists-requires c = (c.unbroken_parts_are_those_of_valid_worlds.ensures.soun
 
 pub invariant_of-result : goal.invariant_of-result
 invariant_of-result c = record {
-  valid = subst IsValid (sym (seen_world (seen c.args.parts) c.in_ok-slots.slots _ _ c.in_ok-resources.resources c.in_ok-slots.ensures c.in_ok-tables.ensures.tables c.in_ok-links.ensures c.in_ok-resources.ensures))
+  valid = subst IsValid (sym (seen_world (seen c.args.parts) c.in-Ok-Ok-Ok-Ok.slots _ _ c.in-Ok-Ok-Ok-Ok.resources c.in-Ok-Ok-Ok-Ok.ensures''' c.in-Ok-Ok-Ok-Ok.ensures.tables c.in-Ok-Ok-Ok-Ok.ensures' c.in-Ok-Ok-Ok-Ok.ensures''))
       (c.unbroken_parts_are_those_of_valid_worlds.ensures.sound (seen c.args.parts) c.are_in_range.ensures c.requires).0;
-  homes = omega (arith, c.in_ok-tables.ensures.homes, ap (λ (s : SlotState). length s.generations) c.in_ok-slots.ensures, ap (λ (g : List ℕ). length g) c.as_slice.ensures.value);
+  homes = omega (arith, c.in-Ok-Ok-Ok-Ok.ensures.homes, ap (λ (s : SlotState). length s.generations) c.in-Ok-Ok-Ok-Ok.ensures''', ap (λ (g : List ℕ). length g) c.as_slice-count.ensures.value);
 }

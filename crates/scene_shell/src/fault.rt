@@ -1,7 +1,7 @@
 //! The faults that end a run.
 ghost use Rattle.std.specs.Prelude.{◌≡◌};
-ghost use Rattle.scene_app.specs.Fault.{app_number, app_name, of_read_error};
-ghost use Rattle.scene_app.specs.declared.fault.AppFault.TheVariants.{WriteFault, NoMemory};
+ghost use Rattle.scene_shell.specs.Fault.{app_number, app_name, of_read_error};
+ghost use Rattle.scene_shell.specs.declared.fault.AppFault.TheVariants.{WriteFault, NoMemory};
 
 use scene_streams::{ReadError, WriteError};
 use std::alloc::AllocError;
