@@ -1,10 +1,10 @@
-"""The toolchain's `rt`, from within, for tools/build.
+"""The toolchain's `rt`, from within, for tools/build and tools/wrong_bodies.
 
     toolchain_rt.py VERB WORDS..      what `rt VERB WORDS..` does, with each crate's sum made once
 
 `rt` knows a library by a sum of its crate's sources and of the sums of those below it, and makes each anew for every
 way that leads down to it: below the program there are some hundred thousand, minutes of one processor while the others
-wait. Where tools/build works no source changes meanwhile, so a sum holds once it is made. The merge gate is plain `rt`.
+wait. Where these work no source changes meanwhile, so a sum holds once it is made. The merge gate is plain `rt`.
 """
 import os
 import subprocess
