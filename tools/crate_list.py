@@ -4,24 +4,30 @@ from pathlib import Path
 TOP = Path(__file__).resolve().parent.parent
 
 
-def crates():
-    """The crates by name, each with those of this repository that it names."""
+def listed(top=TOP):
+    """The crates by name, each with all that it names, of this repository and of the toolchain."""
     named = {}
-    for line in (TOP / "crates.txt").read_text().splitlines():
+    for line in (top / "crates.txt").read_text().splitlines():
         if line.strip() and not line.startswith("#"):
             name, _, others = line.partition(":")
             named[name.split()[0]] = others.split()
+    return named
+
+
+def crates():
+    """The crates by name, each with those of this repository that it names."""
+    named = listed()
     return {name: [other for other in others if other in named] for name, others in named.items()}
 
 
-def with_all_below(names):
+def with_all_below(names, top=TOP):
     """The crates named, and all that they stand on."""
-    named, wanted, left = crates(), set(), list(names)
+    named, wanted, left = listed(top), set(), list(names)
     while left:
         name = left.pop()
         if name not in wanted:
             wanted.add(name)
-            left.extend(named[name])
+            left.extend(other for other in named[name] if other in named)
     return wanted
 
 
