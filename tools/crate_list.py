@@ -5,7 +5,8 @@ TOP = Path(__file__).resolve().parent.parent
 
 
 def listed_in(file):
-    """What a file in the form of crates.txt lists: crates by name, each with all that it names."""
+    """What a file in the form of crates.txt lists: crates by name, each with all that it names, of this repository and of
+    the toolchain."""
     named = {}
     for line in file.read_text().splitlines():
         if line.strip() and not line.startswith("#"):
@@ -14,20 +15,25 @@ def listed_in(file):
     return named
 
 
+def listed(top=TOP):
+    """The same of the crates of a repository."""
+    return listed_in(top / "crates.txt")
+
+
 def crates():
     """The crates by name, each with those of this repository that it names."""
-    named = listed_in(TOP / "crates.txt")
+    named = listed()
     return {name: [other for other in others if other in named] for name, others in named.items()}
 
 
-def with_all_below(names):
+def with_all_below(names, top=TOP):
     """The crates named, and all that they stand on."""
-    named, wanted, left = crates(), set(), list(names)
+    named, wanted, left = listed(top), set(), list(names)
     while left:
         name = left.pop()
         if name not in wanted:
             wanted.add(name)
-            left.extend(named[name])
+            left.extend(other for other in named[name] if other in named)
     return wanted
 
 

@@ -9,7 +9,7 @@
  * number of its request and the file whose code made it.
  *
  * Where REFUSE_CASE is a number, calls count only from a write of the line `case NUMBER ..` to standard output until one
- * of `called NUMBER`: so prints crates/scene_refusals, whose calls of the library these lines enclose. */
+ * of `called NUMBER`: so prints the program of tools/refusals, whose calls of the library these lines enclose. */
 #define _GNU_SOURCE
 #include <dlfcn.h>
 #include <errno.h>

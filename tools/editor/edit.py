@@ -73,7 +73,7 @@ def port_of(text):
 
 
 def main():
-    takes = "the name of a store's file, and no other word but --from SCRIPT, --port N and --help"
+    takes = "the name of a store's file, and no other word but --from SCRIPT, --port N, --unproved and --help"
     line = CommandLine("edit", takes, "editor")
     line.add_argument("store", type=Path)
     line.add_argument("--from", dest="script")
