@@ -21,12 +21,14 @@ fn tries_alone<R: Threads + Wait + Abort + Sync>(
 {
     let (pass, count) = lock.try_read(alloc, pass, &Count);
     assert_eq!(rt; count, Some(2));
-    let mut pass = pass;
-    for number in 7..11 {
-        let (next, done) = lock.try_write(alloc, pass, Write { number });
-        assert_eq!(rt; done, Ok(Ok(())));
-        pass = next;
-    }
+    let (pass, done) = lock.try_write(alloc, pass, Write { number: 7 });
+    assert_eq!(rt; done, Ok(Ok(())));
+    let (pass, done) = lock.try_write(alloc, pass, Write { number: 8 });
+    assert_eq!(rt; done, Ok(Ok(())));
+    let (pass, done) = lock.try_write(alloc, pass, Write { number: 9 });
+    assert_eq!(rt; done, Ok(Ok(())));
+    let (pass, done) = lock.try_write(alloc, pass, Write { number: 10 });
+    assert_eq!(rt; done, Ok(Ok(())));
     pass
 }
 

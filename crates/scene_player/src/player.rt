@@ -75,8 +75,20 @@ fn begin<P: Performer>(
     Ok((state, answered))
 }
 
-/// Drops what a stage has. Only here: a drop of a whole scene is dear to check wherever it is, and a move isn't.
-fn leave(_stage: Stage) {}
+/// Drops a setup.
+fn leave_setup(_setup: Setup) {}
+
+/// Drops the sessions of a state.
+fn leave_hand(_hand: Hand) {}
+
+/// Drops what a stage has. Only here: a drop of a whole scene is dear to check wherever it is, two in one function are
+/// dearer still, and a move isn't.
+fn leave(stage: Stage) {
+    match stage {
+        Stage::Setting(setup) => leave_setup(setup),
+        Stage::Playing(state) => leave_hand(hand_of_state(state)),
+    }
+}
 
 /// The sessions of a state, of which all else is dropped.
 fn hand_of_state(state: PlayState) -> Hand
