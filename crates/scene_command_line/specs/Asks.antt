@@ -29,6 +29,7 @@ pub data Asks : Type 0 where
   -- nothing, since the command line is bad
   Nothing : Asks
 
+-- what a shell is asked to be, by its words
 abbrev pub shell_asks_of : ShellWords → ShellAsks
 shell_asks_of words = record {
   workers = words.workers;

@@ -76,6 +76,7 @@ text_in v = []
 
 -- a component was shown, or else the last answer says why there is none
 abbrev pub HasRead : Option Reading → Desk → Result Cell Refusal → Type 0
-HasRead (Some reading) new (Ok cell) = (reading ≡ numbers_of cell.value) × (string_bytes new.text ≡ text_in cell.value) × (said_of new.answer ≡ Nothing)
+HasRead (Some reading) new (Ok cell) =
+    (reading ≡ numbers_of cell.value) × (string_bytes new.text ≡ text_in cell.value) × (said_of new.answer ≡ Nothing)
 HasRead None new (Err r) = (said_of new.answer ≡ refused r) × (string_bytes new.text ≡ [])
 HasRead reading new found = ⊥

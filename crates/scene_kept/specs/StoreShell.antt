@@ -17,7 +17,8 @@ abbrev pub kept_player : ℕ → Player
 kept_player calls = lone_player 1048576 calls
 
 -- the lines of a store were read, which a player plays that takes so many calls
-pub record IsRead {S : Type 0} (is_store : S → Type 0) (keeps : S → List ℕ → Type 0) (plays : List ℕ → ℕ → Type 0) (read : S) (text : List ℕ) (calls : ℕ) : Type 0 where
+pub record IsRead {S : Type 0} (is_store : S → Type 0) (keeps : S → List ℕ → Type 0) (plays : List ℕ → ℕ → Type 0)
+    (read : S) (text : List ℕ) (calls : ℕ) : Type 0 where
   pub opened : S
   pub is_opened : is_store opened
   pub same : StaysKept keeps opened read
@@ -42,7 +43,8 @@ abbrev pub IsUntouched : {W : Type 0} → (old new : W) → (script rest : Optio
 IsUntouched old new script rest = (new ≡ old) × (rest ≡ script)
 
 -- the lines of a store weren't played
-pub record IsUnplayed {S : Type 0} (is_store : S → Type 0) (keeps : S → List ℕ → Type 0) (plays : List ℕ → ℕ → Type 0) (fault : KeptLineFault) : Type 0 where
+pub record IsUnplayed {S : Type 0} (is_store : S → Type 0) (keeps : S → List ℕ → Type 0) (plays : List ℕ → ℕ → Type 0)
+    (fault : KeptLineFault) : Type 0 where
   pub read : S
   pub text : List ℕ
   pub calls : ℕ

@@ -36,9 +36,11 @@ abbrev pub saved_json : Data → Result (List ℕ) FileFault → Data
 saved_json d (Ok text) = scene_json d
 saved_json d (Err fault) = file_fault_json fault
 
+-- the JSON of `dump`
 abbrev pub dump_json : World → Data
 dump_json w = saved_json (world_text w) (save_of w)
 
+-- the JSON of `dumpall`
 abbrev pub dumpall_json : Whole → Data
 dumpall_json w =
     saved_json (editor_text w.machine.now (reverse w.past) w.future) (save_editor_of w.machine.now (reverse w.past) w.future)

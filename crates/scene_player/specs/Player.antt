@@ -28,6 +28,7 @@ abbrev pub stage_of : Stage → Player
 stage_of (code.Setting s) = Setting (setup_of s)
 stage_of (code.Playing s) = Playing s
 
+-- a player, as contracts see it
 abbrev pub player_of : Code → Player
 player_of p = stage_of p.stage
 

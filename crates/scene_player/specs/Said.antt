@@ -13,6 +13,7 @@ use Rattle.scene_show.specs.Shown.{entities_text}
 use Rattle.scene_undo.specs.declared.cursor.Cursor.{Cursor}
 use Rattle.scene_player.specs.FileFaultText.{file_fault_text}
 
+-- what an answer means, whoever prints it
 pub data Said : Type 0 where
   -- nothing: the line is empty or a comment
   Nothing : Said

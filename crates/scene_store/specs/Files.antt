@@ -40,4 +40,5 @@ module _ {D : Type 0} {g : disk.Ghosts D} where
   abbrev pub LeavesAlone : Store (FileStore D g) → Files D → Type 0
   LeavesAlone store files =
       AreClean g files.log files.db → (text : List ℕ) → Keeps over_files store text
-      → HoldsText (record { log = []; db = (image_of g files).db }) text × ((image : Image) → outcomes g files.log files.db image → HoldsText (record image { log = [] }) text)
+      → HoldsText (record { log = []; db = (image_of g files).db }) text
+      × ((image : Image) → outcomes g files.log files.db image → HoldsText (record image { log = [] }) text)
