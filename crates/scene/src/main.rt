@@ -17,9 +17,9 @@ use crate::store_looks::{backup_store, log_store, show_store};
 use crate::stored::compact_store;
 use scene_app::{AppFault, RunEnd, check_scene, print_scene, run_script};
 use scene_command_line::{Asked, ShellWords, mistake_in, read_words};
-use scene_hand::OnThreads;
-use scene_player::PlayerSettings;
+use scene_interpreter::InterpreterSettings;
 use scene_script::Limit;
+use scene_session::OnThreads;
 use scene_shell::{AnswerStyle, ShellSettings, run_shell};
 use scene_streams::{Sink, Source};
 use std::fmt::Display;
@@ -85,9 +85,9 @@ pub(crate) fn performer_of<'a, T: Threads + Sync>(
 /// How a shell is to be, by the words that ask for it; nothing where its depth is out of range, which no words ask for.
 fn shell_settings(words: &ShellWords) -> Option<ShellSettings> {
     let depth = Limit::new(words.depth)?;
-    let PlayerSettings { calls, .. } = PlayerSettings::unlimited();
+    let InterpreterSettings { calls, .. } = InterpreterSettings::unlimited();
     Some(ShellSettings {
-        player: PlayerSettings { depth, calls },
+        interpreter: InterpreterSettings { depth, calls },
         style: style_of(words),
     })
 }

@@ -3,7 +3,7 @@ use crate::ending::Ending;
 use crate::{performer_of, style_of};
 use scene_app::AppFault;
 use scene_command_line::ShellWords;
-use scene_kept::{OpeningLimits, StorePlace, StoreShellFault, run_store_shell};
+use scene_replay::{OpeningLimits, StorePlace, StoreShellFault, run_store_shell};
 use scene_shell::KeptFault;
 use scene_store::{FileFault, FileLines, StoreFault, Unknown};
 use std::io::BufReader;

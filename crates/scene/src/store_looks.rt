@@ -3,8 +3,8 @@ use crate::ending::Ending;
 use crate::printed;
 use scene_app::AppFault;
 use scene_command_line::BackupWords;
-use scene_kept::{KeptLineFault, LogCounts, show_lines, write_log};
-use scene_player::PlayerSettings;
+use scene_interpreter::InterpreterSettings;
+use scene_replay::{KeptLineFault, LogCounts, show_lines, write_log};
 use scene_script::Limit;
 use scene_store::{BackupFault, FileFault, StoreFault, StoredLines, Version, back_up, lines_at};
 
@@ -20,9 +20,9 @@ pub fn told_store(rt: &HostRuntime, path: &str, fault: StoreFault) -> Ending {
     Ending::Told
 }
 
-/// With which settings a player plays the lines of a store of a version.
-pub fn settings_of(version: Version) -> PlayerSettings {
-    PlayerSettings {
+/// With which settings an interpreter plays the lines of a store of a version.
+pub fn settings_of(version: Version) -> InterpreterSettings {
+    InterpreterSettings {
         depth: Limit::most(),
         calls: version.call_limit(),
     }

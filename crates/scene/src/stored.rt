@@ -2,7 +2,7 @@
 use crate::ending::Ending;
 use crate::store_looks::{settings_of, told_store};
 use scene_app::AppFault;
-use scene_kept::{CompactFault, compacted};
+use scene_replay::{CompactFault, compacted};
 use scene_store::{FileLines, StoreFault, StoredLines, Unknown, Version};
 
 /// Why a store wasn't compacted.

@@ -3,12 +3,12 @@ use Rattle.std.specs.Prelude.{ℕ, List, ◌++◌, Bool, true, false, Result, Ok
 use Rattle.scene_machine.specs.Machine.{most_frames}
 use Rattle.scene_model.specs.World.{World}
 use Rattle.scene_undo.specs.Editor.{EditorState}
-use Rattle.scene_forms.specs.declared.fault.FileFault.{FileFault}
+use Rattle.scene_json_forms.specs.declared.fault.FileFault.{FileFault}
 use Rattle.scene_file.specs.EditorScene.{loaded_editor}
 use Rattle.scene_pass.specs.Pass.{matching}
-use Rattle.scene_show.specs.Shown.{show_text}
-use Rattle.scene_player.specs.FileFaultText.{file_fault_text}
-use Rattle.scene_player.specs.Play.{no_filter}
+use Rattle.scene_print.specs.Shown.{show_text}
+use Rattle.scene_interpreter.specs.FileFaultText.{file_fault_text}
+use Rattle.scene_interpreter.specs.Play.{no_filter}
 
 -- how many entities are alive
 abbrev pub live_count : World → ℕ

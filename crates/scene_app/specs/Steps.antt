@@ -1,6 +1,6 @@
 -- What the bodies below a run have done when they end. Nothing that a run promises is said with these words.
 use Rattle.std.specs.Prelude.{◌≡◌, ℕ, ◌+◌, List, [], ◌∷◌, ◌++◌, length, nat_lt, if◌then◌else◌}
-use Rattle.scene_player.specs.Player.{Player, PlayerReply}
+use Rattle.scene_interpreter.specs.Interpreter.{Interpreter, LineReply}
 use Rattle.scene_app.specs.declared.report.BadLineReport.{BadLineReport}
 use Rattle.scene_app.specs.Play.{reports_at}
 use Rattle.scene_app.specs.Reports.{Tally}
@@ -14,6 +14,6 @@ abbrev pub noted : Tally → List BadLineReport → Tally
 noted t [] = t
 noted t (r ∷ rs) = noted (noted_one t r) rs
 
--- a body that plays a line added its text, noted it where it is bad, and left its player
-abbrev pub LinePlayed : (old new : List ℕ) → (before after : Tally) → Player → ℕ → PlayerReply → Type 0
-LinePlayed old new before after player number r = (new ≡ old ++ r.text) × (after ≡ noted before (reports_at number r.bad)) × (player ≡ r.player)
+-- a body that plays a line added its text, noted it where it is bad, and left its interpreter
+abbrev pub LinePlayed : (old new : List ℕ) → (before after : Tally) → Interpreter → ℕ → LineReply → Type 0
+LinePlayed old new before after interpreter number r = (new ≡ old ++ r.text) × (after ≡ noted before (reports_at number r.bad)) × (interpreter ≡ r.interpreter)

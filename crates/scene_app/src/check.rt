@@ -10,10 +10,10 @@ ghost use Rattle.scene_app.specs.Checked.{good_text, check_output, print_output,
 ghost use Rattle.scene_shell.specs.declared.fault.AppFault.TheVariants.{NoMemory, ReadFault, WriteFault, TooLong};
 
 use scene_file::load_editor_text;
+use scene_interpreter::answer_file_fault;
 use scene_pass::{Filter, matching};
-use scene_player::answer_file_fault;
+use scene_print::write_show;
 use scene_shell::AppFault;
-use scene_show::write_show;
 use scene_streams::{Sink, Source};
 use scene_undo::MOST_FRAMES;
 use scene_world::World;
@@ -30,7 +30,7 @@ fn write_good(alloc: Global, out: &mut String, world: &World) -> Result<(), Allo
 }
 
 /// Adds what `scene check` prints for a text, and gives whether it is a scene.
-#[tactic(auto, using(scene_player::proofs::FileFaultLaws::is_wanted))]
+#[tactic(auto, using(scene_interpreter::proofs::FileFaultLaws::is_wanted))]
 fn write_checked(alloc: Global, out: &mut String, text: &[u8]) -> Result<bool, AllocError>
     ensures text { OnOk result (string_bytes out.new ≡ string_bytes out.old ++ check_output text.now) }
     ensures accepted { IfOk result (λ good. good ≡ is_scene text.now) }
@@ -53,7 +53,7 @@ fn checked(alloc: Global, text: &[u8]) -> Result<(String, bool), AppFault>
 }
 
 /// Adds what `scene print` prints for a text, and gives whether it is a scene.
-#[tactic(auto, using(scene_player::proofs::FileFaultLaws::is_wanted))]
+#[tactic(auto, using(scene_interpreter::proofs::FileFaultLaws::is_wanted))]
 fn write_printed(alloc: Global, out: &mut String, text: &[u8]) -> Result<bool, AllocError>
     ensures text { OnOk result (string_bytes out.new ≡ string_bytes out.old ++ print_output text.now) }
     ensures accepted { IfOk result (λ good. good ≡ is_scene text.now) }

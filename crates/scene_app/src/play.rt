@@ -1,33 +1,33 @@
-//! A whole script, line after line through a player.
+//! A whole script, line after line through an interpreter.
 ghost use Rattle.std.specs.Prelude.{◌≡◌, ◌+◌, ◌<◌, ◌≤◌, ◌^◌, ◌++◌, OnOk, IfOk, length, string_bytes};
 ghost use Rattle.std.specs.Str.Lines.{lines};
 ghost use Rattle.scene_streams.specs.Limits.{most_bytes};
-ghost use Rattle.scene_player.specs.Player.{hand_of, player_of, player_reply};
+ghost use Rattle.scene_interpreter.specs.Interpreter.{owner_of, interpreter_of, interpreter_reply};
 ghost use Rattle.scene_app.specs.Play.{printed, printed_from};
 ghost use Rattle.scene_app.specs.Reports.{no_bad_lines};
 ghost use Rattle.scene_app.specs.Steps.{LinePlayed, noted};
 
 use crate::report::Reports;
-use scene_hand::{Hand, Performer};
-use scene_player::Player;
+use scene_interpreter::Interpreter;
 use scene_script::first_line;
+use scene_session::{Performer, SessionOwner};
 use std::alloc::{AllocError, Global};
 
 /// Plays a line, and notes it where it is bad.
 fn play_line<P: Performer>(
     performer: &P,
-    player: &mut Player,
+    interpreter: &mut Interpreter,
     number: usize,
     bytes: &[u8],
     out: &mut String,
     reports: &mut Reports,
 ) -> Result<(), AllocError>
     requires { reports.old.count + 1 < 2 ^ 64 }
-    ensures played { OnOk result (LinePlayed (string_bytes out.old) (string_bytes out.new) reports.old reports.new (player_of player.new) number
-        (player_reply (player_of player.old) bytes.now)) }
+    ensures played { OnOk result (LinePlayed (string_bytes out.old) (string_bytes out.new) reports.old reports.new (interpreter_of interpreter.new) number
+        (interpreter_reply (interpreter_of interpreter.old) bytes.now)) }
     ensures few { OnOk result (reports.new.count ≤ reports.old.count + 1) }
 {
-    match player.line(performer, bytes, out) {
+    match interpreter.line(performer, bytes, out) {
         Ok(bad) => reports.note(number, bad),
         Err(_) => Err(AllocError),
     }
@@ -36,23 +36,23 @@ fn play_line<P: Performer>(
 /// Plays the lines of a script from its first.
 fn play_lines<P: Performer>(
     performer: &P,
-    player: &mut Player,
+    interpreter: &mut Interpreter,
     script: &[u8],
     out: &mut String,
     reports: &mut Reports,
 ) -> Result<(), AllocError>
     requires none { reports.old ≡ no_bad_lines }
     requires room { length script.now ≤ most_bytes }
-    ensures text { OnOk result (string_bytes out.new ≡ string_bytes out.old ++ (printed_from 1 (player_of player.old) (lines script.now)).text) }
-    ensures bad { OnOk result (reports.new ≡ noted no_bad_lines (printed_from 1 (player_of player.old) (lines script.now)).bad) }
-    ensures hand { OnOk result (hand_of (player_of player.new) ≡ (printed_from 1 (player_of player.old) (lines script.now)).hand) }
+    ensures text { OnOk result (string_bytes out.new ≡ string_bytes out.old ++ (printed_from 1 (interpreter_of interpreter.old) (lines script.now)).text) }
+    ensures bad { OnOk result (reports.new ≡ noted no_bad_lines (printed_from 1 (interpreter_of interpreter.old) (lines script.now)).bad) }
+    ensures hand { OnOk result (owner_of (interpreter_of interpreter.new) ≡ (printed_from 1 (interpreter_of interpreter.old) (lines script.now)).hand) }
     ensures few { OnOk result (reports.new.count ≤ length script.now) }
 {
     let mut rest = script;
     let mut number = 1usize;
     'lines: while !rest.is_empty() {
         let (bytes, after) = first_line(rest);
-        play_line(performer, player, number, bytes, out, reports)?;
+        play_line(performer, interpreter, number, bytes, out, reports)?;
         rest = after;
         number += 1;
     }
@@ -68,7 +68,7 @@ pub(crate) fn play_script<P: Performer>(
     alloc: Global,
     script: &[u8],
     out: &mut String,
-) -> Result<(Hand, Reports), AllocError>
+) -> Result<(SessionOwner, Reports), AllocError>
     requires { length script.now ≤ most_bytes }
     ensures text { IfOk result (λ p. string_bytes out.new ≡ string_bytes out.old ++ (printed script.now).text) }
     ensures bad { IfOk result (λ p. p.1 ≡ noted no_bad_lines (printed script.now).bad) }
@@ -76,11 +76,11 @@ pub(crate) fn play_script<P: Performer>(
     ensures few { IfOk result (λ p. p.1.count ≤ length script.now) }
 {
     let mut reports = Reports::new(alloc);
-    let mut player = Player::new(alloc);
-    match play_lines(performer, &mut player, script, out, &mut reports) {
-        Ok(()) => Ok((player.into_hand()?, reports)),
+    let mut interpreter = Interpreter::new(alloc);
+    match play_lines(performer, &mut interpreter, script, out, &mut reports) {
+        Ok(()) => Ok((interpreter.into_owner()?, reports)),
         Err(AllocError) => {
-            player.close();
+            interpreter.close();
             Err(AllocError)
         }
     }

@@ -5,16 +5,15 @@ ghost use Rattle.scene_streams.specs.Known.{AppendsPrefix};
 ghost use Rattle.scene_streams.specs.Source.{reader_of, turns_left, read_failed};
 ghost use Rattle.scene_streams.specs.Sink.{writer_of, write_failed};
 ghost use Rattle.scene_streams.specs.Limits.{most_bytes};
-ghost use Rattle.scene_hand.specs.Hand.{HandState};
-ghost use Rattle.scene_hand.specs.Passes.{AreOf};
-ghost use Rattle.scene_app.specs.Play.{bad_lines, hand_after, output};
+ghost use Rattle.scene_session.specs.Owner.{OwnerState};
+ghost use Rattle.scene_session.specs.Passes.{AreOf};
+ghost use Rattle.scene_app.specs.Play.{bad_lines, owner_after, output};
 ghost use Rattle.scene_shell.specs.declared.fault.AppFault.TheVariants.{NoMemory, ReadFault, WriteFault, TooLong};
 
 use crate::play::play_script;
 use crate::report::BadLineReport;
-use scene_hand::{OnThreads, Performer};
 use scene_lock::{Pass, WordLock};
-use scene_session::State;
+use scene_session::{OnThreads, Performer, State};
 use scene_shell::AppFault;
 use scene_streams::{Sink, Source};
 use std::alloc::Global;
@@ -46,7 +45,7 @@ fn played<P: Performer>(
     ensures printed { IfOk result (λ p. string_bytes p.0 ≡ output script.now) }
     ensures bad { IfOk result (λ p. p.1.bad_lines ≡ length (bad_lines script.now)) }
     ensures reports { IfOk result (λ p. p.1.reports.items ≡ take 10 (bad_lines script.now)) }
-    ensures passes { IfOk result (λ p. AreOf p.1.lock p.1.passes.items (hand_after script.now)) }
+    ensures passes { IfOk result (λ p. AreOf p.1.lock p.1.passes.items (owner_after script.now)) }
     ensures memory { IfErr result (λ f. f ≡ NoMemory) }
 {
     let mut out = String::new(alloc);
@@ -86,8 +85,8 @@ pub fn run_script<T: Threads + Wait + Sync, R: Read, W: Write>(
     ensures bad { IfOk result (λ end. IfSome (R.remaining (reader_of source.old)) (λ script. end.bad_lines ≡ length (bad_lines script))) }
     ensures reports { IfOk result (λ end. IfSome (R.remaining (reader_of source.old)) (λ script. end.reports.items ≡ take 10 (bad_lines script))) }
     ensures passes { IfOk result (λ end. IfSome (R.remaining (reader_of source.old))
-        (λ script. AreOf end.lock end.passes.items (hand_after script))) }
-    ensures eight { IfOk result (λ end. (hand : HandState) × AreOf end.lock end.passes.items hand) }
+        (λ script. AreOf end.lock end.passes.items (owner_after script))) }
+    ensures eight { IfOk result (λ end. (hand : OwnerState) × AreOf end.lock end.passes.items hand) }
     ensures within { OnOk result (IfSome (R.remaining (reader_of source.old)) (λ script. length script ≤ most_bytes)) }
     ensures end { OnOk result (IsAtEnd (R.remaining (reader_of source.new))) }
     ensures prefix { OnErr result (IfSome (R.remaining (reader_of source.old))

@@ -1,8 +1,8 @@
 -- The table of names has the name of each fault at its number.
 use Rattle.std.proofs.Common.{◌≡◌, refl}
-use Rattle.scene_forms.specs.Fault.{file_name, file_number}
-use Rattle.scene_forms.specs.declared.fault.FileFault.{FileFault}
-use Rattle.scene_forms.specs.declared.fault.FileFault.TheVariants as file
+use Rattle.scene_json_forms.specs.Fault.{file_name, file_number}
+use Rattle.scene_json_forms.specs.declared.fault.FileFault.{FileFault}
+use Rattle.scene_json_forms.specs.declared.fault.FileFault.TheVariants as file
 use Rattle.scene_kinds.specs.Fault.{fault_name, fault_number}
 use Rattle.scene_kinds.specs.declared.fault.Fault.{Fault}
 use Rattle.scene_kinds.specs.declared.fault.Fault.TheVariants as call

@@ -12,7 +12,7 @@ use Rattle.scene_commands.specs.declared.target.Target.{Target}
 use Rattle.scene_commands.specs.declared.target.Target.TheVariants.{Id, New}
 use Rattle.scene_script.specs.declared.script_line.Line.{Line}
 use Rattle.scene_script.specs.declared.script_line.Line.TheVariants.{Do}
-use Rattle.scene_desk.specs.declared.reading.Reading.{Reading}
+use Rattle.scene_c.specs.declared.reading.Reading.{Reading}
 use Rattle.scene_kinds.specs.declared.refusal.Place.{Place}
 use Rattle.scene_kinds.specs.declared.refusal.Refusal.{Refusal}
 use Rattle.scene_kinds.specs.Fault.{fault_number}

@@ -10,24 +10,24 @@ use Rattle.scene_pass.specs.declared.cell_name.CellName.{CellName}
 use Rattle.scene_session.specs.Calls.{Refused}
 use Rattle.scene_script.specs.declared.script_line.Line.{Line}
 use Rattle.scene_script.specs.declared.script_line.Line.TheVariants.{Do, Load}
-use Rattle.scene_player.specs.declared.answer.Answer.TheVariants as code
-use Rattle.scene_player.specs.declared.halt.Halt.{Halt}
-use Rattle.scene_player.specs.declared.halt.Halt.TheVariants.{Before, Begun, After, Lost}
-use Rattle.scene_player.specs.Answer.{said_of}
-use Rattle.scene_player.specs.Changes.{frame_is_open}
-use Rattle.scene_player.specs.Player.{Player, PlayerReply, Tells, begun, halted, player_of, player_said, without_frame}
-use Rattle.scene_player.specs.Said.{Said, Nothing, Called, Fault, Bad, bad_in, refused}
-use Rattle.scene_desk.specs.Desk.{HasHalted, KeepsAnswer, fresh_player, made_in, named_in, numbers_of, refusal_in, text_in, world_of}
-use Rattle.scene_desk.specs.declared.desk.Desk.{Desk}
+use Rattle.scene_interpreter.specs.declared.answer.Answer.TheVariants as code
+use Rattle.scene_interpreter.specs.declared.halt.Halt.{Halt}
+use Rattle.scene_interpreter.specs.declared.halt.Halt.TheVariants.{Before, Begun, After, Lost}
+use Rattle.scene_interpreter.specs.Answer.{said_of}
+use Rattle.scene_interpreter.specs.Changes.{frame_is_open}
+use Rattle.scene_interpreter.specs.Interpreter.{Interpreter, LineReply, Tells, begun, halted, interpreter_of, interpreter_said, without_frame}
+use Rattle.scene_interpreter.specs.Said.{Said, Nothing, Called, Fault, Bad, bad_in, refused}
+use Rattle.scene_c.specs.OpenScene.{HasHalted, KeepsAnswer, fresh_interpreter, made_in, named_in, numbers_of, refusal_in, text_in, world_of}
+use Rattle.scene_c.specs.declared.open_scene.OpenScene.{OpenScene}
 use Rattle.scene_c.specs.Arguments.{shown_cell}
 use Rattle.scene_c.specs.declared.value.SceneCell.{SceneCell}
 
 -- a scene before its first line
-abbrev pub IsFresh : Desk → Type 0
-IsFresh new = (player_of new.player ≡ fresh_player) × (new.answer ≡ code.Nothing) × (string_bytes new.text ≡ []) × (new.cells.items ≡ [])
+abbrev pub IsFresh : OpenScene → Type 0
+IsFresh new = (interpreter_of new.interpreter ≡ fresh_interpreter) × (new.answer ≡ code.Nothing) × (string_bytes new.text ≡ []) × (new.cells.items ≡ [])
 
 -- what a code says of the handle that an opening made: such a scene, or null where no memory was found
-abbrev pub Opens : Option Desk → ℕ → Type 0
+abbrev pub Opens : Option OpenScene → ℕ → Type 0
 Opens None code = code ≡ 1
 Opens (Some new) code = (code ≡ 0) × IsFresh new
 
@@ -55,50 +55,50 @@ code_of (Err h) said = halt_code h
 -- ---- calls
 
 -- A call was played: its answer is that of the reply, of which the code follows, or no memory was found
-pub record Played (old new : Desk) (r : PlayerReply) (text : List ℕ) (code : ℕ) : Type 0 where
+pub record Played (old new : OpenScene) (r : LineReply) (text : List ℕ) (code : ℕ) : Type 0 where
   pub came : Result (Unit {0}) Halt
   pub coded : code ≡ code_of came r.said
-  pub answered : IfOk came (λ _. Tells new.answer (player_of new.player) r × (string_bytes new.text ≡ text))
+  pub answered : IfOk came (λ _. Tells new.answer (interpreter_of new.interpreter) r × (string_bytes new.text ≡ text))
   pub halted : IfErr came (λ h. HasHalted h old new r)
 
 -- on the scene that a handle holds; on null it does nothing
-abbrev pub Plays : (Player → PlayerReply) → (PlayerReply → List ℕ) → Option Desk → Option Desk → ℕ → Type 0
+abbrev pub Plays : (Interpreter → LineReply) → (LineReply → List ℕ) → Option OpenScene → Option OpenScene → ℕ → Type 0
 Plays reply text None None code = code ≡ 2
 Plays reply text (Some old) (Some new) code =
-    Played old new (reply (player_of old.player)) (text (reply (player_of old.player))) code × (new.cells.items ≡ old.cells.items)
+    Played old new (reply (interpreter_of old.interpreter)) (text (reply (interpreter_of old.interpreter))) code × (new.cells.items ≡ old.cells.items)
 Plays reply text old new code = ⊥
 
 -- a line as a value
-abbrev pub says : Line → Player → PlayerReply
-says line p = player_said p (Ok line)
+abbrev pub says : Line → Interpreter → LineReply
+says line p = interpreter_said p (Ok line)
 
 -- no text is asked for
-abbrev pub untold : PlayerReply → List ℕ
+abbrev pub untold : LineReply → List ℕ
 untold r = []
 
 -- a line without a text: so it isn't done but untold
-abbrev pub Does : Line → Option Desk → Option Desk → ℕ → Type 0
+abbrev pub Does : Line → Option OpenScene → Option OpenScene → ℕ → Type 0
 Does line old new code = Plays (says line) untold old new code × (code ≢ 5)
 
 -- the line that the arguments name; where they name none, nothing was done
-abbrev pub Asks : Option Line → Option Desk → Option Desk → ℕ → Type 0
+abbrev pub Asks : Option Line → Option OpenScene → Option OpenScene → ℕ → Type 0
 Asks None old new code = (new ≡ old) × (code ≡ 4)
 Asks (Some line) old new code = Does line old new code
 
 -- a spawn with the components that were given for it, after which none are given for the next one
-abbrev pub Spawns : Option Desk → Option Desk → ℕ → Type 0
+abbrev pub Spawns : Option OpenScene → Option OpenScene → ℕ → Type 0
 Spawns None None code = code ≡ 2
 Spawns (Some old) (Some new) code =
-    Played old new (says (Do (Spawn old.cells.items)) (player_of old.player)) [] code × (new.cells.items ≡ []) × (code ≢ 5)
+    Played old new (says (Do (Spawn old.cells.items)) (interpreter_of old.interpreter)) [] code × (new.cells.items ≡ []) × (code ≢ 5)
 Spawns old new code = ⊥
 
 -- a component more is given for the next spawn, or no memory was found for it
-abbrev pub GivesMore : ℕ × Value → Desk → Desk → ℕ → Type 0
-GivesMore c old new code = (KeepsAnswer old new × (player_of new.player ≡ player_of old.player))
+abbrev pub GivesMore : ℕ × Value → OpenScene → OpenScene → ℕ → Type 0
+GivesMore c old new code = (KeepsAnswer old new × (interpreter_of new.interpreter ≡ interpreter_of old.interpreter))
     × (((code ≡ 0) × (new.cells.items ≡ old.cells.items ++ c ∷ [])) ⊎ ((code ≡ 1) × (new.cells.items ≡ old.cells.items)))
 
 -- on the scene that a handle holds; where the arguments name no component, nothing was done
-abbrev pub Gives : Option (ℕ × Value) → Option Desk → Option Desk → ℕ → Type 0
+abbrev pub Gives : Option (ℕ × Value) → Option OpenScene → Option OpenScene → ℕ → Type 0
 Gives None old new code = (new ≡ old) × (code ≡ 4)
 Gives (Some c) None None code = code ≡ 2
 Gives (Some c) (Some old) (Some new) code = GivesMore c old new code
@@ -107,85 +107,85 @@ Gives (Some c) old new code = ⊥
 -- ---- calls with a text among their arguments, of which a copy is made where they have a meaning
 
 -- no memory was found for the copy, and nothing was done
-abbrev pub HasNoRoom : Option Desk → Option Desk → ℕ → Type 0
+abbrev pub HasNoRoom : Option OpenScene → Option OpenScene → ℕ → Type 0
 HasNoRoom old new code = (code ≡ 1) × (new ≡ old)
 
 -- a scene text is loaded; bytes that are no text are not
-abbrev pub Loads : Option (List ℕ) → Option Desk → Option Desk → ℕ → Type 0
+abbrev pub Loads : Option (List ℕ) → Option OpenScene → Option OpenScene → ℕ → Type 0
 Loads None old new code = (new ≡ old) × (code ≡ 4)
 Loads (Some text) old new code = HasNoRoom old new code ⊎ Plays (says (Load text)) (λ r. r.text) old new code
 
 -- a component that is a text is given for the next spawn
-abbrev pub GivesText : Option (ℕ × Value) → Option Desk → Option Desk → ℕ → Type 0
+abbrev pub GivesText : Option (ℕ × Value) → Option OpenScene → Option OpenScene → ℕ → Type 0
 GivesText None old new code = (new ≡ old) × (code ≡ 4)
 GivesText (Some c) old new code = HasNoRoom old new code ⊎ Gives (Some c) old new code
 
 -- the line of a component that is a text
-abbrev pub AsksText : Option Line → Option Desk → Option Desk → ℕ → Type 0
+abbrev pub AsksText : Option Line → Option OpenScene → Option OpenScene → ℕ → Type 0
 AsksText None old new code = (new ≡ old) × (code ≡ 4)
 AsksText (Some line) old new code = HasNoRoom old new code ⊎ Does line old new code
 
 -- ---- a frame that is dropped, and why a line is bad
 
 -- the open frame is dropped, and nothing else changes; or none is open
-abbrev pub DropsFrame : Option Desk → Option Desk → ℕ → Type 0
+abbrev pub DropsFrame : Option OpenScene → Option OpenScene → ℕ → Type 0
 DropsFrame None None code = code ≡ 2
-DropsFrame (Some old) (Some new) code = (code ≡ (if frame_is_open (player_of old.player) then 0 else 4))
-    × (player_of new.player ≡ without_frame (player_of old.player)) × KeepsAnswer old new × (new.cells.items ≡ old.cells.items)
+DropsFrame (Some old) (Some new) code = (code ≡ (if frame_is_open (interpreter_of old.interpreter) then 0 else 4))
+    × (interpreter_of new.interpreter ≡ without_frame (interpreter_of old.interpreter)) × KeepsAnswer old new × (new.cells.items ≡ old.cells.items)
 DropsFrame old new code = ⊥
 
 -- by whether the last line was bad: the text is why, or no memory was found for that; or else there is nothing to say, and the text stays
-abbrev pub SaysWhy : Bool → Desk → Desk → ℕ → Type 0
+abbrev pub SaysWhy : Bool → OpenScene → OpenScene → ℕ → Type 0
 SaysWhy true old new code = (code ≡ 0) ⊎ ((code ≡ 1) × (string_bytes new.text ≡ string_bytes old.text))
 SaysWhy false old new code = (code ≡ 4) × (string_bytes new.text ≡ string_bytes old.text)
 
 -- on the scene that a handle holds; but for its text it is as it was
-abbrev pub Explains : Option Desk → Option Desk → ℕ → Type 0
+abbrev pub Explains : Option OpenScene → Option OpenScene → ℕ → Type 0
 Explains None None code = code ≡ 2
 Explains (Some old) (Some new) code = SaysWhy (is_some (bad_in (said_of old.answer))) old new code
-    × (new.answer ≡ old.answer) × (player_of new.player ≡ player_of old.player) × (new.cells.items ≡ old.cells.items)
+    × (new.answer ≡ old.answer) × (interpreter_of new.interpreter ≡ interpreter_of old.interpreter) × (new.cells.items ≡ old.cells.items)
 Explains old new code = ⊥
 
 -- ---- what is read
 
 -- the text of the last answer, and none where nothing is open
-abbrev pub text_now : Option Desk → List ℕ
+abbrev pub text_now : Option OpenScene → List ℕ
 text_now None = []
 text_now (Some d) = string_bytes d.text
 
 -- an entity that the last frame made, by its place
-abbrev pub made_at : Option Desk → ℕ → Option Entity
+abbrev pub made_at : Option OpenScene → ℕ → Option Entity
 made_at None at = None
 made_at (Some d) at = slice_get (made_in (said_of d.answer)) at
 
 -- a cell that the last answer lists, by its place
-abbrev pub named_at : Option Desk → ℕ → Option CellName
+abbrev pub named_at : Option OpenScene → ℕ → Option CellName
 named_at None at = None
 named_at (Some d) at = slice_get (named_in (said_of d.answer)) at
 
 -- the refusal that the last answer is
-abbrev pub refusal_now : Option Desk → Option Refusal
+abbrev pub refusal_now : Option OpenScene → Option Refusal
 refusal_now None = None
 refusal_now (Some d) = refusal_in (said_of d.answer)
 
 -- what was found of a component: it is shown, with the text that it may be; or it is refused, and nothing is shown
-abbrev pub Shows : ℕ → Result Cell Refusal → Desk → SceneCell → SceneCell → ℕ → Type 0
+abbrev pub Shows : ℕ → Result Cell Refusal → OpenScene → SceneCell → SceneCell → ℕ → Type 0
 Shows kind (Ok cell) new before after code = (code ≡ 0) × (after ≡ shown_cell kind (numbers_of cell.value))
     × (string_bytes new.text ≡ text_in cell.value) × (said_of new.answer ≡ Nothing)
 Shows kind (Err r) new before after code = (code ≡ 3) × (after ≡ before)
     × (string_bytes new.text ≡ []) × (said_of new.answer ≡ refused r)
 
 -- A component was read, in the world that there is where the setup is over; or no memory was found
-pub record WasRead (e : Entity) (kind : ℕ) (old new : Desk) (before after : SceneCell) (code : ℕ) : Type 0 where
+pub record WasRead (e : Entity) (kind : ℕ) (old new : OpenScene) (before after : SceneCell) (code : ℕ) : Type 0 where
   pub came : Option Halt
   pub shown : MatchOption came
-      (Shows kind (component_of (world_of old) e kind) new before after code × (player_of new.player ≡ begun (player_of old.player)))
+      (Shows kind (component_of (world_of old) e kind) new before after code × (interpreter_of new.interpreter ≡ begun (interpreter_of old.interpreter)))
       (λ h. (h ≢ After) × (code ≡ halt_code h) × (after ≡ before) × KeepsAnswer old new
-      × ((next : Player) → player_of new.player ≡ halted h (player_of old.player) next))
+      × ((next : Interpreter) → interpreter_of new.interpreter ≡ halted h (interpreter_of old.interpreter) next))
   pub cells : new.cells.items ≡ old.cells.items
 
 -- on the scene that a handle holds; a kind that is no number of 8 bits, and null, show nothing
-abbrev pub Gets : Entity → Option ℕ → Option Desk → Option Desk → SceneCell → SceneCell → ℕ → Type 0
+abbrev pub Gets : Entity → Option ℕ → Option OpenScene → Option OpenScene → SceneCell → SceneCell → ℕ → Type 0
 Gets e None old new before after code = (new ≡ old) × (after ≡ before) × (code ≡ 4)
 Gets e (Some kind) None None before after code = (after ≡ before) × (code ≡ 2)
 Gets e (Some kind) (Some old) (Some new) before after code = WasRead e kind old new before after code

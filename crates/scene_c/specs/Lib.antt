@@ -3,3 +3,4 @@ pub mod Calls
 pub mod Held
 pub mod Memory
 pub mod Names
+pub mod OpenScene

@@ -2,11 +2,11 @@
 ghost use Rattle.std.specs.Prelude.{◌≡◌, Option, Some, None, option_map};
 ghost use Rattle.scene_c.specs.Calls.{Opens};
 ghost use Rattle.scene_c.specs.Held.{held};
-ghost use Rattle.scene_desk.specs.declared.desk.Desk.{Desk as Told};
+ghost use Rattle.scene_c.specs.declared.open_scene.OpenScene.{OpenScene as Told};
 
 use crate::loose::Loose;
+use crate::open_scene::OpenScene;
 use crate::{DONE, NO_MEMORY};
-use scene_desk::Desk;
 use std::alloc::Global;
 use std::marker::Model;
 use std::ptr::null_mut;
@@ -35,10 +35,10 @@ impl Handle {
     }
 
     /// The handle of a scene, which it now owns.
-    pub(crate) fn of(desk: Loose<Desk, Global>) -> Handle
-        ensures { result.value ≡ Some desk.value }
+    pub(crate) fn of(open_scene: Loose<OpenScene, Global>) -> Handle
+        ensures { result.value ≡ Some open_scene.value }
     {
-        let Loose { at, alloc } = desk;
+        let Loose { at, alloc } = open_scene;
         Handle {
             at: at as *mut (),
             alloc,
@@ -46,14 +46,14 @@ impl Handle {
     }
 
     /// The handle of a scene in a box.
-    pub(crate) fn of_box(desk: Box<Desk, Global>) -> Handle
-        ensures { result.value ≡ Some desk.value }
+    pub(crate) fn of_box(open_scene: Box<OpenScene, Global>) -> Handle
+        ensures { result.value ≡ Some open_scene.value }
     {
-        Handle::of(Loose::of(desk))
+        Handle::of(Loose::of(open_scene))
     }
 
     /// What the handle owns.
-    pub(crate) fn into_loose(self) -> Option<Loose<Desk, Global>>
+    pub(crate) fn into_loose(self) -> Option<Loose<OpenScene, Global>>
         ensures { option_map (λ l. l.value) result ≡ self.value }
     {
         let Handle { at, alloc } = self;
@@ -61,7 +61,7 @@ impl Handle {
             None
         } else {
             Some(Loose {
-                at: at as *mut Desk,
+                at: at as *mut OpenScene,
                 alloc,
             })
         }
@@ -70,12 +70,12 @@ impl Handle {
 
 impl Drop for Handle {
     fn drop(self) {
-        let _desk = into_desk(self);
+        let _open_scene = into_open_scene(self);
     }
 }
 
 /// The scene that a handle owns.
-pub(crate) fn into_desk(handle: Handle) -> Option<Box<Desk, Global>>
+pub(crate) fn into_open_scene(handle: Handle) -> Option<Box<OpenScene, Global>>
     ensures { option_map (λ b. b.value) result ≡ handle.value }
 {
     match handle.into_loose() {
@@ -88,7 +88,7 @@ pub(crate) fn into_desk(handle: Handle) -> Option<Box<Desk, Global>>
 pub(crate) fn new_handle(alloc: Global) -> (Handle, u32)
     ensures { Opens result.0.value result.1 }
 {
-    match Box::new(alloc, Desk::new(alloc)) {
+    match Box::new(alloc, OpenScene::new(alloc)) {
         Ok(boxed) => (Handle::of_box(boxed), DONE),
         Err(_) => (Handle::closed(alloc), NO_MEMORY),
     }

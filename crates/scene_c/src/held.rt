@@ -1,11 +1,11 @@
 //! Calls on the scene that a handle holds. Those of a line that is a value are inlined, so that each call of C pays for its own
 //! line alone.
 ghost use Rattle.std.specs.Prelude.{◌≡◌, ℕ, List, None};
-ghost use Rattle.scene_player.specs.Player.{player_reply};
+ghost use Rattle.scene_interpreter.specs.Interpreter.{interpreter_reply};
 ghost use Rattle.scene_c.specs.Calls.{Asks, Does, DropsFrame, Explains, Gives, Plays, Spawns, says};
 ghost use Rattle.std.specs.Option.{option_map};
 
-use crate::handle::{Handle, into_desk};
+use crate::handle::{Handle, into_open_scene};
 use crate::played::{drop_frame_at, explain_at, give_at, line_at, say_at, spawn_at, tell_at};
 use crate::{BAD, CLOSED};
 use scene_kinds::Value;
@@ -15,10 +15,10 @@ use std::mem;
 
 /// Plays a line.
 pub(crate) fn line(alloc: Global, scene: &mut Handle, bytes: &[u8]) -> u32
-    ensures { Plays (λ p. player_reply p bytes.now) (λ r. r.text) scene.old.value scene.new.value result }
+    ensures { Plays (λ p. interpreter_reply p bytes.now) (λ r. r.text) scene.old.value scene.new.value result }
 {
     let taken = mem::replace(scene, Handle::closed(alloc));
-    let Some(boxed) = into_desk(taken) else {
+    let Some(boxed) = into_open_scene(taken) else {
         return CLOSED;
     };
     let mut boxed = boxed;
@@ -32,7 +32,7 @@ pub(crate) fn tell(alloc: Global, scene: &mut Handle, line: Line) -> u32
     ensures { Plays (says line) (λ r. r.text) scene.old.value scene.new.value result }
 {
     let taken = mem::replace(scene, Handle::closed(alloc));
-    let Some(boxed) = into_desk(taken) else {
+    let Some(boxed) = into_open_scene(taken) else {
         return CLOSED;
     };
     let mut boxed = boxed;
@@ -47,7 +47,7 @@ pub(crate) fn say(alloc: Global, scene: &mut Handle, line: Line) -> u32
     ensures { Does line scene.old.value scene.new.value result }
 {
     let taken = mem::replace(scene, Handle::closed(alloc));
-    let Some(boxed) = into_desk(taken) else {
+    let Some(boxed) = into_open_scene(taken) else {
         return CLOSED;
     };
     let mut boxed = boxed;
@@ -61,7 +61,7 @@ pub(crate) fn spawn(alloc: Global, scene: &mut Handle) -> u32
     ensures { Spawns scene.old.value scene.new.value result }
 {
     let taken = mem::replace(scene, Handle::closed(alloc));
-    let Some(boxed) = into_desk(taken) else {
+    let Some(boxed) = into_open_scene(taken) else {
         return CLOSED;
     };
     let mut boxed = boxed;
@@ -78,7 +78,7 @@ pub(crate) fn give(alloc: Global, scene: &mut Handle, given: Option<(u8, Value)>
         return BAD;
     };
     let taken = mem::replace(scene, Handle::closed(alloc));
-    let Some(boxed) = into_desk(taken) else {
+    let Some(boxed) = into_open_scene(taken) else {
         return CLOSED;
     };
     let mut boxed = boxed;
@@ -103,7 +103,7 @@ pub(crate) fn drop_frame(alloc: Global, scene: &mut Handle) -> u32
     ensures { DropsFrame scene.old.value scene.new.value result }
 {
     let taken = mem::replace(scene, Handle::closed(alloc));
-    let Some(boxed) = into_desk(taken) else {
+    let Some(boxed) = into_open_scene(taken) else {
         return CLOSED;
     };
     let mut boxed = boxed;
@@ -117,7 +117,7 @@ pub(crate) fn explain(alloc: Global, scene: &mut Handle) -> u32
     ensures { Explains scene.old.value scene.new.value result }
 {
     let taken = mem::replace(scene, Handle::closed(alloc));
-    let Some(boxed) = into_desk(taken) else {
+    let Some(boxed) = into_open_scene(taken) else {
         return CLOSED;
     };
     let mut boxed = boxed;

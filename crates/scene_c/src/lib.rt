@@ -11,7 +11,7 @@ ghost use Rattle.std.specs.Ptr.{lies_at, room_at};
 ghost use base.Logic.{ex};
 ghost use Rattle.scene_commands.specs.declared.command.Command.TheVariants as command;
 ghost use Rattle.scene_script.specs.declared.script_line.Line.TheVariants as line;
-ghost use Rattle.scene_player.specs.Player.{player_reply};
+ghost use Rattle.scene_interpreter.specs.Interpreter.{interpreter_reply};
 ghost use Rattle.scene_c.specs.Arguments.{component_of_cell, entity_of, insert_line, kind_of, shown_entity, shown_name, shown_refusal, target_of, text_component, text_of};
 ghost use Rattle.scene_c.specs.Calls.{Asks, AsksText, Does, DropsFrame, Explains, Gets, Gives, GivesText, Loads, Opens, Plays, Spawns, made_at, named_at, refusal_now, says, text_now};
 ghost use Rattle.scene_c.specs.Memory.{bytes_at, copied};
@@ -21,18 +21,24 @@ ghost use Rattle.scene_c.specs.declared.handle.Handle.{Handle as Held};
 
 mod handle;
 mod held;
+mod lines;
 mod loose;
 mod names;
+mod open_scene;
 mod played;
+mod reading;
+mod reads;
 mod texts;
 mod value;
 
 pub use handle::Handle;
-use handle::{into_desk, new_handle};
+use handle::{into_open_scene, new_handle};
 use held::{ask, drop_frame, explain, give, line, say, spawn, tell};
 pub use names::each_fault_has_its_name;
 use names::{copy_name, name_len};
+pub use open_scene::OpenScene;
 use played::read_at;
+pub use reading::Reading;
 use scene_commands::Command;
 use scene_script::Line;
 use std::alloc::Global;
@@ -97,7 +103,7 @@ pub extern "C" fn scene_close(alloc: Global, scene: &mut Handle)
 /// Plays a line, which is given without its line break. Its answer is kept with its text.
 #[unsafe(no_mangle)]
 pub extern "C" fn scene_line(alloc: Global, scene: &mut Handle, bytes: &[u8]) -> u32
-    ensures { Plays (λ p. player_reply p bytes.now) (λ r. r.text) scene.old.value scene.new.value result }
+    ensures { Plays (λ p. interpreter_reply p bytes.now) (λ r. r.text) scene.old.value scene.new.value result }
 {
     line(alloc, scene, bytes)
 }
@@ -373,7 +379,7 @@ pub extern "C" fn scene_spawned(
     ensures kept { scene.new.value ≡ scene.old.value }
 {
     let taken = std::mem::replace(scene, Handle::closed(alloc));
-    let Some(boxed) = into_desk(taken) else {
+    let Some(boxed) = into_open_scene(taken) else {
         return BAD;
     };
     let found = boxed.made(at);
@@ -399,7 +405,7 @@ pub extern "C" fn scene_named(
     ensures kept { scene.new.value ≡ scene.old.value }
 {
     let taken = std::mem::replace(scene, Handle::closed(alloc));
-    let Some(boxed) = into_desk(taken) else {
+    let Some(boxed) = into_open_scene(taken) else {
         return BAD;
     };
     let found = boxed.named(at);
@@ -420,7 +426,7 @@ pub extern "C" fn scene_refused(alloc: Global, scene: &mut Handle, out: &mut Sce
     ensures kept { scene.new.value ≡ scene.old.value }
 {
     let taken = std::mem::replace(scene, Handle::closed(alloc));
-    let Some(boxed) = into_desk(taken) else {
+    let Some(boxed) = into_open_scene(taken) else {
         return BAD;
     };
     let found = boxed.refusal();
@@ -449,7 +455,7 @@ pub extern "C" fn scene_get(
         return BAD;
     };
     let taken = std::mem::replace(scene, Handle::closed(alloc));
-    let Some(boxed) = into_desk(taken) else {
+    let Some(boxed) = into_open_scene(taken) else {
         return CLOSED;
     };
     let mut boxed = boxed;

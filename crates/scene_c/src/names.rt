@@ -1,7 +1,7 @@
 //! The names of faults.
 ghost use Rattle.std.specs.Prelude.{◌≡◌, length, map};
-ghost use Rattle.scene_forms.specs.Fault.{file_name, file_number};
-ghost use Rattle.scene_forms.specs.declared.fault.FileFault.{FileFault};
+ghost use Rattle.scene_json_forms.specs.Fault.{file_name, file_number};
+ghost use Rattle.scene_json_forms.specs.declared.fault.FileFault.{FileFault};
 ghost use Rattle.scene_kinds.specs.Fault.{fault_name, fault_number};
 ghost use Rattle.scene_kinds.specs.declared.fault.Fault.{Fault};
 ghost use Rattle.scene_c.specs.Memory.{copied};

@@ -1,20 +1,20 @@
-//! A call on a desk, by its code.
+//! A call on a open_scene, by its code.
 ghost use Rattle.std.specs.Prelude.{◌≡◌, ◌≢◌, ◌++◌, ◌∷◌, [], if◌then◌else◌, is_some};
 ghost use Rattle.scene_commands.specs.declared.command.Command.TheVariants.{Spawn};
 ghost use Rattle.scene_script.specs.declared.script_line.Line.TheVariants.{Do};
-ghost use Rattle.scene_player.specs.Answer.{said_of};
-ghost use Rattle.scene_player.specs.Changes.{frame_is_open};
-ghost use Rattle.scene_player.specs.Player.{player_of, player_reply, without_frame};
-ghost use Rattle.scene_player.specs.Said.{bad_in};
-ghost use Rattle.scene_desk.specs.Desk.{KeepsAnswer};
+ghost use Rattle.scene_interpreter.specs.Answer.{said_of};
+ghost use Rattle.scene_interpreter.specs.Changes.{frame_is_open};
+ghost use Rattle.scene_interpreter.specs.Interpreter.{interpreter_of, interpreter_reply, without_frame};
+ghost use Rattle.scene_interpreter.specs.Said.{bad_in};
+ghost use Rattle.scene_c.specs.OpenScene.{KeepsAnswer};
 ghost use Rattle.scene_c.specs.Calls.{GivesMore, Played, SaysWhy, WasRead, code_of, halt_code, said_code, says};
 
+use crate::open_scene::OpenScene;
 use crate::value::{SceneCell, shown_cell};
 use crate::{BAD, DONE, LOST, NO_MEMORY, REFUSED, UNTOLD};
 use scene_commands::{Command, Components};
-use scene_desk::Desk;
+use scene_interpreter::{Answer, Halt};
 use scene_kinds::{Entity, Value};
-use scene_player::{Answer, Halt};
 use scene_script::Line;
 use scene_session::Reply;
 use std::alloc::Global;
@@ -41,7 +41,7 @@ pub(crate) fn halt_code(halt: Halt) -> u32
     }
 }
 
-/// The code of a call that a desk has answered, or that was halted.
+/// The code of a call that a open_scene has answered, or that was halted.
 fn code_of(came: Result<(), Halt>, answer: &Answer) -> u32
     ensures { result ≡ code_of came (said_of answer.now) }
 {
@@ -52,72 +52,75 @@ fn code_of(came: Result<(), Halt>, answer: &Answer) -> u32
 }
 
 /// Plays a line.
-pub(crate) fn line_at(alloc: Global, desk: &mut Desk, bytes: &[u8]) -> u32
-    ensures played { Played desk.old desk.new (player_reply (player_of desk.old.player) bytes.now)
-        (player_reply (player_of desk.old.player) bytes.now).text result }
-    ensures cells { desk.new.cells.items ≡ desk.old.cells.items }
+pub(crate) fn line_at(alloc: Global, open_scene: &mut OpenScene, bytes: &[u8]) -> u32
+    ensures played { Played open_scene.old open_scene.new (interpreter_reply (interpreter_of open_scene.old.interpreter) bytes.now)
+        (interpreter_reply (interpreter_of open_scene.old.interpreter) bytes.now).text result }
+    ensures cells { open_scene.new.cells.items ≡ open_scene.old.cells.items }
 {
-    let came = desk.line(alloc, bytes);
-    code_of(came, desk.answer())
+    let came = open_scene.line(alloc, bytes);
+    code_of(came, open_scene.answer())
 }
 
 /// Plays a line that is a value, with a text of its answer.
-pub(crate) fn tell_at(alloc: Global, desk: &mut Desk, line: Line) -> u32
-    ensures played { Played desk.old desk.new (says line (player_of desk.old.player)) (says line (player_of desk.old.player)).text result }
-    ensures cells { desk.new.cells.items ≡ desk.old.cells.items }
+pub(crate) fn tell_at(alloc: Global, open_scene: &mut OpenScene, line: Line) -> u32
+    ensures played { Played open_scene.old open_scene.new (says line (interpreter_of open_scene.old.interpreter)) (says line (interpreter_of open_scene.old.interpreter)).text result }
+    ensures cells { open_scene.new.cells.items ≡ open_scene.old.cells.items }
 {
-    let came = desk.tell(alloc, line);
-    code_of(came, desk.answer())
+    let came = open_scene.tell(alloc, line);
+    code_of(came, open_scene.answer())
 }
 
 /// Plays a line that is a value.
 #[inline(always)]
-pub(crate) fn say_at(desk: &mut Desk, line: Line) -> u32
-    ensures played { Played desk.old desk.new (says line (player_of desk.old.player)) [] result }
+pub(crate) fn say_at(open_scene: &mut OpenScene, line: Line) -> u32
+    ensures played { Played open_scene.old open_scene.new (says line (interpreter_of open_scene.old.interpreter)) [] result }
     ensures told { result ≢ 5 }
-    ensures cells { desk.new.cells.items ≡ desk.old.cells.items }
+    ensures cells { open_scene.new.cells.items ≡ open_scene.old.cells.items }
 {
-    let came = desk.say(line);
-    code_of(came, desk.answer())
+    let came = open_scene.say(line);
+    code_of(came, open_scene.answer())
 }
 
 /// Spawns with the components that were given for it.
-pub(crate) fn spawn_at(alloc: Global, desk: &mut Desk) -> u32
-    ensures played { Played desk.old desk.new (says (Do (Spawn desk.old.cells.items)) (player_of desk.old.player)) [] result }
+pub(crate) fn spawn_at(alloc: Global, open_scene: &mut OpenScene) -> u32
+    ensures played { Played open_scene.old open_scene.new (says (Do (Spawn open_scene.old.cells.items)) (interpreter_of open_scene.old.interpreter)) [] result }
     ensures told { result ≢ 5 }
-    ensures cells { desk.new.cells.items ≡ [] }
+    ensures cells { open_scene.new.cells.items ≡ [] }
 {
-    let cells = desk.take_cells(alloc);
-    say_at(desk, Line::Do(Command::Spawn(Components::from(cells))))
+    let cells = open_scene.take_cells(alloc);
+    say_at(
+        open_scene,
+        Line::Do(Command::Spawn(Components::from(cells))),
+    )
 }
 
 /// Gives the next spawn a component.
-pub(crate) fn give_at(desk: &mut Desk, kind: u8, value: Value) -> u32
-    ensures { GivesMore (kind, value) desk.old desk.new result }
+pub(crate) fn give_at(open_scene: &mut OpenScene, kind: u8, value: Value) -> u32
+    ensures { GivesMore (kind, value) open_scene.old open_scene.new result }
 {
-    match desk.give(kind, value) {
+    match open_scene.give(kind, value) {
         Ok(()) => DONE,
         Err(_) => NO_MEMORY,
     }
 }
 
 /// Drops the open frame.
-pub(crate) fn drop_frame_at(desk: &mut Desk) -> u32
-    ensures code { result ≡ (if frame_is_open (player_of desk.old.player) then 0 else 4) }
-    ensures dropped { player_of desk.new.player ≡ without_frame (player_of desk.old.player) }
-    ensures kept { KeepsAnswer desk.old desk.new × (desk.new.cells.items ≡ desk.old.cells.items) }
+pub(crate) fn drop_frame_at(open_scene: &mut OpenScene) -> u32
+    ensures code { result ≡ (if frame_is_open (interpreter_of open_scene.old.interpreter) then 0 else 4) }
+    ensures dropped { interpreter_of open_scene.new.interpreter ≡ without_frame (interpreter_of open_scene.old.interpreter) }
+    ensures kept { KeepsAnswer open_scene.old open_scene.new × (open_scene.new.cells.items ≡ open_scene.old.cells.items) }
 {
-    if desk.drop_frame() { DONE } else { BAD }
+    if open_scene.drop_frame() { DONE } else { BAD }
 }
 
 /// Says why the last line was bad.
-pub(crate) fn explain_at(alloc: Global, desk: &mut Desk) -> u32
-    ensures why { SaysWhy (is_some (bad_in (said_of desk.old.answer))) desk.old desk.new result }
-    ensures answer { desk.new.answer ≡ desk.old.answer }
-    ensures player { player_of desk.new.player ≡ player_of desk.old.player }
-    ensures cells { desk.new.cells.items ≡ desk.old.cells.items }
+pub(crate) fn explain_at(alloc: Global, open_scene: &mut OpenScene) -> u32
+    ensures why { SaysWhy (is_some (bad_in (said_of open_scene.old.answer))) open_scene.old open_scene.new result }
+    ensures answer { open_scene.new.answer ≡ open_scene.old.answer }
+    ensures interpreter { interpreter_of open_scene.new.interpreter ≡ interpreter_of open_scene.old.interpreter }
+    ensures cells { open_scene.new.cells.items ≡ open_scene.old.cells.items }
 {
-    match desk.explain(alloc) {
+    match open_scene.explain(alloc) {
         Ok(true) => DONE,
         Ok(false) => BAD,
         Err(_) => NO_MEMORY,
@@ -127,14 +130,14 @@ pub(crate) fn explain_at(alloc: Global, desk: &mut Desk) -> u32
 /// Reads a component.
 pub(crate) fn read_at(
     alloc: Global,
-    desk: &mut Desk,
+    open_scene: &mut OpenScene,
     entity: Entity,
     kind: u8,
     out: &mut SceneCell,
 ) -> u32
-    ensures { WasRead entity kind desk.old desk.new out.old out.new result }
+    ensures { WasRead entity kind open_scene.old open_scene.new out.old out.new result }
 {
-    match desk.read(alloc, entity, kind) {
+    match open_scene.read(alloc, entity, kind) {
         Ok(Some(reading)) => {
             *out = shown_cell(kind, reading);
             DONE

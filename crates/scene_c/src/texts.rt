@@ -3,7 +3,7 @@ ghost use Rattle.std.specs.Prelude.{◌≡◌, length};
 ghost use Rattle.scene_c.specs.Calls.{text_now};
 ghost use Rattle.scene_c.specs.Memory.{copied};
 
-use crate::handle::{Handle, into_desk};
+use crate::handle::{Handle, into_open_scene};
 use std::alloc::Global;
 use std::mem;
 
@@ -25,7 +25,7 @@ pub(crate) fn text_len(alloc: Global, scene: &mut Handle) -> usize
     ensures kept { scene.new.value ≡ scene.old.value }
 {
     let taken = mem::replace(scene, Handle::closed(alloc));
-    let Some(boxed) = into_desk(taken) else {
+    let Some(boxed) = into_open_scene(taken) else {
         return 0;
     };
     let len = boxed.text().len();
@@ -40,7 +40,7 @@ pub(crate) fn copy_text(alloc: Global, scene: &mut Handle, room: &mut [u8]) -> u
     ensures kept { scene.new.value ≡ scene.old.value }
 {
     let taken = mem::replace(scene, Handle::closed(alloc));
-    let Some(boxed) = into_desk(taken) else {
+    let Some(boxed) = into_open_scene(taken) else {
         return 0;
     };
     let len = copy_to(boxed.text(), room);

@@ -3,8 +3,8 @@ ghost use Rattle.std.specs.Prelude.{◌≡◌, IfOk, OnErr, Some, is_some, true}
 ghost use Rattle.std.specs.Option.{option_map};
 ghost use Rattle.scene_c.specs.Arguments.{both_of, component_of_cell, entity_of, kind_of, link_by, shape_number, shown_cell, shown_entity, shown_name, shown_refusal, small, target_of, text_component, text_of, value_of};
 
+use crate::reading::Reading;
 use scene_commands::Target;
-use scene_desk::Reading;
 use scene_kinds::{Entity, Refusal, Shape, Text, Value};
 use scene_pass::CellName;
 use std::alloc::{AllocError, Global};

@@ -19,6 +19,7 @@ mod resource_cell;
 mod same;
 mod sound;
 mod steps;
+mod test_laws;
 mod timely;
 
 pub use delta::Delta;
@@ -28,4 +29,5 @@ pub use redo::{redo_delta, undo_delta};
 pub use resource_cell::ResourceCell;
 pub use sound::is_sound;
 pub use steps::{make_again, make_all_again, take_all_back, take_back};
+pub use test_laws::deltas_are_tested;
 pub use timely::can_set_tick;

@@ -13,13 +13,13 @@ pub use Rattle.scene_queue.specs.Frames
 pub use Rattle.scene_undo.specs.Cursor
 pub use Rattle.scene_undo.specs.Editor
 -- filters, and what passes list
-pub use Rattle.scene_rules.specs.Filter
+pub use Rattle.scene_systems.specs.Filter
 pub use Rattle.scene_pass.specs.Pass
 -- which lists of phases are schedules, and what an advance by one does
 pub use Rattle.scene_schedule.specs.Schedule
 pub use Rattle.scene_schedule.specs.Systems
 -- the texts of a world and of an editor, and the world and the editor of a text
-pub use Rattle.scene_forms.specs.Outcome
+pub use Rattle.scene_json_forms.specs.Outcome
 pub use Rattle.scene_file.specs.Saving
 pub use Rattle.scene_file.specs.Scene
 pub use Rattle.scene_file.specs.EditorScene

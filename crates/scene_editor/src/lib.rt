@@ -24,12 +24,13 @@ pub use scene_commands::{Command, Components, Target};
 pub use scene_queue::{Queue, Returned};
 
 // Systems: rules over rows, in the phases of a schedule, by which an editor advances.
-pub use scene_rules::{Phase, RowStep, Step, Steps, SystemRule};
 pub use scene_schedule::Schedule;
+pub use scene_systems::{Phase, RowStep, Step, Steps, SystemRule};
 
 // What a scene is made of: kinds with shapes, entities, values and cells.
 pub use scene_kinds::{
-    Cell, CellRef, Entity, KindSet, KindSetMethods, Row, Schema, Shape, Text, Value,
+    Cell, CellRef, Entity, Fault, KindSet, KindSetMethods, Place, Refusal, Row, Schema, Shape,
+    Text, Value,
 };
 
 // Reading: the world, and passes over it.
@@ -37,7 +38,6 @@ pub use scene_pass::{CellName, Filter, added_since, changed_since, matching};
 pub use scene_world::World;
 
 // Why a call was refused.
-pub use scene_kinds::{Fault, Place, Refusal};
 
 // Scene texts: loading and saving, of a world, and of an editor with all that it can undo and redo.
 pub use scene_file::{

@@ -6,16 +6,16 @@ use Rattle.serde_json.specs.Data.{Data, Members}
 use Rattle.scene_model.specs.World.{World}
 use Rattle.scene_model.specs.Valid.{IsValid}
 use Rattle.scene_journal.specs.Records.{Record}
-use Rattle.scene_verdicts.proofs.Records.{first_faults_are_found}
-use Rattle.scene_parts.specs.Parts.{Parts, parts_of}
-use Rattle.scene_parts.proofs.WorldRules.{none_broken, world_is}
-use Rattle.scene_parts.proofs.OwnParts.{own_parts}
-use Rattle.scene_forms.specs.Reading.{◌>>=◌, key_of}
-use Rattle.scene_forms.specs.Text.{members_of}
-use Rattle.scene_forms.proofs.ListsBack.{after}
-use Rattle.scene_record_text.specs.Text.{records_text}
-use Rattle.scene_record_text.specs.Walk.{records_at}
-use Rattle.scene_record_text.proofs.RecordsBack.{records_back}
+use Rattle.scene_journal.proofs.FoundFaults.{first_faults_are_found}
+use Rattle.scene_validate.specs.Parts.{Parts, parts_of}
+use Rattle.scene_validate.proofs.WorldRules.{none_broken, world_is}
+use Rattle.scene_validate.proofs.OwnParts.{own_parts}
+use Rattle.scene_json_forms.specs.Reading.{◌>>=◌, key_of}
+use Rattle.scene_json_forms.specs.Text.{members_of}
+use Rattle.scene_json_forms.proofs.ListsBack.{after}
+use Rattle.scene_file_records.specs.Text.{records_text}
+use Rattle.scene_file_records.specs.Walk.{records_at}
+use Rattle.scene_file_records.proofs.RecordsBack.{records_back}
 use Rattle.scene_undo.specs.Editor.{new_editor}
 use Rattle.scene_file.specs.Text.{first_text, last_text, world_text}
 use Rattle.scene_file.specs.EditorText.{editor_parts_text, editor_text}

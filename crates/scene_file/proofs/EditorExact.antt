@@ -7,15 +7,15 @@ use Rattle.serde_json.specs.Find.{get_member}
 use Rattle.serde_json.specs.Read.{read}
 use Rattle.scene_model.specs.World.{World}
 use Rattle.scene_journal.specs.Records.{Record}
-use Rattle.scene_verdicts.specs.Faults.{first_fault}
+use Rattle.scene_journal.specs.FirstFaults.{first_fault}
 use Rattle.scene_undo.specs.Editor.{EditorState}
-use Rattle.scene_parts.specs.Parts.{Parts, parts_of, world_of}
-use Rattle.scene_parts.specs.Rules.{first_broken}
-use Rattle.scene_forms.specs.declared.fault.FileFault.{FileFault}
-use Rattle.scene_forms.specs.declared.fault.FileFault.TheVariants.{BadRecord, BadVersion}
-use Rattle.scene_forms.specs.Reading.{◌>>=◌, key_of, object_at}
-use Rattle.scene_record_text.specs.Text.{records_text}
-use Rattle.scene_record_text.specs.Walk.{records_at}
+use Rattle.scene_validate.specs.Parts.{Parts, parts_of, world_of}
+use Rattle.scene_validate.specs.Rules.{first_broken}
+use Rattle.scene_json_forms.specs.declared.fault.FileFault.{FileFault}
+use Rattle.scene_json_forms.specs.declared.fault.FileFault.TheVariants.{BadRecord, BadVersion}
+use Rattle.scene_json_forms.specs.Reading.{◌>>=◌, key_of, object_at}
+use Rattle.scene_file_records.specs.Text.{records_text}
+use Rattle.scene_file_records.specs.Walk.{records_at}
 use Rattle.scene_file.specs.EditorLaws.{IsTextOf, IsWorldText, IsEditorText}
 use Rattle.scene_file.specs.EditorScene.{editor_in, editor_of, editor_saved_as, if_fit, loaded_editor, with_records}
 use Rattle.scene_file.specs.EditorText.{editor_parts_text}
@@ -23,10 +23,10 @@ use Rattle.scene_file.specs.EditorWalk.{Saved, editor_keys, first_saved, second_
 use Rattle.scene_file.specs.Scene.{if_unbroken, json_in}
 use Rattle.scene_file.specs.Text.{first_text, last_text, parts_text}
 use Rattle.scene_file.specs.Walk.{head_of, tail_of, first_parts, version_of}
-use Rattle.scene_forms.proofs.GoodSteps.{ok_after, ok_is}
-use Rattle.scene_forms.proofs.ListsExact.{key_exact, object_was, object_is}
-use Rattle.scene_forms.proofs.ReadValues.{IsRead, value_read}
-use Rattle.scene_record_text.proofs.RecordsExact.{records_exact}
+use Rattle.scene_json_forms.proofs.GoodSteps.{ok_after, ok_is}
+use Rattle.scene_json_forms.proofs.ListsExact.{key_exact, object_was, object_is}
+use Rattle.scene_json_forms.proofs.ReadValues.{IsRead, value_read}
+use Rattle.scene_file_records.proofs.RecordsExact.{records_exact}
 use Rattle.scene_file.proofs.OnlyTexts.{parts_kept, unbroken_was, value_was}
 use Rattle.scene_file.proofs.SceneExact.{Rise, first_said, head_was, parts_stand, tail_was, version_found}
 

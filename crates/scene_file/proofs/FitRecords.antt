@@ -16,9 +16,9 @@ use Rattle.scene_deltas.specs.Deltas.{fwd, back, fwd_all, back_all, AllFitOn}
 use Rattle.scene_deltas.proofs.Deltas.{deltas_come_back}
 use Rattle.scene_journal.specs.Records.{Record, raised, redone, undone, RecordFitsOn, RecordFitsBack}
 use Rattle.scene_journal.proofs.Records.{records_come_back, can_raise}
-use Rattle.scene_verdicts.specs.Faults.{PastFits, FutureFits}
-use Rattle.scene_parts.proofs.Tests.{all_with, all_append}
-use Rattle.scene_record_text.specs.Writable.{IsWritable, IsWritableDelta}
+use Rattle.scene_journal.specs.FirstFaults.{PastFits, FutureFits}
+use Rattle.scene_validate.proofs.Tests.{all_with, all_append}
+use Rattle.scene_file_records.specs.Writable.{IsWritable, IsWritableDelta}
 use Rattle.scene_file.proofs.FitDeltas.{IsTold, fitting_told}
 
 -- a record can be written, its tick too

@@ -17,11 +17,11 @@ use Rattle.scene_kinds.specs.Map.{Map}
 use Rattle.scene_kinds.proofs.Choices.{test_parts, less}
 use Rattle.scene_kinds.proofs.Maps.{ties_itself}
 use Rattle.scene_links.specs.Forest.{Forest, children_of, parents}
-use Rattle.scene_parts.specs.Parts.{keys, lists_of}
+use Rattle.scene_validate.specs.Parts.{keys, lists_of}
 use Rattle.scene_resources.specs.Resources.{NamedCells, cell_of, names_of}
 use Rattle.scene_resources.proofs.ResourceLaws.{names_found}
 use Rattle.scene_table.specs.Tables.{Tables, rows_at, masks_of}
-use Rattle.scene_forms.specs.Text.{array_of, list_text}
+use Rattle.scene_json_forms.specs.Text.{array_of, list_text}
 use Rattle.scene_file.specs.Text.{children_text, table_text}
 use Rattle.scene_file.specs.Printing.{table_json, named, named_cells}
 

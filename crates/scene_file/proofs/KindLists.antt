@@ -3,9 +3,9 @@ use Rattle.std.proofs.Common.{◌≡◌, ℕ, List, [], ◌∷◌, ◌++◌, app
 use Rattle.std.specs.Prelude.{Bool, true, false, codes, decimal}
 use Rattle.serde_json.specs.Written.{compact_text, comma_if}
 use Rattle.scene_kinds.specs.KindSet.{kinds_in, kinds_from}
-use Rattle.scene_forms.specs.Text.{count_text, list_text}
+use Rattle.scene_json_forms.specs.Text.{count_text, list_text}
 use Rattle.scene_file.specs.Text.{kinds_of}
-use Rattle.scene_forms.specs.Printing.{rest_text}
+use Rattle.scene_json_forms.specs.Printing.{rest_text}
 use Rattle.scene_file.specs.Printing.{kinds_json}
 
 -- the next kind of those that are left is written, after its comma

@@ -9,10 +9,10 @@ use Rattle.scene_kinds.specs.declared.cell.Cell.{Cell}
 use Rattle.scene_kinds.specs.declared.cells.Row.{Row}
 use Rattle.scene_kinds.specs.declared.entity.Entity.{Entity}
 use Rattle.scene_model.specs.World.{World}
-use Rattle.scene_parts.specs.Parts.{lists_of}
+use Rattle.scene_validate.specs.Parts.{lists_of}
 use Rattle.scene_journal.specs.Records.{Record}
-use Rattle.scene_forms.specs.Text.{list_text, count_text, entity_json, cell_text, resource_cell_text}
-use Rattle.scene_record_text.specs.Text.{records_text}
+use Rattle.scene_json_forms.specs.Text.{list_text, count_text, entity_json, cell_text, resource_cell_text}
+use Rattle.scene_file_records.specs.Text.{records_text}
 use Rattle.scene_file.specs.Text.{row_text, kind_text, children_text, resource_text, table_text, world_text}
 use Rattle.scene_file.specs.EditorText.{editor_text}
 use Rattle.scene_file.specs.Printing.{kinds_json, table_json, first_members, last_members}

@@ -9,19 +9,19 @@ use Rattle.scene_kinds.specs.Entity.{entity_cmp, entity_cmp_total}
 use Rattle.scene_kinds.proofs.Choices.{less}
 use Rattle.scene_resources.specs.Resources.{name_cmp}
 use Rattle.scene_model.specs.World.{World}
-use Rattle.scene_parts.specs.Parts.{Parts, lists_of, tables_of, forest_of, resources_of, parts_of, world_of}
-use Rattle.scene_parts.specs.Rules.{first_broken}
-use Rattle.scene_parts.proofs.WorldRules.{parts_are}
-use Rattle.scene_forms.specs.declared.fault.FileFault.{FileFault}
-use Rattle.scene_forms.specs.declared.fault.FileFault.TheVariants.{NotJson, BadWorld}
+use Rattle.scene_validate.specs.Parts.{Parts, lists_of, tables_of, forest_of, resources_of, parts_of, world_of}
+use Rattle.scene_validate.specs.Rules.{first_broken}
+use Rattle.scene_validate.proofs.WorldRules.{parts_are}
+use Rattle.scene_json_forms.specs.declared.fault.FileFault.{FileFault}
+use Rattle.scene_json_forms.specs.declared.fault.FileFault.TheVariants.{NotJson, BadWorld}
 use Rattle.scene_file.specs.Scene.{if_json, if_unbroken, json_in, loaded, world_in}
 use Rattle.scene_file.specs.Text.{parts_text, world_text}
 use Rattle.scene_file.specs.Walk.{parent_follows, name_follows, table_follows, parts_in}
-use Rattle.scene_forms.proofs.ReadValues.{value_read}
+use Rattle.scene_json_forms.proofs.ReadValues.{value_read}
 use Rattle.scene_file.proofs.RisingMaps.{lists_kept, resources_kept, ascend_from}
 use Rattle.scene_file.proofs.RowsExact.{lower_is}
 use Rattle.scene_file.proofs.SceneExact.{Rise, parts_said_by}
-use Rattle.scene_forms.proofs.GoodSteps.{ok_after, ok_is}
+use Rattle.scene_json_forms.proofs.GoodSteps.{ok_after, ok_is}
 
 -- ---- parts that were read are those of their world
 

@@ -1,7 +1,7 @@
 -- Lists of a length that isn't wanted.
 use Rattle.std.proofs.Common.{◌≡◌, ◌≢◌, ℕ, List, [], ◌∷◌, length, Err, refl}
 use Rattle.serde_json.specs.Data.{Data}
-use Rattle.scene_forms.specs.declared.fault.FileFault.TheVariants.{BadField}
+use Rattle.scene_json_forms.specs.declared.fault.FileFault.TheVariants.{BadField}
 use Rattle.scene_file.specs.Walk.{kind_parts}
 
 pub no_kind : (path : List ℕ) (vs : List Data) → length vs ≢ 2 → kind_parts path vs ≡ Err (BadField path)

@@ -10,12 +10,12 @@ use Rattle.scene_kinds.specs.Schema.{Kinds, fits_kind}
 use Rattle.scene_deltas.specs.declared.delta.Delta.{Delta}
 use Rattle.scene_deltas.specs.declared.delta.Delta.TheVariants.{Spawned, Despawned, Shifted, CellSet, Linked, ResourceSet}
 use Rattle.scene_journal.specs.Records.{Record}
-use Rattle.scene_parts.specs.Parts.{Parts}
-use Rattle.scene_parts.proofs.Tests.{and_is, all_with}
-use Rattle.scene_forms.specs.Text.{list_text, count_text, entity_json, value_text}
-use Rattle.scene_forms.proofs.FitKinds.{fits_is}
-use Rattle.scene_record_text.specs.Text.{kcell_text, kcells_text, link_text, maybe_resource_cell_text, delta_text, record_text, records_text}
-use Rattle.scene_record_text.specs.Writable.{AreCells, IsLink, IsResourceCell}
+use Rattle.scene_validate.specs.Parts.{Parts}
+use Rattle.scene_validate.proofs.Tests.{and_is, all_with}
+use Rattle.scene_json_forms.specs.Text.{list_text, count_text, entity_json, value_text}
+use Rattle.scene_json_forms.proofs.FitKinds.{fits_is}
+use Rattle.scene_file_records.specs.Text.{kcell_text, kcells_text, link_text, maybe_resource_cell_text, delta_text, record_text, records_text}
+use Rattle.scene_file_records.specs.Writable.{AreCells, IsLink, IsResourceCell}
 use Rattle.scene_file.specs.Text.{first_text, last_text}
 use Rattle.scene_file.specs.EditorText.{editor_parts_text}
 use Rattle.scene_file.proofs.FitDeltas.{HasTicks, IsTold}

@@ -20,8 +20,8 @@ use Rattle.scene_kinds.specs.Schema.{is_good_name, is_name_byte}
 use Rattle.scene_kinds.specs.Shape.{shape_name, shape_of_value}
 use Rattle.scene_kinds.proofs.Numbers.{entity_is_text}
 use Rattle.scene_model.specs.Valid.{is_timely}
-use Rattle.scene_parts.proofs.Tests.{and_is, and_of, all_is, all_with}
-use Rattle.scene_forms.specs.Text.{items_of, array_of, list_text, members_of, object_of, count_text, int_text, entity_json, value_text, shape_text, cell_text, resource_cell_text}
+use Rattle.scene_validate.proofs.Tests.{and_is, and_of, all_is, all_with}
+use Rattle.scene_json_forms.specs.Text.{items_of, array_of, list_text, members_of, object_of, count_text, int_text, entity_json, value_text, shape_text, cell_text, resource_cell_text}
 use Rattle.scene_file.proofs.PlainData.{IsPlain, ArePlain, HasPlain, rises}
 
 -- a plain value that nests no deeper than a number

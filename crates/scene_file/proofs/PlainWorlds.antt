@@ -17,16 +17,16 @@ use Rattle.scene_alloc.specs.Slots.{highest}
 use Rattle.scene_resources.specs.Resources.{name_cmp}
 use Rattle.scene_model.specs.World.{World}
 use Rattle.scene_model.specs.Valid.{IsValid, IsRowOf, ResourcesAreSound, is_timely}
-use Rattle.scene_parts.specs.Parts.{Parts, has_some, keys, parts_of}
-use Rattle.scene_parts.specs.Rules.{rows_in, has_row, is_current, is_row_of, is_list_of, are_distinct}
-use Rattle.scene_parts.proofs.Tests.{and_is, all_is, all_with, from_places}
-use Rattle.scene_parts.proofs.Listed.{EachIn, flat_is}
-use Rattle.scene_parts.proofs.RowRules.{tables_fit}
-use Rattle.scene_parts.proofs.ResourceRules.{resources_in_range}
-use Rattle.scene_parts.proofs.WorldRules.{unbroken_is, none_broken}
-use Rattle.scene_parts.proofs.OwnParts.{own_parts}
-use Rattle.scene_forms.specs.Text.{list_text, object_of, count_text, entity_json, shape_text, cell_text, resource_cell_text}
-use Rattle.scene_forms.proofs.FitKinds.{fits_is}
+use Rattle.scene_validate.specs.Parts.{Parts, has_some, keys, parts_of}
+use Rattle.scene_validate.specs.Rules.{rows_in, has_row, is_current, is_row_of, is_list_of, are_distinct}
+use Rattle.scene_validate.proofs.Tests.{and_is, all_is, all_with, from_places}
+use Rattle.scene_validate.proofs.Listed.{EachIn, flat_is}
+use Rattle.scene_validate.proofs.RowRules.{tables_fit}
+use Rattle.scene_validate.proofs.ResourceRules.{resources_in_range}
+use Rattle.scene_validate.proofs.WorldRules.{unbroken_is, none_broken}
+use Rattle.scene_validate.proofs.OwnParts.{own_parts}
+use Rattle.scene_json_forms.specs.Text.{list_text, object_of, count_text, entity_json, shape_text, cell_text, resource_cell_text}
+use Rattle.scene_json_forms.proofs.FitKinds.{fits_is}
 use Rattle.scene_file.specs.Text.{row_text, kinds_of, kind_text, table_text, children_text, resource_text, first_text, last_text, parts_text}
 use Rattle.scene_file.proofs.PlainValues.{IsFine, IsHeld, deeper, array_fine, list_fine, object_fine, count_fine, string_fine, entity_fine, name_is_utf8, shape_fine, timely_held, cell_fine, resource_cell_fine}
 use Rattle.scene_file.proofs.WorldBack.{current_entity, row_fact, lists_pass}

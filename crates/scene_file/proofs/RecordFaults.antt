@@ -5,18 +5,18 @@ use Rattle.scene_kinds.specs.declared.fault.Fault.TheVariants as fault
 use Rattle.scene_kinds.specs.declared.refusal.Refusal.{Refusal}
 use Rattle.scene_model.specs.World.{World}
 use Rattle.scene_journal.specs.Records.{Record}
-use Rattle.scene_verdicts.specs.Faults.{IsFaultOf, PastFits, FutureFits}
-use Rattle.scene_verdicts.proofs.Records.{first_faults_are_found}
+use Rattle.scene_journal.specs.FirstFaults.{IsFaultOf, PastFits, FutureFits}
+use Rattle.scene_journal.proofs.FoundFaults.{first_faults_are_found}
 use Rattle.scene_undo.specs.Editor.{EditorState}
 use Rattle.scene_undo.specs.Parts.{NamesFrame}
-use Rattle.scene_forms.specs.declared.fault.FileFault.{FileFault}
-use Rattle.scene_forms.specs.declared.fault.FileFault.TheVariants as file
-use Rattle.scene_forms.specs.Outcome.{IsTextFault}
-use Rattle.scene_forms.specs.Reading.{◌>>=◌}
+use Rattle.scene_json_forms.specs.declared.fault.FileFault.{FileFault}
+use Rattle.scene_json_forms.specs.declared.fault.FileFault.TheVariants as file
+use Rattle.scene_json_forms.specs.Outcome.{IsTextFault}
+use Rattle.scene_json_forms.specs.Reading.{◌>>=◌}
 use Rattle.scene_file.specs.EditorScene.{editor_of, editor_saved_as, if_fit, loaded_editor, said_in, with_records}
 use Rattle.scene_file.specs.EditorWalk.{Saved, saved_in}
 use Rattle.scene_file.specs.Scene.{json_in}
-use Rattle.scene_forms.proofs.Walking.{fault_stays}
+use Rattle.scene_json_forms.proofs.Walking.{fault_stays}
 
 -- ---- records
 

@@ -9,9 +9,9 @@ use Rattle.std.specs.FinMap.Entries.{by_order, put, is_sorted, is_sorted-put}
 use Rattle.scene_kinds.specs.declared.cell.Cell.{Cell}
 use Rattle.scene_kinds.specs.Lists.{whole}
 use Rattle.scene_resources.specs.Resources.{name_cmp}
-use Rattle.scene_parts.specs.Parts.{has_some, keys, map_of, lists_of, resources_of}
-use Rattle.scene_forms.proofs.Ascending.{Ascend, from_any}
-use Rattle.scene_forms.proofs.ListsBack.{Follow}
+use Rattle.scene_validate.specs.Parts.{has_some, keys, map_of, lists_of, resources_of}
+use Rattle.scene_json_forms.proofs.Ascending.{Ascend, from_any}
+use Rattle.scene_json_forms.proofs.ListsBack.{Follow}
 
 module _ {K X : Type 0} (R : K → K → Ordering) where
   -- an entry whose key is below all others is put in front

@@ -19,16 +19,16 @@ use Rattle.scene_kinds.proofs.Choices.{test_parts}
 use Rattle.scene_kinds.proofs.KindSets.{has_kind-mask_of}
 use Rattle.scene_kinds.proofs.Maps.{equal_keys, ties_itself}
 use Rattle.scene_model.specs.Valid.{IsRowOf}
-use Rattle.scene_parts.specs.Parts.{keys}
-use Rattle.scene_parts.proofs.Tests.{and_is, all_with}
-use Rattle.scene_forms.specs.Reading.{◌>>=◌, if_good, elements, place_in, under}
-use Rattle.scene_forms.specs.Text.{items_of, entity_json, cell_text}
+use Rattle.scene_validate.specs.Parts.{keys}
+use Rattle.scene_validate.proofs.Tests.{and_is, all_with}
+use Rattle.scene_json_forms.specs.Reading.{◌>>=◌, if_good, elements, place_in, under}
+use Rattle.scene_json_forms.specs.Text.{items_of, entity_json, cell_text}
 use Rattle.scene_file.specs.Text.{row_text, kinds_of}
-use Rattle.scene_forms.specs.Walk.{entity_at, cell_at}
+use Rattle.scene_json_forms.specs.Walk.{entity_at, cell_at}
 use Rattle.scene_file.specs.Walk.{cells_from, shapes_of, set_of, row_at}
-use Rattle.scene_forms.proofs.FitKinds.{fits_is, all_above}
-use Rattle.scene_forms.proofs.ListsBack.{ReadsBack, after, good, elements_written, Follow}
-use Rattle.scene_forms.proofs.ValuesBack.{entity_back, cell_back}
+use Rattle.scene_json_forms.proofs.FitKinds.{fits_is, all_above}
+use Rattle.scene_json_forms.proofs.ListsBack.{ReadsBack, after, good, elements_written, Follow}
+use Rattle.scene_json_forms.proofs.ValuesBack.{entity_back, cell_back}
 
 abbrev pub Cells : Type 0
 Cells = List (ℕ × Cell)

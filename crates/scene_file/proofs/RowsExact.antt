@@ -12,20 +12,20 @@ use Rattle.scene_kinds.specs.declared.cells.Row.{Row}
 use Rattle.scene_kinds.specs.declared.shape.Shape.{Shape}
 use Rattle.scene_kinds.specs.declared.value.Value.TheVariants as value
 use Rattle.scene_kinds.specs.Schema.{Kinds, shape_of}
-use Rattle.scene_parts.specs.Parts.{keys}
-use Rattle.scene_forms.specs.Reading.{◌>>=◌, if_good, below, list_at, list_of, may_follow, rising_of, place_in, under, object_at, key_of}
+use Rattle.scene_validate.specs.Parts.{keys}
+use Rattle.scene_json_forms.specs.Reading.{◌>>=◌, if_good, below, list_at, list_of, may_follow, rising_of, place_in, under, object_at, key_of}
 use Rattle.scene_file.specs.TableKinds.{AreRising}
-use Rattle.scene_forms.specs.Text.{array_of, list_text, count_text, entity_json, cell_text}
+use Rattle.scene_json_forms.specs.Text.{array_of, list_text, count_text, entity_json, cell_text}
 use Rattle.scene_file.specs.Text.{row_text, kinds_of, table_text}
-use Rattle.scene_forms.specs.Walk.{entity_at, cell_at}
+use Rattle.scene_json_forms.specs.Walk.{entity_at, cell_at}
 use Rattle.scene_file.specs.Walk.{cells_from, cells_at, row_at, shapes_of, set_of, table_at}
-use Rattle.scene_forms.proofs.Ascending.{IsAbove, Ascend}
+use Rattle.scene_json_forms.proofs.Ascending.{IsAbove, Ascend}
 use Rattle.scene_file.proofs.RisingMaps.{sorted_is}
-use Rattle.scene_forms.proofs.ReadValues.{IsRead}
-use Rattle.scene_forms.proofs.ListsExact.{IsExact, list_was, list_exact, rising_key, key_was, key_exact, object_was, object_is}
-use Rattle.scene_forms.proofs.ValuesExact.{below_exact, entity_exact, cell_exact}
+use Rattle.scene_json_forms.proofs.ReadValues.{IsRead}
+use Rattle.scene_json_forms.proofs.ListsExact.{IsExact, list_was, list_exact, rising_key, key_was, key_exact, object_was, object_is}
+use Rattle.scene_json_forms.proofs.ValuesExact.{below_exact, entity_exact, cell_exact}
 use Rattle.scene_file.proofs.RowsBack.{kinds_of_cells, set_of_cells}
-use Rattle.scene_forms.proofs.GoodSteps.{ok_after, good_was, ok_is, no_field}
+use Rattle.scene_json_forms.proofs.GoodSteps.{ok_after, good_was, ok_is, no_field}
 use Rattle.scene_file.proofs.TableKinds.{kinds_in, widened}
 
 -- ---- cells

@@ -8,15 +8,15 @@ use Rattle.serde_json.specs.Read.{read}
 use Rattle.serde_json.specs.Written.{compact_text}
 use Rattle.scene_model.specs.World.{World}
 use Rattle.scene_model.specs.Valid.{IsValid}
-use Rattle.scene_parts.specs.Parts.{parts_of, world_of}
-use Rattle.scene_parts.proofs.WorldRules.{world_is}
-use Rattle.scene_parts.proofs.OwnParts.{own_parts}
+use Rattle.scene_validate.specs.Parts.{parts_of, world_of}
+use Rattle.scene_validate.proofs.WorldRules.{world_is}
+use Rattle.scene_validate.proofs.OwnParts.{own_parts}
 use Rattle.scene_journal.specs.Records.{Record}
 use Rattle.scene_streams.specs.Limits.{most_bytes}
-use Rattle.scene_forms.specs.declared.fault.FileFault.{FileFault}
-use Rattle.scene_forms.specs.declared.fault.FileFault.TheVariants.{NotJson, TooLong}
-use Rattle.scene_forms.specs.Reading.{◌>>=◌}
-use Rattle.scene_forms.proofs.GoodSteps.{ok_is}
+use Rattle.scene_json_forms.specs.declared.fault.FileFault.{FileFault}
+use Rattle.scene_json_forms.specs.declared.fault.FileFault.TheVariants.{NotJson, TooLong}
+use Rattle.scene_json_forms.specs.Reading.{◌>>=◌}
+use Rattle.scene_json_forms.proofs.GoodSteps.{ok_is}
 use Rattle.scene_undo.specs.Editor.{EditorState, new_editor}
 use Rattle.scene_file.specs.Text.{saved, world_text}
 use Rattle.scene_file.specs.EditorText.{editor_text, editor_saved}

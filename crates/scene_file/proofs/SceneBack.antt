@@ -11,16 +11,16 @@ use Rattle.scene_kinds.specs.Ranges.{is_entity, is_in_range}
 use Rattle.scene_kinds.specs.Schema.{Kinds, IsSchema, is_good_name}
 use Rattle.scene_alloc.specs.Slots.{most_slots}
 use Rattle.scene_model.specs.Valid.{IsRowOf}
-use Rattle.scene_parts.specs.Parts.{Parts, has_some, keys}
-use Rattle.scene_parts.proofs.Tests.{all_with}
-use Rattle.scene_forms.specs.declared.fault.FileFault.{FileFault}
-use Rattle.scene_forms.specs.Reading.{◌>>=◌, below, field, key_of, list_of, rising_of, under}
-use Rattle.scene_forms.specs.Text.{members_of, list_text, count_text, entity_json, resource_cell_text}
+use Rattle.scene_validate.specs.Parts.{Parts, has_some, keys}
+use Rattle.scene_validate.proofs.Tests.{all_with}
+use Rattle.scene_json_forms.specs.declared.fault.FileFault.{FileFault}
+use Rattle.scene_json_forms.specs.Reading.{◌>>=◌, below, field, key_of, list_of, rising_of, under}
+use Rattle.scene_json_forms.specs.Text.{members_of, list_text, count_text, entity_json, resource_cell_text}
 use Rattle.scene_file.specs.Text.{kind_text, row_text, table_text, children_text, resource_text, first_text, last_text, parts_text, kinds_of}
-use Rattle.scene_forms.specs.Walk.{u32_at, tick_at, entity_at, name_at, resource_cell_at}
+use Rattle.scene_json_forms.specs.Walk.{u32_at, tick_at, entity_at, name_at, resource_cell_at}
 use Rattle.scene_file.specs.Walk.{kinds_at, limit_at, children_at, resource_at, row_at, shapes_of, set_of, table_at, parent_follows, name_follows, table_follows, Head, head_of, tail_of, parts_in}
-use Rattle.scene_forms.proofs.ListsBack.{ReadsBack, Follow, after, good, below_back, list_back, rising_back}
-use Rattle.scene_forms.proofs.ValuesBack.{entity_back, resource_cell_back}
+use Rattle.scene_json_forms.proofs.ListsBack.{ReadsBack, Follow, after, good, below_back, list_back, rising_back}
+use Rattle.scene_json_forms.proofs.ValuesBack.{entity_back, resource_cell_back}
 use Rattle.scene_file.proofs.SchemaBack.{kinds_back}
 use Rattle.scene_file.proofs.SceneSteps.{head_said, tail_said, parts_said}
 use Rattle.scene_file.proofs.RowsBack.{row_back, kinds_of_row, kinds_rise, low_kinds, set_of_row}

@@ -7,13 +7,13 @@ use Rattle.scene_kinds.specs.declared.cell.Cell.{Cell}
 use Rattle.scene_kinds.specs.declared.cells.Row.{Row}
 use Rattle.scene_kinds.specs.declared.shape.Shape.{Shape}
 use Rattle.scene_kinds.specs.Schema.{Kinds}
-use Rattle.scene_parts.specs.Parts.{Parts}
-use Rattle.scene_forms.specs.declared.fault.FileFault.{FileFault}
-use Rattle.scene_forms.specs.Outcome.{IsTextFault}
-use Rattle.scene_forms.specs.Reading.{◌>>=◌, below, list_of, rising_of, object_at, key_of}
-use Rattle.scene_forms.specs.Walk.{u32_at, tick_at}
+use Rattle.scene_validate.specs.Parts.{Parts}
+use Rattle.scene_json_forms.specs.declared.fault.FileFault.{FileFault}
+use Rattle.scene_json_forms.specs.Outcome.{IsTextFault}
+use Rattle.scene_json_forms.specs.Reading.{◌>>=◌, below, list_of, rising_of, object_at, key_of}
+use Rattle.scene_json_forms.specs.Walk.{u32_at, tick_at}
 use Rattle.scene_file.specs.Walk.{Head, head_of, tail_of, kinds_at, limit_at, children_at, resource_at, table_at, row_at, shapes_of, set_of, parent_follows, name_follows, table_follows, parts_of}
-use Rattle.scene_forms.proofs.Walking.{fault_stays}
+use Rattle.scene_json_forms.proofs.Walking.{fault_stays}
 
 -- a step that was good
 on : {A B : Type 0} (x : Result A FileFault) (a : A) (next : A → Result B FileFault) → x ≡ Ok a → (x >>= next) ≡ next a

@@ -10,13 +10,13 @@ use Rattle.scene_kinds.specs.declared.fault.Fault.TheVariants.{BadName, KindTake
 use Rattle.scene_kinds.specs.Answers.{refuse}
 use Rattle.scene_kinds.specs.Schema.{Kinds, IsSchema, is_good_name, number_of, with_kind}
 use Rattle.scene_kinds.proofs.Positions.{found, found_in_more}
-use Rattle.scene_forms.specs.Reading.{◌>>=◌, list_at, place_in}
-use Rattle.scene_forms.specs.Text.{list_text, shape_text}
+use Rattle.scene_json_forms.specs.Reading.{◌>>=◌, list_at, place_in}
+use Rattle.scene_json_forms.specs.Text.{list_text, shape_text}
 use Rattle.scene_file.specs.Text.{kind_text}
-use Rattle.scene_forms.specs.Walk.{shape_at}
+use Rattle.scene_json_forms.specs.Walk.{shape_at}
 use Rattle.scene_file.specs.Walk.{kind_parts, added, kinds_from, kinds_at}
-use Rattle.scene_forms.proofs.ListsBack.{ReadsBack, after, elements_written}
-use Rattle.scene_forms.proofs.ValuesBack.{shape_back}
+use Rattle.scene_json_forms.proofs.ListsBack.{ReadsBack, after, elements_written}
+use Rattle.scene_json_forms.proofs.ValuesBack.{shape_back}
 
 -- what stands behind a list stands at its length
 at_length : {X : Type 0} (xs ys : List X) (x : X) → slice_get (xs ++ x ∷ ys) (length xs) ≡ Some x

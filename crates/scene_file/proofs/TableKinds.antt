@@ -11,13 +11,13 @@ use Rattle.scene_kinds.specs.Answers.{refusal_of}
 use Rattle.scene_kinds.specs.declared.fault.Fault.TheVariants.{NoMemory}
 use Rattle.scene_kinds.specs.declared.refusal.Refusal.{Refusal}
 use Rattle.scene_kinds.specs.Schema.{Kinds}
-use Rattle.scene_forms.specs.declared.fault.FileFault.{FileFault}
-use Rattle.scene_forms.specs.declared.fault.FileFault.TheVariants as file
+use Rattle.scene_json_forms.specs.declared.fault.FileFault.{FileFault}
+use Rattle.scene_json_forms.specs.declared.fault.FileFault.TheVariants as file
 use Rattle.scene_file.specs.TableKinds.{AreRising}
-use Rattle.scene_forms.specs.Outcome.{IsTextFault, Means}
-use Rattle.scene_forms.specs.Reading.{◌>>=◌, field, if_good, below, list_at, may_follow, rising_at, rising_of, key_of, place_in, under}
+use Rattle.scene_json_forms.specs.Outcome.{IsTextFault, Means}
+use Rattle.scene_json_forms.specs.Reading.{◌>>=◌, field, if_good, below, list_at, may_follow, rising_at, rising_of, key_of, place_in, under}
 use Rattle.scene_file.specs.Walk.{added, set_of}
-use Rattle.scene_forms.proofs.GoodSteps.{ok_after, ok_is, good_was}
+use Rattle.scene_json_forms.proofs.GoodSteps.{ok_after, ok_is, good_was}
 
 -- ---- the kinds of a table rise
 

@@ -9,12 +9,12 @@ use Rattle.scene_kinds.specs.Answers.{refusal_of}
 use Rattle.scene_kinds.specs.declared.fault.Fault.TheVariants as fault
 use Rattle.scene_kinds.specs.declared.refusal.Refusal.{Refusal}
 use Rattle.scene_model.specs.World.{World}
-use Rattle.scene_parts.specs.Parts.{Parts, world_of}
-use Rattle.scene_parts.specs.Rules.{first_broken}
+use Rattle.scene_validate.specs.Parts.{Parts, world_of}
+use Rattle.scene_validate.specs.Rules.{first_broken}
 use Rattle.scene_world.specs.Built.{unless_broken, made}
-use Rattle.scene_forms.specs.declared.fault.FileFault.{FileFault}
-use Rattle.scene_forms.specs.declared.fault.FileFault.TheVariants as file
-use Rattle.scene_forms.specs.Outcome.{IsFault, IsTextFault}
+use Rattle.scene_json_forms.specs.declared.fault.FileFault.{FileFault}
+use Rattle.scene_json_forms.specs.declared.fault.FileFault.TheVariants as file
+use Rattle.scene_json_forms.specs.Outcome.{IsFault, IsTextFault}
 use Rattle.scene_file.specs.Scene.{if_json, if_unbroken, json_in}
 
 pub json_read : (text : List ℕ) (d : Data) → IsUtf8 text → read text ≡ Some d → json_in text ≡ Ok d

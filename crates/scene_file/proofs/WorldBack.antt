@@ -21,22 +21,22 @@ use Rattle.scene_links.proofs.Held.{same_is}
 use Rattle.scene_resources.specs.Resources.{name_cmp}
 use Rattle.scene_model.specs.World.{World}
 use Rattle.scene_model.specs.Valid.{IsValid, IsRowOf, ResourcesAreSound}
-use Rattle.scene_parts.specs.Parts.{Parts, has_some, keys, parts_of, forest_of}
-use Rattle.scene_parts.specs.Rules.{flat, rows_in, has_row, is_current, is_row_of, is_list_of, are_distinct, walks_end, first_broken}
-use Rattle.scene_parts.proofs.Tests.{and_is, and_of, all_is, all_with, any_is, at_place, from_places}
-use Rattle.scene_parts.proofs.Listed.{EachIn, flat_is}
-use Rattle.scene_parts.proofs.RowRules.{generation_is, tables_fit, tables_some, passed}
-use Rattle.scene_parts.proofs.ResourceRules.{resources_in_range}
-use Rattle.scene_parts.proofs.WorldRules.{Unbroken, unbroken_is, none_broken, world_is}
-use Rattle.scene_parts.proofs.OwnParts.{own_parts}
-use Rattle.scene_forms.specs.Reading.{◌>>=◌}
+use Rattle.scene_validate.specs.Parts.{Parts, has_some, keys, parts_of, forest_of}
+use Rattle.scene_validate.specs.Rules.{flat, rows_in, has_row, is_current, is_row_of, is_list_of, are_distinct, walks_end, first_broken}
+use Rattle.scene_validate.proofs.Tests.{and_is, and_of, all_is, all_with, any_is, at_place, from_places}
+use Rattle.scene_validate.proofs.Listed.{EachIn, flat_is}
+use Rattle.scene_validate.proofs.RowRules.{generation_is, tables_fit, tables_some, passed}
+use Rattle.scene_validate.proofs.ResourceRules.{resources_in_range}
+use Rattle.scene_validate.proofs.WorldRules.{Unbroken, unbroken_is, none_broken, world_is}
+use Rattle.scene_validate.proofs.OwnParts.{own_parts}
+use Rattle.scene_json_forms.specs.Reading.{◌>>=◌}
 use Rattle.scene_file.specs.Scene.{if_unbroken, world_in}
-use Rattle.scene_forms.specs.Text.{count_text}
+use Rattle.scene_json_forms.specs.Text.{count_text}
 use Rattle.scene_file.specs.Text.{table_text, children_text, resource_text, world_text}
-use Rattle.scene_forms.specs.Walk.{u32_at}
+use Rattle.scene_json_forms.specs.Walk.{u32_at}
 use Rattle.scene_file.specs.Walk.{children_at, resource_at, table_at, parent_follows, name_follows, table_follows}
-use Rattle.scene_forms.proofs.ListsBack.{ReadsBack, Follow, below_back}
-use Rattle.scene_forms.proofs.FitKinds.{less_is}
+use Rattle.scene_json_forms.proofs.ListsBack.{ReadsBack, Follow, below_back}
+use Rattle.scene_json_forms.proofs.FitKinds.{less_is}
 use Rattle.scene_file.proofs.SceneBack.{AreReadable, table_back, list_of_back, resource_back, parts_back}
 
 all_from : (P : ℕ → Type 0) (xs : List ℕ) → All P xs → AllByRecursion P xs

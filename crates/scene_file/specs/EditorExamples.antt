@@ -3,8 +3,8 @@ use Rattle.std.specs.Prelude.{◌≡◌, ℕ, List, [], ◌∷◌, ◌++◌, cod
 use Rattle.scene_kinds.specs.declared.shape.Shape.TheVariants as shape
 use Rattle.scene_deltas.specs.declared.delta.Delta.TheVariants.{Spawned}
 use Rattle.scene_journal.specs.Records.{Record, record_of}
-use Rattle.scene_parts.specs.Parts.{Parts, world_of}
-use Rattle.scene_parts.specs.Examples.{ent, int, row}
+use Rattle.scene_validate.specs.Parts.{Parts, world_of}
+use Rattle.scene_validate.specs.Examples.{ent, int, row}
 use Rattle.scene_file.specs.EditorText.{editor_saved}
 
 -- no entities, one kind, an Int, and the greatest limit

@@ -1,9 +1,9 @@
 -- Worked texts of version 2: the editors that they say, and the first fault of texts that differ from them.
 use Rattle.std.specs.Prelude.{◌≡◌, ℕ, List, [], ◌++◌, codes, Ok, Err}
-use Rattle.scene_parts.specs.Parts.{world_of}
-use Rattle.scene_parts.specs.Examples.{small}
+use Rattle.scene_validate.specs.Parts.{world_of}
+use Rattle.scene_validate.specs.Examples.{small}
 use Rattle.scene_undo.specs.Editor.{new_editor}
-use Rattle.scene_forms.specs.declared.fault.FileFault.TheVariants.{NotJson, UnknownKey, BadField, BadVersion, BadWorld, BadRecord}
+use Rattle.scene_json_forms.specs.declared.fault.FileFault.TheVariants.{NotJson, UnknownKey, BadField, BadVersion, BadWorld, BadRecord}
 use Rattle.scene_file.specs.Examples.{small_text}
 use Rattle.scene_file.specs.EditorExamples.{before_spawn, after_spawn, spawn, spawned_text, undone_text}
 use Rattle.scene_file.specs.EditorScene.{editor_of, loaded_editor}

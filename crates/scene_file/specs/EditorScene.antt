@@ -3,12 +3,12 @@ use Rattle.std.specs.Prelude.{ℕ, List, Option, Some, None, Result, Ok, Err, re
 use Rattle.serde_json.specs.Data.{Data}
 use Rattle.scene_model.specs.World.{World}
 use Rattle.scene_journal.specs.Records.{Record}
-use Rattle.scene_verdicts.specs.Faults.{first_fault}
+use Rattle.scene_journal.specs.FirstFaults.{first_fault}
 use Rattle.scene_undo.specs.Editor.{EditorState}
-use Rattle.scene_parts.specs.Rules.{first_broken}
-use Rattle.scene_forms.specs.declared.fault.FileFault.{FileFault}
-use Rattle.scene_forms.specs.declared.fault.FileFault.TheVariants.{BadRecord}
-use Rattle.scene_forms.specs.Reading.{◌>>=◌}
+use Rattle.scene_validate.specs.Rules.{first_broken}
+use Rattle.scene_json_forms.specs.declared.fault.FileFault.{FileFault}
+use Rattle.scene_json_forms.specs.declared.fault.FileFault.TheVariants.{BadRecord}
+use Rattle.scene_json_forms.specs.Reading.{◌>>=◌}
 use Rattle.scene_file.specs.EditorWalk.{Saved, saved_in}
 use Rattle.scene_file.specs.Scene.{if_unbroken, json_in}
 

@@ -3,10 +3,10 @@ use Rattle.std.specs.Prelude.{ℕ, List, [], ◌∷◌, ◌++◌, codes}
 use Rattle.serde_json.specs.Data.{Data}
 use Rattle.serde_json.specs.Written.{compact_text}
 use Rattle.scene_model.specs.World.{World}
-use Rattle.scene_parts.specs.Parts.{Parts, parts_of}
+use Rattle.scene_validate.specs.Parts.{Parts, parts_of}
 use Rattle.scene_journal.specs.Records.{Record}
-use Rattle.scene_forms.specs.Text.{object_of}
-use Rattle.scene_record_text.specs.Text.{records_text}
+use Rattle.scene_json_forms.specs.Text.{object_of}
+use Rattle.scene_file_records.specs.Text.{records_text}
 use Rattle.scene_file.specs.Text.{first_text, last_text}
 
 -- the value of parts with records: those of the past, the oldest first, and those of the future, the next one first

@@ -2,12 +2,12 @@
 -- first fault.
 use Rattle.std.specs.Prelude.{ℕ, List, [], ◌∷◌, codes, Result, Ok, Err, nat_eq, if◌then◌else◌}
 use Rattle.serde_json.specs.Data.{Data, Members}
-use Rattle.scene_parts.specs.Parts.{Parts}
+use Rattle.scene_validate.specs.Parts.{Parts}
 use Rattle.scene_journal.specs.Records.{Record}
-use Rattle.scene_forms.specs.declared.fault.FileFault.{FileFault}
-use Rattle.scene_forms.specs.declared.fault.FileFault.TheVariants.{BadVersion}
-use Rattle.scene_forms.specs.Reading.{◌>>=◌, object_at, key_of}
-use Rattle.scene_record_text.specs.Walk.{records_at}
+use Rattle.scene_json_forms.specs.declared.fault.FileFault.{FileFault}
+use Rattle.scene_json_forms.specs.declared.fault.FileFault.TheVariants.{BadVersion}
+use Rattle.scene_json_forms.specs.Reading.{◌>>=◌, object_at, key_of}
+use Rattle.scene_file_records.specs.Walk.{records_at}
 use Rattle.scene_file.specs.Walk.{head_of, tail_of, first_parts, version_of}
 
 -- the parts of a world, the records of its past, the oldest first, and those of its future, the next one first

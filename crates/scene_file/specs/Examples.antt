@@ -1,9 +1,9 @@
 -- Worked texts: what is written for a small world, and what is read of texts that differ from it.
 use Rattle.std.specs.Prelude.{◌≡◌, ℕ, List, [], ◌∷◌, ◌++◌, codes, Ok, Err, map as each}
 use Rattle.std.specs.List.{range_with_len}
-use Rattle.scene_parts.specs.Parts.{world_of}
-use Rattle.scene_parts.specs.Examples.{small}
-use Rattle.scene_forms.specs.declared.fault.FileFault.TheVariants.{NotJson, UnknownKey, BadField, BadVersion, BadWorld}
+use Rattle.scene_validate.specs.Parts.{world_of}
+use Rattle.scene_validate.specs.Examples.{small}
+use Rattle.scene_json_forms.specs.declared.fault.FileFault.TheVariants.{NotJson, UnknownKey, BadField, BadVersion, BadWorld}
 use Rattle.scene_file.specs.Text.{saved}
 use Rattle.scene_file.specs.Scene.{loaded}
 

@@ -7,8 +7,8 @@ use Rattle.scene_kinds.specs.declared.cells.Row.{Row}
 use Rattle.scene_kinds.specs.KindSet.{KindSet}
 use Rattle.scene_resources.specs.Resources.{NamedCells, cell_of}
 use Rattle.scene_model.specs.World.{World}
-use Rattle.scene_parts.specs.Parts.{lists_of}
-use Rattle.scene_forms.specs.Text.{list_text, count_text}
+use Rattle.scene_validate.specs.Parts.{lists_of}
+use Rattle.scene_json_forms.specs.Text.{list_text, count_text}
 use Rattle.scene_file.specs.Text.{kinds_of, kind_text, children_text, resource_text, table_text}
 
 -- the kinds of a set. This word stays folded, since it computes long

@@ -3,7 +3,7 @@ use Rattle.std.specs.Prelude.{◌≡◌, ℕ, List, reverse, Ok}
 use Rattle.scene_model.specs.World.{World}
 use Rattle.scene_model.specs.Valid.{IsValid}
 use Rattle.scene_journal.specs.Records.{Record}
-use Rattle.scene_verdicts.specs.Faults.{PastFits, FutureFits}
+use Rattle.scene_journal.specs.FirstFaults.{PastFits, FutureFits}
 use Rattle.scene_undo.specs.Editor.{new_editor}
 use Rattle.scene_file.specs.Text.{world_text, saved}
 use Rattle.scene_file.specs.EditorText.{editor_text, editor_saved}

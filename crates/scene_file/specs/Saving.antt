@@ -3,8 +3,8 @@ use Rattle.std.specs.Prelude.{ℕ, List, Result, Ok, Err, nat_le, length, if◌t
 use Rattle.scene_model.specs.World.{World}
 use Rattle.scene_journal.specs.Records.{Record}
 use Rattle.scene_streams.specs.Limits.{most_bytes}
-use Rattle.scene_forms.specs.declared.fault.FileFault.{FileFault}
-use Rattle.scene_forms.specs.declared.fault.FileFault.TheVariants.{TooLong}
+use Rattle.scene_json_forms.specs.declared.fault.FileFault.{FileFault}
+use Rattle.scene_json_forms.specs.declared.fault.FileFault.TheVariants.{TooLong}
 use Rattle.scene_file.specs.Text.{saved}
 use Rattle.scene_file.specs.EditorText.{editor_saved}
 

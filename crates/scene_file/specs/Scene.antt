@@ -4,11 +4,11 @@ use Rattle.std.specs.Str.{is_utf8}
 use Rattle.serde_json.specs.Data.{Data}
 use Rattle.serde_json.specs.Read.{read}
 use Rattle.scene_model.specs.World.{World}
-use Rattle.scene_parts.specs.Parts.{Parts, world_of}
-use Rattle.scene_parts.specs.Rules.{first_broken}
-use Rattle.scene_forms.specs.declared.fault.FileFault.{FileFault}
-use Rattle.scene_forms.specs.declared.fault.FileFault.TheVariants.{NotJson, BadWorld}
-use Rattle.scene_forms.specs.Reading.{◌>>=◌}
+use Rattle.scene_validate.specs.Parts.{Parts, world_of}
+use Rattle.scene_validate.specs.Rules.{first_broken}
+use Rattle.scene_json_forms.specs.declared.fault.FileFault.{FileFault}
+use Rattle.scene_json_forms.specs.declared.fault.FileFault.TheVariants.{NotJson, BadWorld}
+use Rattle.scene_json_forms.specs.Reading.{◌>>=◌}
 use Rattle.scene_file.specs.Walk.{parts_in}
 
 -- the world of parts, unless they break a rule

@@ -1,5 +1,5 @@
 -- How the code's parts and records are seen.
-use Rattle.scene_parts.specs.Seen.{seen}
+use Rattle.scene_validate.specs.Seen.{seen}
 use Rattle.scene_file.specs.EditorWalk.{Saved}
 use Rattle.scene_file.specs.declared.read_editor.SavedParts.{SavedParts}
 

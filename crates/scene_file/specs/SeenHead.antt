@@ -1,5 +1,5 @@
 -- How the code's head of a scene is seen.
-use Rattle.scene_parts.specs.Seen.{lists_seen}
+use Rattle.scene_validate.specs.Seen.{lists_seen}
 use Rattle.scene_file.specs.Walk.{Head}
 use Rattle.scene_file.specs.declared.read_scene.SceneHead.{SceneHead}
 

@@ -1,6 +1,6 @@
 -- What the walk knows of the kinds of a table.
 use Rattle.std.specs.Prelude.{◌≡◌, ℕ, ◌<◌, List, [], ◌∷◌, true, Option, Some, nat_lt}
-use Rattle.scene_forms.specs.Reading.{may_follow}
+use Rattle.scene_json_forms.specs.Reading.{may_follow}
 
 -- numbers below a bound, each above the one before
 abbrev pub AreRising : ℕ → Option ℕ → List ℕ → Type 0

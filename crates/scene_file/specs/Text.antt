@@ -9,8 +9,8 @@ use Rattle.scene_kinds.specs.declared.cells.Row.{Row}
 use Rattle.scene_kinds.specs.declared.shape.Shape.{Shape}
 use Rattle.scene_kinds.specs.KindSet.{KindSet, has_kind}
 use Rattle.scene_model.specs.World.{World}
-use Rattle.scene_parts.specs.Parts.{Parts, parts_of}
-use Rattle.scene_forms.specs.Text.{array_of, list_text, object_of, count_text, entity_json, shape_text, cell_text, resource_cell_text}
+use Rattle.scene_validate.specs.Parts.{Parts, parts_of}
+use Rattle.scene_json_forms.specs.Text.{array_of, list_text, object_of, count_text, entity_json, shape_text, cell_text, resource_cell_text}
 
 -- ---- the parts of a row
 

@@ -13,11 +13,11 @@ use Rattle.scene_kinds.specs.KindSet.{KindSet}
 use Rattle.scene_kinds.specs.Schema.{Kinds, shape_of, with_kind}
 use Rattle.scene_alloc.specs.Slots.{most_slots}
 use Rattle.scene_resources.specs.Resources.{name_cmp}
-use Rattle.scene_parts.specs.Parts.{Parts}
-use Rattle.scene_forms.specs.declared.fault.FileFault.{FileFault}
-use Rattle.scene_forms.specs.declared.fault.FileFault.TheVariants.{BadField, BadVersion}
-use Rattle.scene_forms.specs.Walk.{u32_at, tick_at, entity_at, shape_at, name_at, cell_at, resource_cell_at}
-use Rattle.scene_forms.specs.Reading.{◌>>=◌, field, if_good, below, string_at, list_at, list_of, rising_of, place_in, object_at, key_of}
+use Rattle.scene_validate.specs.Parts.{Parts}
+use Rattle.scene_json_forms.specs.declared.fault.FileFault.{FileFault}
+use Rattle.scene_json_forms.specs.declared.fault.FileFault.TheVariants.{BadField, BadVersion}
+use Rattle.scene_json_forms.specs.Walk.{u32_at, tick_at, entity_at, shape_at, name_at, cell_at, resource_cell_at}
+use Rattle.scene_json_forms.specs.Reading.{◌>>=◌, field, if_good, below, string_at, list_at, list_of, rising_of, place_in, object_at, key_of}
 
 -- ---- the cells of a row
 

@@ -40,4 +40,4 @@ pub use loading_editor::{load_editor, load_editor_text};
 pub use saved_laws::{editors_are_read_again, saved_editors_are_loaded, saved_worlds_are_loaded};
 pub use saving::{save, save_text};
 pub use saving_editor::{save_editor, save_editor_text};
-pub use scene_forms::FileFault;
+pub use scene_json_forms::FileFault;

@@ -5,20 +5,20 @@ ghost use Rattle.serde_json.specs.Read.{read};
 ghost use Rattle.scene_json.specs.View.{view, whole};
 ghost use Rattle.scene_streams.specs.Source.{reader_of, turns_left, read_failed};
 ghost use Rattle.scene_streams.specs.Limits.{most_bytes};
-ghost use Rattle.scene_parts.specs.Rules.{first_broken};
-ghost use Rattle.scene_parts.specs.Seen.{seen};
-ghost use Rattle.scene_forms.specs.Outcome.{IsFault, IsTextFault};
+ghost use Rattle.scene_validate.specs.Rules.{first_broken};
+ghost use Rattle.scene_validate.specs.Seen.{seen};
+ghost use Rattle.scene_json_forms.specs.Outcome.{IsFault, IsTextFault};
 ghost use Rattle.scene_file.specs.Scene.{if_unbroken, json_in, loaded};
 ghost use Rattle.scene_file.specs.Text.{world_text};
-ghost use Rattle.scene_forms.specs.declared.fault.FileFault.TheVariants.{ReadFault, TooLong, WriteFault};
+ghost use Rattle.scene_json_forms.specs.declared.fault.FileFault.TheVariants.{ReadFault, TooLong, WriteFault};
 
 use crate::read_scene::parts_in;
 use json::Scratch;
-use scene_forms::FileFault;
 use scene_json::{Document, DocumentError};
+use scene_json_forms::FileFault;
 use scene_kinds::Fault;
-use scene_parts::WorldParts;
 use scene_streams::Source;
+use scene_validate::WorldParts;
 use scene_world::World;
 use std::alloc::Global;
 use std::io::Read;
@@ -41,7 +41,7 @@ pub(crate) fn document_of<'a>(
 }
 
 /// The parts of a text. What is read of the text besides is given back with them, since it takes more memory than a world.
-#[tactic(auto, using(scene_forms::proofs::Walking::walking, crate::proofs::TextFaults::loading))]
+#[tactic(auto, using(scene_json_forms::proofs::Walking::walking, crate::proofs::TextFaults::loading))]
 fn parts_of_text(alloc: Global, text: &[u8]) -> Result<WorldParts, FileFault>
     ensures found { IfOk result (λ parts. loaded text.now ≡ if_unbroken (first_broken (seen parts)) (seen parts)) }
     ensures fault { IfErr result (λ e. IsTextFault e (loaded text.now)) }
@@ -67,7 +67,7 @@ pub(crate) fn world_of(alloc: Global, parts: WorldParts) -> Result<World, FileFa
 }
 
 /// The world of a text.
-#[tactic(auto, using(scene_forms::proofs::Walking::walking, crate::proofs::TextFaults::loading))]
+#[tactic(auto, using(scene_json_forms::proofs::Walking::walking, crate::proofs::TextFaults::loading))]
 fn world_in(alloc: Global, text: &[u8]) -> Result<World, FileFault>
     ensures found { IfOk result (λ world. loaded text.now ≡ Ok world.world) }
     ensures fault { IfErr result (λ e. IsTextFault e (loaded text.now)) }

@@ -3,8 +3,8 @@ ghost use Rattle.std.specs.Prelude.{◌≡◌, ◌≢◌, ◌<◌, ◌≤◌, �
 ghost use Rattle.std.specs.Io.KnownBytes.{IsAtEnd};
 ghost use Rattle.scene_streams.specs.Source.{reader_of, turns_left, read_failed};
 ghost use Rattle.scene_streams.specs.Limits.{most_bytes};
-ghost use Rattle.scene_forms.specs.Outcome.{IsFault, IsTextFault};
-ghost use Rattle.scene_forms.specs.declared.fault.FileFault.TheVariants.{ReadFault, TooLong, WriteFault};
+ghost use Rattle.scene_json_forms.specs.Outcome.{IsFault, IsTextFault};
+ghost use Rattle.scene_json_forms.specs.declared.fault.FileFault.TheVariants.{ReadFault, TooLong, WriteFault};
 ghost use Rattle.scene_file.specs.EditorLaws.{IsTextOf};
 ghost use Rattle.scene_file.specs.EditorScene.{editor_saved_as, loaded_editor, said_in, with_records};
 ghost use Rattle.scene_file.specs.SeenEditor.{saved_seen};
@@ -12,8 +12,8 @@ ghost use Rattle.scene_file.specs.SeenEditor.{saved_seen};
 use crate::loading::{document_of, world_of};
 use crate::read_editor::{SavedParts, saved_in};
 use json::Scratch;
-use scene_forms::FileFault;
 use scene_journal::FrameRecord;
+use scene_json_forms::FileFault;
 use scene_kinds::Fault;
 use scene_streams::Source;
 use scene_undo::Editor;
@@ -23,7 +23,7 @@ use std::io::Read;
 
 /// The parts and the records of a text. What is read of the text besides is given back with them, since it takes more
 /// memory than an editor.
-#[tactic(auto, using(scene_forms::proofs::Walking::walking))]
+#[tactic(auto, using(scene_json_forms::proofs::Walking::walking))]
 fn saved_of_text(alloc: Global, text: &[u8]) -> Result<SavedParts, FileFault>
     ensures found { IfOk result (λ saved. said_in text.now ≡ Ok (saved_seen saved)) }
     ensures fault { IfErr result (λ e. IsTextFault e (said_in text.now)) }
@@ -55,7 +55,7 @@ fn with_records(
 }
 
 /// The editor of parts and records: first comes the world.
-#[tactic(auto, using(scene_forms::proofs::Walking::walking))]
+#[tactic(auto, using(scene_json_forms::proofs::Walking::walking))]
 fn editor_of(alloc: Global, saved: SavedParts, depth: u32) -> Result<Editor, FileFault>
     ensures found { IfOk result (λ editor. editor_saved_as depth (saved_seen saved) ≡ Ok editor) }
     ensures fault { IfErr result (λ e. IsTextFault e (editor_saved_as depth (saved_seen saved))) }
@@ -70,7 +70,7 @@ fn editor_of(alloc: Global, saved: SavedParts, depth: u32) -> Result<Editor, Fil
 }
 
 /// The editor of a text.
-#[tactic(auto, using(scene_forms::proofs::Walking::walking, crate::proofs::RecordFaults::texts))]
+#[tactic(auto, using(scene_json_forms::proofs::Walking::walking, crate::proofs::RecordFaults::texts))]
 fn editor_in(alloc: Global, text: &[u8], depth: u32) -> Result<Editor, FileFault>
     ensures found { IfOk result (λ editor. loaded_editor depth text.now ≡ Ok editor) }
     ensures fault { IfErr result (λ e. IsTextFault e (loaded_editor depth text.now)) }

@@ -1,17 +1,17 @@
 //! The whole of a scene text of version 1 or 2, with records.
 ghost use Rattle.std.specs.Prelude.{◌≡◌, Ok, IfOk, IfErr};
 ghost use Rattle.scene_json.specs.View.{view};
-ghost use Rattle.scene_forms.specs.Members.{members_in};
-ghost use Rattle.scene_forms.specs.Outcome.{IsTextFault};
+ghost use Rattle.scene_json_forms.specs.Members.{members_in};
+ghost use Rattle.scene_json_forms.specs.Outcome.{IsTextFault};
 ghost use Rattle.scene_file.specs.EditorWalk.{first_saved, saved_by, saved_in, saved_of, second_saved};
 ghost use Rattle.scene_file.specs.SeenEditor.{saved_seen};
 
 use crate::read_scene::{first_parts, head_of, tail_of, top_key, version_of};
-use scene_forms::{FileFault, Path, object_at};
+use scene_file_records::RecordsForm;
 use scene_journal::FrameRecord;
 use scene_json::Part;
-use scene_parts::WorldParts;
-use scene_record_text::RecordsForm;
+use scene_json_forms::{FileFault, Path, object_at};
+use scene_validate::WorldParts;
 use std::alloc::Global;
 
 /// The keys of a scene with records, by their bytes.
@@ -38,7 +38,7 @@ pub(crate) struct SavedParts {
 }
 
 /// The parts and the records that the keys of a scene say.
-#[tactic(auto, using(scene_forms::proofs::Walking::walking))]
+#[tactic(auto, using(scene_json_forms::proofs::Walking::walking))]
 fn saved_of(alloc: Global, scene: &Part<'_, '_>) -> Result<SavedParts, FileFault>
     ensures found { IfOk result (λ saved. saved_of (members_in (view scene.now)) ≡ Ok (saved_seen saved)) }
     ensures fault { IfErr result (λ e. IsTextFault e (saved_of (members_in (view scene.now)))) }
@@ -61,7 +61,7 @@ fn saved_of(alloc: Global, scene: &Part<'_, '_>) -> Result<SavedParts, FileFault
 }
 
 /// What a text of version 1 says, in which no records stand.
-#[tactic(auto, using(scene_forms::proofs::Walking::walking))]
+#[tactic(auto, using(scene_json_forms::proofs::Walking::walking))]
 fn first_saved(alloc: Global, value: &Part<'_, '_>) -> Result<SavedParts, FileFault>
     ensures found { IfOk result (λ saved. first_saved (view value.now) ≡ Ok (saved_seen saved)) }
     ensures fault { IfErr result (λ e. IsTextFault e (first_saved (view value.now))) }
@@ -75,7 +75,7 @@ fn first_saved(alloc: Global, value: &Part<'_, '_>) -> Result<SavedParts, FileFa
 }
 
 /// What a text of version 2 says.
-#[tactic(auto, using(scene_forms::proofs::Walking::walking))]
+#[tactic(auto, using(scene_json_forms::proofs::Walking::walking))]
 fn second_saved(alloc: Global, value: &Part<'_, '_>) -> Result<SavedParts, FileFault>
     ensures found { IfOk result (λ saved. second_saved (view value.now) ≡ Ok (saved_seen saved)) }
     ensures fault { IfErr result (λ e. IsTextFault e (second_saved (view value.now))) }
@@ -98,7 +98,7 @@ fn saved_by(alloc: Global, version: u64, value: &Part<'_, '_>) -> Result<SavedPa
 
 /// The parts and the records that a scene text of version 1 or 2 says, or its first fault of form
 /// (docs/SCENE_FILES.md, "The walk").
-#[tactic(auto, using(scene_forms::proofs::Walking::walking))]
+#[tactic(auto, using(scene_json_forms::proofs::Walking::walking))]
 pub(crate) fn saved_in(alloc: Global, value: &Part<'_, '_>) -> Result<SavedParts, FileFault>
     ensures found { IfOk result (λ saved. saved_in (view value.now) ≡ Ok (saved_seen saved)) }
     ensures fault { IfErr result (λ e. IsTextFault e (saved_in (view value.now))) }

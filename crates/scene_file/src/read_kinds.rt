@@ -4,18 +4,18 @@ ghost use Rattle.scene_json.specs.View.{view, views};
 ghost use Rattle.scene_kinds.specs.Answers.{refusal_of};
 ghost use Rattle.scene_kinds.specs.Schema.{with_kind};
 ghost use Rattle.scene_kinds.specs.declared.fault.Fault.TheVariants.{NoMemory};
-ghost use Rattle.scene_forms.specs.Outcome.{IsTextFault, Means};
-ghost use Rattle.scene_forms.specs.Paths.{path_bytes};
+ghost use Rattle.scene_json_forms.specs.Outcome.{IsTextFault, Means};
+ghost use Rattle.scene_json_forms.specs.Paths.{path_bytes};
 ghost use Rattle.scene_file.specs.Walk.{added, kind_parts, kinds_from};
-ghost use Rattle.scene_forms.specs.declared.fault.FileFault.TheVariants.{BadField, NoMemory as NoRoom};
+ghost use Rattle.scene_json_forms.specs.declared.fault.FileFault.TheVariants.{BadField, NoMemory as NoRoom};
 
-use scene_forms::{FileFault, Form, Path, ShapeForm, bad_field, list_at, string_at};
 use scene_json::{Part, Parts};
+use scene_json_forms::{FileFault, Form, Path, ShapeForm, bad_field, list_at, string_at};
 use scene_kinds::{Fault, Refusal, Schema, Shape};
 use std::alloc::Global;
 
 /// A kind's name and its shape.
-#[tactic(auto, using(scene_forms::proofs::Walking::walking))]
+#[tactic(auto, using(scene_json_forms::proofs::Walking::walking))]
 fn kind_from<'a>(
     alloc: Global,
     path: &Path<'_>,
@@ -31,7 +31,7 @@ fn kind_from<'a>(
 }
 
 /// A kind's name and its shape, of the parts of its list.
-#[tactic(auto, using(scene_forms::proofs::Walking::walking, crate::proofs::Parted::parted))]
+#[tactic(auto, using(scene_json_forms::proofs::Walking::walking, crate::proofs::Parted::parted))]
 fn kind_parts<'a>(
     alloc: Global,
     path: &Path<'_>,
@@ -58,7 +58,7 @@ fn refused_kind(alloc: Global, path: &Path<'_>, refusal: Refusal) -> FileFault
 }
 
 /// Adds a kind, whose name is good and not taken, and which isn't the 65th.
-#[tactic(auto, using(scene_forms::proofs::Walking::walking, crate::proofs::TableKinds::kinds))]
+#[tactic(auto, using(scene_json_forms::proofs::Walking::walking, crate::proofs::TableKinds::kinds))]
 fn add_kind(
     alloc: Global,
     path: &Path<'_>,
@@ -77,7 +77,7 @@ fn add_kind(
 }
 
 /// Kinds, one after another.
-#[tactic(auto, using(scene_forms::proofs::Walking::walking))]
+#[tactic(auto, using(scene_json_forms::proofs::Walking::walking))]
 fn kinds_from(alloc: Global, path: &Path<'_>, parts: Parts<'_, '_>) -> Result<Schema, FileFault>
     ensures found { IfOk result (λ schema. kinds_from (path_bytes path.now) 0 [] (views parts.entry) ≡ Ok schema) }
     ensures fault { IfErr result (λ e. IsTextFault e (kinds_from (path_bytes path.now) 0 [] (views parts.entry))) }
@@ -114,7 +114,7 @@ impl Form for KindsForm {
 
     ghost follows = { λ _ _. true };
 
-    #[tactic(auto, using(scene_forms::proofs::Walking::walking))]
+    #[tactic(auto, using(scene_json_forms::proofs::Walking::walking))]
     fn read(
         &self,
         alloc: Global,

@@ -3,20 +3,20 @@ ghost use Rattle.std.specs.Prelude.{◌≡◌, Ok, None, IfOk, IfErr, length, ma
 ghost use Rattle.std.specs.List.{zip};
 ghost use Rattle.scene_json.specs.View.{views};
 ghost use Rattle.scene_file.specs.TableKinds.{AreRising};
-ghost use Rattle.scene_forms.specs.Outcome.{IsTextFault};
-ghost use Rattle.scene_forms.specs.Paths.{path_bytes};
+ghost use Rattle.scene_json_forms.specs.Outcome.{IsTextFault};
+ghost use Rattle.scene_json_forms.specs.Paths.{path_bytes};
 ghost use Rattle.scene_file.specs.Walk.{cells_from, set_of, shapes_of};
 
-use scene_forms::{
+use scene_json::{Part, Parts};
+use scene_json_forms::{
     CellForm, EntityForm, FileFault, Form, KindNumberForm, ListOf, Ordered, Path, Rising,
     bad_field, key_of, list_at, object_at,
 };
-use scene_json::{Part, Parts};
 use scene_kinds::{Cell, Cells, KindSet, Row, Schema, Shape};
 use std::alloc::{AllocError, Global};
 
 /// The cells of a row, one for each of its table's kinds.
-#[tactic(auto, using(scene_forms::proofs::Walking::walking))]
+#[tactic(auto, using(scene_json_forms::proofs::Walking::walking))]
 fn cells_from(
     alloc: Global,
     path: &Path<'_>,
@@ -59,7 +59,7 @@ impl Form for CellsForm<'_> {
 
     ghost follows = { λ _ _. true };
 
-    #[tactic(auto, using(scene_forms::proofs::Walking::walking))]
+    #[tactic(auto, using(scene_json_forms::proofs::Walking::walking))]
     fn read(
         &self,
         alloc: Global,
@@ -103,7 +103,7 @@ impl Form for RowForm<'_> {
 
     ghost follows = { λ _ _. true };
 
-    #[tactic(auto, using(scene_forms::proofs::Walking::walking))]
+    #[tactic(auto, using(scene_json_forms::proofs::Walking::walking))]
     fn read(&self, alloc: Global, path: &Path<'_>, value: &Part<'_, '_>) -> Result<Row, FileFault> {
         object_at(alloc, path, value, &["cells", "entity"])?;
         let form = CellsForm {
@@ -162,7 +162,7 @@ impl Form for TableForm<'_> {
 
     ghost follows = { table_follows };
 
-    #[tactic(auto, using(scene_forms::proofs::Walking::walking, crate::proofs::TableKinds::kinds, crate::proofs::SceneSteps::table_steps))]
+    #[tactic(auto, using(scene_json_forms::proofs::Walking::walking, crate::proofs::TableKinds::kinds, crate::proofs::SceneSteps::table_steps))]
     fn read(
         &self,
         alloc: Global,

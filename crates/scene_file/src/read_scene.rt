@@ -1,22 +1,22 @@
 //! The whole of a scene text of version 1, and what version 2 shares with it.
 ghost use Rattle.std.specs.Prelude.{◌≡◌, [], Ok, IfOk, IfErr};
 ghost use Rattle.scene_json.specs.View.{view};
-ghost use Rattle.scene_parts.specs.Seen.{seen};
-ghost use Rattle.scene_forms.specs.Members.{members_in};
-ghost use Rattle.scene_forms.specs.Outcome.{IsTextFault};
-ghost use Rattle.scene_forms.specs.Reading.{key_of};
+ghost use Rattle.scene_validate.specs.Seen.{seen};
+ghost use Rattle.scene_json_forms.specs.Members.{members_in};
+ghost use Rattle.scene_json_forms.specs.Outcome.{IsTextFault};
+ghost use Rattle.scene_json_forms.specs.Reading.{key_of};
 ghost use Rattle.scene_file.specs.Walk.{first_parts, head_of, parts_in, parts_of, tail_of, version_of};
 ghost use Rattle.scene_file.specs.SeenHead.{head_seen};
 
 use crate::read_kinds::KindsForm;
 use crate::read_rows::TableForm;
-use scene_forms::{
+use scene_json::Part;
+use scene_json_forms::{
     EntityForm, FileFault, Form, ListOf, NameForm, Ordered, Path, ResourceCellForm, Rising,
     TickForm, U32Form, bad_field, if_good, key_of, object_at,
 };
-use scene_json::Part;
 use scene_kinds::{Cell, Entity, Schema};
-use scene_parts::WorldParts;
+use scene_validate::WorldParts;
 use std::alloc::Global;
 
 /// The keys of a scene, by their bytes.
@@ -52,7 +52,7 @@ impl Form for LimitForm {
 
     ghost follows = { λ _ _. true };
 
-    #[tactic(auto, using(scene_forms::proofs::Walking::walking))]
+    #[tactic(auto, using(scene_json_forms::proofs::Walking::walking))]
     fn read(&self, alloc: Global, path: &Path<'_>, value: &Part<'_, '_>) -> Result<u32, FileFault> {
         let number = TickForm.read(alloc, path, value)?;
         let limit = if_good(alloc, path, 1 <= number && number <= MOST_SLOTS, number)?;
@@ -79,7 +79,7 @@ impl Form for ChildrenForm {
 
     ghost follows = { parent_follows };
 
-    #[tactic(auto, using(scene_forms::proofs::Walking::walking))]
+    #[tactic(auto, using(scene_json_forms::proofs::Walking::walking))]
     fn read(
         &self,
         alloc: Global,
@@ -118,7 +118,7 @@ impl Form for ResourceForm {
 
     ghost follows = { name_follows };
 
-    #[tactic(auto, using(scene_forms::proofs::Walking::walking))]
+    #[tactic(auto, using(scene_json_forms::proofs::Walking::walking))]
     fn read(
         &self,
         alloc: Global,
@@ -139,7 +139,7 @@ impl Ordered for ResourceForm {
 }
 
 /// The value of a key of a scene, which must be there, read as a form.
-#[tactic(auto, using(scene_forms::proofs::Walking::walking))]
+#[tactic(auto, using(scene_json_forms::proofs::Walking::walking))]
 pub(crate) fn top_key<F: Form>(
     alloc: Global,
     form: &F,
@@ -163,7 +163,7 @@ pub(crate) struct SceneHead {
 }
 
 /// What the first five keys of a scene say, up to its slot limit.
-#[tactic(auto, using(scene_forms::proofs::Walking::walking))]
+#[tactic(auto, using(scene_json_forms::proofs::Walking::walking))]
 pub(crate) fn head_of(alloc: Global, scene: &Part<'_, '_>) -> Result<SceneHead, FileFault>
     ensures found { IfOk result (λ head. head_of (members_in (view scene.now)) ≡ Ok (head_seen head)) }
     ensures fault { IfErr result (λ e. IsTextFault e (head_of (members_in (view scene.now)))) }
@@ -183,7 +183,7 @@ pub(crate) fn head_of(alloc: Global, scene: &Part<'_, '_>) -> Result<SceneHead, 
 }
 
 /// The parts that the keys of a scene say, of which the first five were read.
-#[tactic(auto, using(scene_forms::proofs::Walking::walking))]
+#[tactic(auto, using(scene_json_forms::proofs::Walking::walking))]
 pub(crate) fn tail_of(
     alloc: Global,
     head: SceneHead,
@@ -211,7 +211,7 @@ pub(crate) fn tail_of(
 }
 
 /// The parts that the keys of a scene say.
-#[tactic(auto, using(scene_forms::proofs::Walking::walking))]
+#[tactic(auto, using(scene_json_forms::proofs::Walking::walking))]
 fn parts_of(alloc: Global, scene: &Part<'_, '_>) -> Result<WorldParts, FileFault>
     ensures found { IfOk result (λ parts. parts_of (members_in (view scene.now)) ≡ Ok (seen parts)) }
     ensures fault { IfErr result (λ e. IsTextFault e (parts_of (members_in (view scene.now)))) }
@@ -221,7 +221,7 @@ fn parts_of(alloc: Global, scene: &Part<'_, '_>) -> Result<WorldParts, FileFault
 }
 
 /// The version of a text, which is an object.
-#[tactic(auto, using(scene_forms::proofs::Walking::walking))]
+#[tactic(auto, using(scene_json_forms::proofs::Walking::walking))]
 pub(crate) fn version_of(alloc: Global, value: &Part<'_, '_>) -> Result<u64, FileFault>
     ensures found { IfOk result (λ version. version_of (view value.now) ≡ Ok version) }
     ensures fault { IfErr result (λ e. IsTextFault e (version_of (view value.now))) }
@@ -234,7 +234,7 @@ pub(crate) fn version_of(alloc: Global, value: &Part<'_, '_>) -> Result<u64, Fil
 }
 
 /// The parts of a text whose version is 1.
-#[tactic(auto, using(scene_forms::proofs::Walking::walking))]
+#[tactic(auto, using(scene_json_forms::proofs::Walking::walking))]
 pub(crate) fn first_parts(alloc: Global, value: &Part<'_, '_>) -> Result<WorldParts, FileFault>
     ensures found { IfOk result (λ parts. first_parts (view value.now) ≡ Ok (seen parts)) }
     ensures fault { IfErr result (λ e. IsTextFault e (first_parts (view value.now))) }
@@ -244,7 +244,7 @@ pub(crate) fn first_parts(alloc: Global, value: &Part<'_, '_>) -> Result<WorldPa
 }
 
 /// The parts that a scene text of version 1 says, or its first fault of form (docs/SCENE_FILES.md, "The walk").
-#[tactic(auto, using(scene_forms::proofs::Walking::walking))]
+#[tactic(auto, using(scene_json_forms::proofs::Walking::walking))]
 pub(crate) fn parts_in(alloc: Global, value: &Part<'_, '_>) -> Result<WorldParts, FileFault>
     ensures found { IfOk result (λ parts. parts_in (view value.now) ≡ Ok (seen parts)) }
     ensures fault { IfErr result (λ e. IsTextFault e (parts_in (view value.now))) }

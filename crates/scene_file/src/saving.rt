@@ -3,14 +3,14 @@ ghost use Rattle.std.specs.Prelude.{◌≡◌, ◌≢◌, ◌↔◌, true, false
 ghost use Rattle.std.specs.Io.KnownBytes.{Appends};
 ghost use Rattle.scene_streams.specs.Known.{AppendsPrefix};
 ghost use Rattle.scene_streams.specs.Sink.{writer_of, write_failed};
-ghost use Rattle.scene_forms.specs.declared.fault.FileFault.TheVariants.{WriteFault};
-ghost use Rattle.scene_forms.specs.Outcome.{IsFault};
+ghost use Rattle.scene_json_forms.specs.declared.fault.FileFault.TheVariants.{WriteFault};
+ghost use Rattle.scene_json_forms.specs.Outcome.{IsFault};
 ghost use Rattle.scene_file.specs.Saving.{save_of};
 ghost use Rattle.scene_file.specs.Scene.{loaded};
 ghost use Rattle.scene_file.specs.Text.{saved};
 
 use crate::write_world::write_world;
-use scene_forms::FileFault;
+use scene_json_forms::FileFault;
 use scene_streams::{MOST_BYTES, Sink};
 use scene_world::World;
 use std::alloc::{AllocError, Global};

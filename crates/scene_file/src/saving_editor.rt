@@ -3,15 +3,15 @@ ghost use Rattle.std.specs.Prelude.{◌≡◌, ◌≢◌, ◌↔◌, ℕ, true, 
 ghost use Rattle.std.specs.Io.KnownBytes.{Appends};
 ghost use Rattle.scene_streams.specs.Known.{AppendsPrefix};
 ghost use Rattle.scene_streams.specs.Sink.{writer_of, write_failed};
-ghost use Rattle.scene_forms.specs.declared.fault.FileFault.TheVariants.{WriteFault};
-ghost use Rattle.scene_forms.specs.Outcome.{IsFault};
+ghost use Rattle.scene_json_forms.specs.declared.fault.FileFault.TheVariants.{WriteFault};
+ghost use Rattle.scene_json_forms.specs.Outcome.{IsFault};
 ghost use Rattle.scene_file.specs.Saving.{save_editor_of};
 ghost use Rattle.scene_file.specs.EditorScene.{loaded_again, loaded_editor};
 ghost use Rattle.scene_file.specs.EditorText.{editor_saved};
 ghost use Rattle.scene_file.specs.SavedLaws.{FitTogether};
 
 use crate::write_editor::write_editor;
-use scene_forms::FileFault;
+use scene_json_forms::FileFault;
 use scene_streams::{MOST_BYTES, Sink};
 use scene_undo::Editor;
 use std::alloc::{AllocError, Global};

@@ -4,7 +4,7 @@ ghost use Rattle.serde_json.specs.Written.{compact_text};
 ghost use Rattle.scene_file.specs.EditorText.{editor_text};
 
 use crate::write_world::{write_first_members, write_last_members};
-use scene_record_text::write_records;
+use scene_file_records::write_records;
 use scene_undo::Editor;
 use std::alloc::{AllocError, Global};
 

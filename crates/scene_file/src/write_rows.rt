@@ -2,11 +2,11 @@
 ghost use Rattle.std.specs.Prelude.{◌≡◌, ◌++◌, ◌<◌, OnOk, Some, length, slice_get, string_bytes};
 ghost use Rattle.serde_json.specs.Written.{compact_text};
 ghost use Rattle.scene_kinds.specs.declared.cells.Row.{Row};
-ghost use Rattle.scene_forms.specs.Text.{list_text, cell_text};
+ghost use Rattle.scene_json_forms.specs.Text.{list_text, cell_text};
 ghost use Rattle.scene_file.specs.Text.{row_text};
 ghost use Rattle.scene_file.specs.Printing.{kinds_json, table_json};
 
-use scene_forms::{write_cell, write_comma, write_entity};
+use scene_json_forms::{write_cell, write_comma, write_entity};
 use scene_kinds::{KindSet, KindSetMethods};
 use scene_table::Table;
 use std::alloc::{AllocError, Global};

@@ -2,17 +2,19 @@
 ghost use Rattle.std.specs.Prelude.{◌≡◌, ◌++◌, ◌<◌, OnOk, Some, length, slice_get, string_bytes, map as each};
 ghost use Rattle.serde_json.specs.Written.{compact_text};
 ghost use Rattle.scene_links.specs.Forest.{children_of};
-ghost use Rattle.scene_parts.specs.Parts.{lists_of};
-ghost use Rattle.scene_forms.specs.Text.{list_text};
+ghost use Rattle.scene_validate.specs.Parts.{lists_of};
+ghost use Rattle.scene_json_forms.specs.Text.{list_text};
 ghost use Rattle.scene_file.specs.Text.{kind_text, children_text, resource_text, table_text, world_text};
 ghost use Rattle.scene_file.specs.Printing.{named_cells, first_members, last_members};
 
 use crate::write_rows::write_tables;
-use scene_forms::{write_comma, write_counts, write_entities, write_entity, write_resource_cell};
+use scene_json::write_json_text;
+use scene_json_forms::{
+    write_comma, write_counts, write_entities, write_entity, write_resource_cell,
+};
 use scene_kinds::{Cell, Entity, Schema, Shape};
 use scene_links::Links;
 use scene_resources::Resources;
-use scene_script::write_json_text;
 use scene_world::World;
 use std::alloc::{AllocError, Global};
 

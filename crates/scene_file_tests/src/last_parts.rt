@@ -1,6 +1,6 @@
 //! Parts of a small world. Where no memory is found, the test fails.
 use scene_kinds::{Cell, Cells, Entity, Row, Schema, Shape, Value};
-use scene_parts::WorldParts;
+use scene_validate::WorldParts;
 use std::alloc::Global;
 use std::process::Abort;
 

@@ -1,7 +1,7 @@
 //! A world of its parts, and what is answered where they break a rule.
 use crate::last_parts::{last_entity, last_parts};
 use scene_kinds::{Cell, Fault, Refusal, Value};
-use scene_parts::WorldParts;
+use scene_validate::WorldParts;
 use scene_world::World;
 use std::alloc::Global;
 use std::process::Abort;

@@ -1,10 +1,15 @@
 pub mod Copies
+pub mod Covers
 pub mod CutRows
 pub mod FewChildren
+pub mod FirstFinds
 pub mod Folds
+pub mod FoundFaults
 pub mod FoundRecords
 pub mod FrameLaws
 pub mod Inserts
+pub mod Late
+pub mod Listed
 pub mod Recorded
 pub mod Records
 pub mod SomeDeltas

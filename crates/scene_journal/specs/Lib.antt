@@ -1,6 +1,11 @@
 pub mod Examples
+pub mod FaultExamples
+pub mod FaultLaws
 pub mod Faults
+pub mod FirstFaults
 pub mod Frames
 pub mod Laws
+pub mod Newest
 pub mod Recorder
 pub mod Records
+pub mod Unfit

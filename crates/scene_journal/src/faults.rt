@@ -7,13 +7,13 @@ ghost use Rattle.scene_journal.specs.Faults.{IsAfterSome, IsBeforeSome, IsRedone
 ghost use Rattle.scene_deltas.specs.Ready.{AreReady, AreReadyOn};
 ghost use Rattle.scene_deltas.specs.Deltas.{fwd_all, back_all};
 ghost use Rattle.scene_journal.specs.Records.{raised, redone, undone, RecordFitsOn, RecordFitsBack};
-ghost use Rattle.scene_newest.specs.Newest.{Covers, KeepsAges};
+ghost use Rattle.scene_journal.specs.Newest.{Covers, KeepsAges};
 ghost use Rattle.scene_world.specs.Room.{IsWider};
 
+use crate::newest::NewestCells;
 use crate::record::FrameRecord;
 use scene_deltas::{Delta, redo_delta, undo_delta};
 use scene_kinds::{Fault, Refusal};
-use scene_newest::NewestCells;
 use scene_world::{RawChanges, World};
 
 /// A law of faults: a record that has one doesn't fit.

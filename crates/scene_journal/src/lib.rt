@@ -12,18 +12,25 @@
 mod cuts;
 mod drafts;
 mod examples;
+mod fault_examples;
+mod fault_laws;
 mod faults;
 mod inserted;
 mod laws;
+mod newest;
 mod notes;
 mod record;
 mod recorder;
 mod reserved;
 mod spawned;
+mod spot;
 
 pub use examples::worked_records_hold;
+pub use fault_examples::worked_faults_hold;
+pub use fault_laws::{first_faults_are_found, records_are_tested};
 pub use faults::faults_are_faults;
 pub use laws::{frames_are_records, records_come_back};
+pub use newest::NewestCells;
 pub use record::FrameRecord;
 pub use recorder::Recorder;
 pub use scene_deltas::{Delta, redo_delta, undo_delta};

@@ -1,6 +1,7 @@
-pub mod Lists
-pub mod Keys
-pub mod Tokens
-pub mod Sound
-pub mod View
 pub mod Examples
+pub mod Keys
+pub mod Lists
+pub mod Sound
+pub mod Texts
+pub mod Tokens
+pub mod View

@@ -12,8 +12,10 @@ mod number;
 mod part;
 mod parts;
 mod sound;
+mod text;
 
 pub use document::{Document, DocumentError};
 pub use examples::worked_texts;
 pub use part::Part;
 pub use parts::Parts;
+pub use text::write_json_text;

@@ -4,8 +4,8 @@ use Rattle.std.specs.List.{filter, flat_map}
 use Rattle.scene_table.specs.Table.{TableState}
 use Rattle.scene_model.specs.World.{World}
 use Rattle.scene_table.specs.Tables.{rows_at}
-use Rattle.scene_rules.specs.declared.filter.Filter.{Filter}
-use Rattle.scene_rules.specs.Filter.{is_match}
+use Rattle.scene_systems.specs.declared.filter.Filter.{Filter}
+use Rattle.scene_systems.specs.Filter.{is_match}
 use Rattle.scene_pass.specs.Pass.{rows_in}
 
 -- tables that the filter matches, over their own kind sets

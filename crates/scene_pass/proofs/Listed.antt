@@ -24,9 +24,9 @@ use Rattle.scene_model.specs.Valid.{IsValid}
 use Rattle.scene_table.proofs.Homes.{home_is}
 use Rattle.scene_model.proofs.RowKinds.{fits_known}
 use Rattle.scene_model.proofs.Found.{some_home}
-use Rattle.scene_rules.specs.declared.filter.Filter.{Filter}
+use Rattle.scene_systems.specs.declared.filter.Filter.{Filter}
 use Rattle.scene_pass.specs.declared.cell_name.CellName.{CellName}
-use Rattle.scene_rules.specs.Filter.{is_match}
+use Rattle.scene_systems.specs.Filter.{is_match}
 use Rattle.scene_pass.specs.Pass.{rows_in, matching_rows, matching, names_in, cells_where}
 use Rattle.scene_pass.specs.Listed.{Matches, IsCellWhere}
 use Rattle.scene_pass.proofs.Members.{none_in, in_cases, place_of, in_from_place, each_passes, in_filter, from_filter, passes, in_map, from_map, in_flat_map, from_flat_map, entry_in}

@@ -10,10 +10,10 @@ use Rattle.scene_kinds.specs.declared.value.Value.{Value}
 use Rattle.scene_kinds.specs.declared.value.Value.TheVariants.{Int, Vec3}
 use Rattle.scene_kinds.specs.Ranges.{is_i64}
 use Rattle.scene_model.specs.World.{World}
-use Rattle.scene_rules.specs.declared.filter.Filter.{Filter}
-use Rattle.scene_rules.specs.declared.row_step.RowStep.{RowStep}
-use Rattle.scene_rules.specs.declared.row_step.RowStep.TheVariants.{AddVec, AddInt}
-use Rattle.scene_rules.specs.RowStep.{target, is_written}
+use Rattle.scene_systems.specs.declared.filter.Filter.{Filter}
+use Rattle.scene_systems.specs.declared.row_step.RowStep.{RowStep}
+use Rattle.scene_systems.specs.declared.row_step.RowStep.TheVariants.{AddVec, AddInt}
+use Rattle.scene_systems.specs.RowStep.{target, is_written}
 use Rattle.scene_pass.specs.Pass.{matching_rows}
 use Rattle.scene_pass.specs.declared.row_change.RowChange.{RowChange}
 use Rattle.scene_pass.specs.declared.row_change.Outcome.{Outcome}

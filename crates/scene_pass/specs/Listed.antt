@@ -5,8 +5,8 @@ use Rattle.scene_kinds.specs.declared.cell.Cell.{Cell}
 use Rattle.scene_kinds.specs.KindSet.{KindSet}
 use Rattle.scene_model.specs.World.{World, mask_at, component_of}
 use Rattle.scene_pass.specs.declared.cell_name.CellName.{CellName}
-use Rattle.scene_rules.specs.declared.filter.Filter.{Filter}
-use Rattle.scene_rules.specs.Filter.{is_match}
+use Rattle.scene_systems.specs.declared.filter.Filter.{Filter}
+use Rattle.scene_systems.specs.Filter.{is_match}
 
 -- an entity is alive, and its kind set matches
 abbrev pub Matches : World → Filter → Entity → Type 0

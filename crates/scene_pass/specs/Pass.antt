@@ -7,9 +7,9 @@ use Rattle.scene_kinds.specs.declared.cells.Row.{Row}
 use Rattle.scene_kinds.specs.KindSet.{KindSet}
 use Rattle.scene_model.specs.World.{World, kind_sets}
 use Rattle.scene_table.specs.Tables.{rows_at}
-use Rattle.scene_rules.specs.declared.filter.Filter.{Filter}
+use Rattle.scene_systems.specs.declared.filter.Filter.{Filter}
 use Rattle.scene_pass.specs.declared.cell_name.CellName.{CellName}
-use Rattle.scene_rules.specs.Filter.{is_match}
+use Rattle.scene_systems.specs.Filter.{is_match}
 
 -- the rows of a kind set where the filter matches it
 abbrev pub rows_in : World → Filter → KindSet → List Row

@@ -9,7 +9,7 @@ ghost use Rattle.scene_pass.specs.Since.{is_since};
 use crate::cell_name::CellName;
 use crate::tables::matching_tables;
 use scene_kinds::CellRef;
-use scene_rules::Filter;
+use scene_systems::Filter;
 use scene_table::Table;
 use scene_world::World;
 use std::alloc::{AllocError, Global};

@@ -9,7 +9,7 @@ use crate::row_change::{Outcome, RowChange};
 use crate::row_in_place::RowInPlace;
 use crate::written::{do_step, written_of};
 use scene_commands::Components;
-use scene_rules::RowStep;
+use scene_systems::RowStep;
 use std::alloc::{AllocError, Global};
 
 /// The steps in order over the values that they write, up to the first whose sum doesn't fit.

@@ -7,7 +7,7 @@ use crate::row_change::RowChange;
 use crate::row_in_place::RowInPlace;
 use crate::tables::matching_tables;
 use rayon::prelude::*;
-use scene_rules::{Filter, RowStep};
+use scene_systems::{Filter, RowStep};
 use scene_table::Table;
 use scene_world::World;
 use std::alloc::{AllocError, Global};

@@ -5,7 +5,7 @@ ghost use Rattle.scene_pass.specs.Pass.{matching};
 
 use crate::tables::matching_tables;
 use scene_kinds::Entity;
-use scene_rules::Filter;
+use scene_systems::Filter;
 use scene_table::Table;
 use scene_world::World;
 use std::alloc::{AllocError, Global};

@@ -5,7 +5,7 @@ ghost use Rattle.scene_kinds.specs.declared.entity.Entity.{Entity};
 ghost use Rattle.scene_model.specs.World.{World};
 ghost use Rattle.scene_model.specs.Valid.{IsValid};
 ghost use Rattle.scene_pass.specs.declared.cell_name.CellName.{CellName};
-ghost use Rattle.scene_rules.specs.declared.filter.Filter.{Filter};
+ghost use Rattle.scene_systems.specs.declared.filter.Filter.{Filter};
 ghost use Rattle.scene_pass.specs.Listed.{Matches, IsCellWhere};
 ghost use Rattle.scene_pass.specs.Pass.{matching, changed_since, added_since};
 ghost use Rattle.scene_pass.specs.Changes.{change_of, changes, first_fault};

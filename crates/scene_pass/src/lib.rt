@@ -8,7 +8,7 @@
 //! `map_rows` and `map_rows_alone` answer what the writing steps of a system make of each matching row, and `first_fault`
 //! the first sum among these that doesn't fit. The first parts large tables among threads, and answers what the second does.
 //!
-//! `specs/Filter.antt` of scene_rules says what a filter matches, `specs/Pass.antt` what each pass lists, and
+//! `specs/Filter.antt` of scene_systems says what a filter matches, `specs/Pass.antt` what each pass lists, and
 //! `specs/Changes.antt` what row steps make of rows. `worked_passes` and `worked_changes` have those definitions compute
 //! over a small world and a row. Of the laws, `filters_say_each_kind` has the meaning of a filter kind by kind, and
 //! `passes_list_just_what_matches` that of the lists in the words of a world's readers.
@@ -37,4 +37,4 @@ pub use fault::first_fault;
 pub use laws::{passes_list_just_what_matches, worked_changes, worked_passes};
 pub use row_change::{Outcome, RowChange};
 pub use row_copies::rows;
-pub use scene_rules::{Filter, RowStep};
+pub use scene_systems::{Filter, RowStep};

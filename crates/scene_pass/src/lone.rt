@@ -8,7 +8,7 @@ use crate::row_in_place::RowInPlace;
 use crate::sums::value_sum;
 use scene_commands::Components;
 use scene_kinds::Value;
-use scene_rules::RowStep;
+use scene_systems::RowStep;
 use std::alloc::{AllocError, Global};
 
 /// A value of a kind as all that is written. The list has room for it alone.

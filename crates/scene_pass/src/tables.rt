@@ -3,7 +3,7 @@ ghost use Rattle.std.specs.Prelude.{◌≡◌, IfOk};
 ghost use Rattle.std.specs.List.{flat_map};
 ghost use Rattle.scene_pass.specs.Pass.{matching_rows};
 
-use scene_rules::Filter;
+use scene_systems::Filter;
 use scene_table::Table;
 use scene_world::World;
 use std::alloc::AllocError;

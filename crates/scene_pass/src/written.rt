@@ -3,14 +3,14 @@ ghost use Rattle.std.specs.Prelude.{◌≡◌, ◌<◌, ◌+◌, ◌++◌, Some,
 ghost use Rattle.std.specs.Ordering.{nat_cmp};
 ghost use Rattle.std.specs.FinMap.Entries.{find};
 ghost use Rattle.scene_kinds.specs.declared.value.Value.TheVariants.{Int};
-ghost use Rattle.scene_rules.specs.RowStep.{is_written};
+ghost use Rattle.scene_systems.specs.RowStep.{is_written};
 ghost use Rattle.scene_pass.specs.Changes.{values_of};
 ghost use Rattle.scene_pass.specs.InPlace.{written_of, place_of, value_or, sum_at, put_sum, added_in, step_in};
 
 use crate::row_in_place::RowInPlace;
 use crate::sums::value_sum;
 use scene_kinds::Value;
-use scene_rules::RowStep;
+use scene_systems::RowStep;
 use std::alloc::{AllocError, Global};
 
 /// Whether one of the steps writes a kind.

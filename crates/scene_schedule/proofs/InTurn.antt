@@ -7,7 +7,7 @@ use Rattle.scene_model.specs.World.{World}
 use Rattle.scene_model.specs.Commands.{and_then}
 use Rattle.scene_model.specs.Perform.{perform}
 use Rattle.scene_model.specs.Valid.{IsValid}
-use Rattle.scene_rules.specs.declared.system_rule.SystemRule.{SystemRule}
+use Rattle.scene_systems.specs.declared.system_rule.SystemRule.{SystemRule}
 use Rattle.scene_pass.specs.Changes.{first_fault}
 use Rattle.scene_schedule.specs.Schedule.{touches}
 use Rattle.scene_schedule.specs.Sound.{AreApart}

@@ -11,7 +11,7 @@ use Rattle.scene_model.specs.World.{World}
 use Rattle.scene_model.specs.Perform.{perform}
 use Rattle.scene_model.specs.Valid.{IsValid}
 use Rattle.scene_queue.specs.Queue.{QueueState}
-use Rattle.scene_rules.specs.declared.system_rule.SystemRule.{SystemRule}
+use Rattle.scene_systems.specs.declared.system_rule.SystemRule.{SystemRule}
 use Rattle.scene_schedule.specs.declared.output.PhaseOutput.{PhaseOutput}
 use Rattle.scene_schedule.specs.AtOnce.{Overflows, output_of, first_overflow, refused_or}
 use Rattle.scene_schedule.specs.Output.{IsOutputOf}

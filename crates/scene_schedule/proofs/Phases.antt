@@ -16,7 +16,7 @@ use Rattle.scene_world.specs.Stage.{Staged, Note, act}
 use Rattle.scene_queue.specs.Queue.{QueueState}
 use Rattle.scene_queue.specs.Frames.{frame_of, on_world}
 use Rattle.scene_queue.specs.Requests.{requests}
-use Rattle.scene_rules.specs.declared.system_rule.SystemRule.{SystemRule}
+use Rattle.scene_systems.specs.declared.system_rule.SystemRule.{SystemRule}
 use Rattle.scene_schedule.specs.declared.output.PhaseOutput.{PhaseOutput}
 use Rattle.scene_schedule.specs.Schedule.{ScheduleState, IsSchedule}
 use Rattle.scene_schedule.specs.Sound.{IsSoundPhase}

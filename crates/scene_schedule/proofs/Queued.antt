@@ -15,10 +15,10 @@ use Rattle.scene_commands.specs.declared.command.Command.TheVariants.{Spawn, Des
 use Rattle.scene_commands.specs.declared.target.Target.TheVariants.{Id, New}
 use Rattle.scene_model.specs.World.{World}
 use Rattle.scene_queue.specs.Queue.{spawns, spawned_by}
-use Rattle.scene_rules.specs.declared.row_step.RowStep.{RowStep}
-use Rattle.scene_rules.specs.declared.step.Step.{Step}
-use Rattle.scene_rules.specs.declared.step.Step.TheVariants.{Row as Writing, DespawnAtZero, SpawnChild, CountInto}
-use Rattle.scene_rules.specs.declared.system_rule.SystemRule.{SystemRule}
+use Rattle.scene_systems.specs.declared.row_step.RowStep.{RowStep}
+use Rattle.scene_systems.specs.declared.step.Step.{Step}
+use Rattle.scene_systems.specs.declared.step.Step.TheVariants.{Row as Writing, DespawnAtZero, SpawnChild, CountInto}
+use Rattle.scene_systems.specs.declared.system_rule.SystemRule.{SystemRule}
 use Rattle.scene_pass.specs.declared.row_change.RowChange.{RowChange}
 use Rattle.scene_pass.specs.Changes.{first_fault}
 use Rattle.scene_schedule.specs.Systems.{row_steps, changes_of, overflow_at, is_zero_value}

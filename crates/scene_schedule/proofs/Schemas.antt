@@ -22,7 +22,7 @@ use Rattle.scene_model.specs.Perform.{Command, Spawn, Despawn, DespawnRecursive,
 use Rattle.scene_machine.specs.Queue.{Request, Progress, Ended, reached, and_spawned, act_known, request, unless_refused, play_from, play}
 use Rattle.scene_machine.specs.Frame.{all_or_refused, queue, queues_from}
 use Rattle.scene_queue.specs.Requests.{requests}
-use Rattle.scene_rules.specs.declared.system_rule.SystemRule.{SystemRule}
+use Rattle.scene_systems.specs.declared.system_rule.SystemRule.{SystemRule}
 use Rattle.scene_pass.specs.Changes.{first_fault}
 use Rattle.scene_schedule.specs.Systems.{changes_of, writes_of, queued_by, unless_over, system, systems_from, phase, in_phase}
 

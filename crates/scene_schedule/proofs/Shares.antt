@@ -9,7 +9,7 @@ use Rattle.std.proofs.Math.Seq.{get_or-append_seam}
 use Rattle.scene_kinds.specs.Answers.{refusal_of}
 use Rattle.scene_kinds.specs.declared.fault.Fault.TheVariants.{NoMemory}
 use Rattle.scene_model.specs.World.{World}
-use Rattle.scene_rules.specs.declared.system_rule.SystemRule.{SystemRule}
+use Rattle.scene_systems.specs.declared.system_rule.SystemRule.{SystemRule}
 use Rattle.scene_schedule.specs.AtOnce.{IsMadeOf, Overflows}
 use Rattle.scene_schedule.specs.Turns.{Made, Passed, IsMade, IsTurn, AreTurns, AreLeft, turn_in, emptied}
 

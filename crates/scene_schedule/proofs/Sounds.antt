@@ -6,7 +6,7 @@ use Rattle.std.proofs.lemmas.Bool.{and_parts, and_from}
 use Rattle.std.proofs.lemmas.Bool.Decides.{nat_tests}
 use Rattle.scene_kinds.specs.declared.fault.Fault.TheVariants.{BadRule, Conflict}
 use Rattle.scene_kinds.specs.Schema.{Kinds}
-use Rattle.scene_rules.specs.declared.system_rule.SystemRule.{SystemRule}
+use Rattle.scene_systems.specs.declared.system_rule.SystemRule.{SystemRule}
 use Rattle.scene_schedule.specs.Schedule.{ScheduleState, IsSchedule, is_good_rule, bad_in_phase, bad_from, clash, clash_among, clash_in_phase, clash_from}
 use Rattle.scene_schedule.specs.Sound.{IsSound}
 use Rattle.scene_schedule.proofs.Apart.{clear_apart, apart_clear}

@@ -11,7 +11,7 @@ use Rattle.scene_machine.specs.Queue.{Request, play}
 use Rattle.scene_machine.specs.Frame.{all_or_refused, queue, queues_from}
 use Rattle.scene_world.specs.Stage.{Staged, Note, act}
 use Rattle.scene_queue.specs.Frames.{on_world}
-use Rattle.scene_rules.specs.declared.system_rule.SystemRule.{SystemRule}
+use Rattle.scene_systems.specs.declared.system_rule.SystemRule.{SystemRule}
 use Rattle.scene_pass.specs.Changes.{first_fault}
 use Rattle.scene_schedule.specs.Systems.{SystemOutput, changes_of, writes_of, queued_by, unless_over, overflow_at, system, systems_from}
 

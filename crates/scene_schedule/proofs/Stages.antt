@@ -12,7 +12,7 @@ use Rattle.scene_world.specs.Stage.{Staged, Note, act}
 use Rattle.scene_queue.specs.Frames.{seen_as, on_world}
 use Rattle.scene_queue.specs.Requests.{requests}
 use Rattle.scene_queue.proofs.Worlds.{act_world, then_seen, queue_seen, queues_seen}
-use Rattle.scene_rules.specs.declared.system_rule.SystemRule.{SystemRule}
+use Rattle.scene_systems.specs.declared.system_rule.SystemRule.{SystemRule}
 use Rattle.scene_pass.specs.Changes.{first_fault}
 use Rattle.scene_schedule.specs.Schedule.{ScheduleState, same_kinds}
 use Rattle.scene_schedule.specs.Systems.{changes_of, writes_of, unless_over, system, systems_from, phase, in_phase, phases_from, if_for, advance_of}

@@ -31,12 +31,12 @@ use Rattle.scene_model.specs.Valid.{IsValid, IsRowOf}
 use Rattle.scene_model.proofs.MoveKeeps.{with_tables}
 use Rattle.scene_model.proofs.RowKinds.{fits_known}
 use Rattle.scene_model.proofs.RowOf.{row_stands}
-use Rattle.scene_rules.specs.declared.filter.Filter.{Filter}
-use Rattle.scene_rules.specs.declared.row_step.RowStep.{RowStep}
-use Rattle.scene_rules.specs.declared.step.Step.{Step}
-use Rattle.scene_rules.specs.declared.step.Step.TheVariants.{Row as Writing, DespawnAtZero, SpawnChild, CountInto}
-use Rattle.scene_rules.specs.declared.system_rule.SystemRule.{SystemRule}
-use Rattle.scene_rules.specs.Filter.{is_match}
+use Rattle.scene_systems.specs.declared.filter.Filter.{Filter}
+use Rattle.scene_systems.specs.declared.row_step.RowStep.{RowStep}
+use Rattle.scene_systems.specs.declared.step.Step.{Step}
+use Rattle.scene_systems.specs.declared.step.Step.TheVariants.{Row as Writing, DespawnAtZero, SpawnChild, CountInto}
+use Rattle.scene_systems.specs.declared.system_rule.SystemRule.{SystemRule}
+use Rattle.scene_systems.specs.Filter.{is_match}
 use Rattle.scene_pass.specs.declared.row_change.RowChange.{RowChange}
 use Rattle.scene_pass.specs.Pass.{rows_in, matching_rows}
 use Rattle.scene_pass.specs.Changes.{Values, values_of, after_steps, outcome_of, change_of, first_fault}

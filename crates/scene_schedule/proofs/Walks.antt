@@ -10,8 +10,8 @@ use Rattle.std.proofs.lemmas.List.{drop_more}
 use Rattle.std.proofs.lemmas.List.Elements.{All-cons, All-nil}
 use Rattle.scene_kinds.specs.declared.fault.Fault.TheVariants.{BadRule, Conflict}
 use Rattle.scene_kinds.specs.Schema.{Kinds}
-use Rattle.scene_rules.specs.declared.step.Step.{Step}
-use Rattle.scene_rules.specs.declared.system_rule.SystemRule.{SystemRule}
+use Rattle.scene_systems.specs.declared.step.Step.{Step}
+use Rattle.scene_systems.specs.declared.system_rule.SystemRule.{SystemRule}
 use Rattle.scene_schedule.specs.Schedule.{is_row, writes_first, is_good_rule, bad_in_phase, bad_from, clash, clash_among}
 
 -- what is left of a list at a place that a walk has come to

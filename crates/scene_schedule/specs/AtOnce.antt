@@ -15,9 +15,9 @@ use Rattle.scene_commands.specs.declared.target.Target.TheVariants.{Id, New}
 use Rattle.scene_model.specs.World.{World, component_of}
 use Rattle.scene_model.specs.Perform.{perform}
 use Rattle.scene_model.specs.Valid.{IsValid}
-use Rattle.scene_rules.specs.declared.step.Step.{Step}
-use Rattle.scene_rules.specs.declared.step.Step.TheVariants.{Row, DespawnAtZero, SpawnChild, CountInto}
-use Rattle.scene_rules.specs.declared.system_rule.SystemRule.{SystemRule}
+use Rattle.scene_systems.specs.declared.step.Step.{Step}
+use Rattle.scene_systems.specs.declared.step.Step.TheVariants.{Row, DespawnAtZero, SpawnChild, CountInto}
+use Rattle.scene_systems.specs.declared.system_rule.SystemRule.{SystemRule}
 use Rattle.scene_pass.specs.declared.row_change.RowChange.{RowChange}
 use Rattle.scene_pass.specs.declared.row_change.Outcome.{Outcome as RowOutcome}
 use Rattle.scene_pass.specs.declared.row_change.Outcome.TheVariants.{Changed, Overflow as SumsOver}

@@ -9,7 +9,7 @@ use Rattle.scene_kinds.specs.declared.refusal.Refusal.{Refusal}
 use Rattle.scene_model.specs.World.{World}
 use Rattle.scene_model.specs.Perform.{perform}
 use Rattle.scene_world.specs.Room.{Housed}
-use Rattle.scene_rules.specs.declared.system_rule.SystemRule.{SystemRule}
+use Rattle.scene_systems.specs.declared.system_rule.SystemRule.{SystemRule}
 use Rattle.scene_schedule.specs.declared.output.PhaseOutput.{PhaseOutput}
 use Rattle.scene_schedule.specs.Output.{IsOutputOf}
 use Rattle.scene_schedule.specs.Sound.{IsSoundPhase}

@@ -4,10 +4,10 @@ use Rattle.std.specs.List.{range_with_len}
 use Rattle.scene_kinds.specs.declared.shape.Shape.TheVariants as shape
 use Rattle.scene_kinds.specs.KindSet.{KindSet}
 use Rattle.scene_kinds.specs.Schema.{Kinds}
-use Rattle.scene_rules.specs.declared.row_step.RowStep.TheVariants.{AddVec, AddInt}
-use Rattle.scene_rules.specs.declared.step.Step.{Step}
-use Rattle.scene_rules.specs.declared.step.Step.TheVariants.{Row, DespawnAtZero, CountInto}
-use Rattle.scene_rules.specs.declared.system_rule.SystemRule.{SystemRule}
+use Rattle.scene_systems.specs.declared.row_step.RowStep.TheVariants.{AddVec, AddInt}
+use Rattle.scene_systems.specs.declared.step.Step.{Step}
+use Rattle.scene_systems.specs.declared.step.Step.TheVariants.{Row, DespawnAtZero, CountInto}
+use Rattle.scene_systems.specs.declared.system_rule.SystemRule.{SystemRule}
 
 -- the vectors P and V, which are kinds 0 and 1, and the number N, which is kind 2
 abbrev pub three_kinds : Kinds

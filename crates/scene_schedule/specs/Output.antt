@@ -5,7 +5,7 @@ use Rattle.scene_model.specs.World.{World}
 use Rattle.scene_model.specs.Perform.{perform}
 use Rattle.scene_machine.specs.Frame.{queues_from}
 use Rattle.scene_world.specs.Stage.{Staged, Note, act}
-use Rattle.scene_rules.specs.declared.system_rule.SystemRule.{SystemRule}
+use Rattle.scene_systems.specs.declared.system_rule.SystemRule.{SystemRule}
 use Rattle.scene_pass.specs.declared.row_change.RowChange.{RowChange}
 use Rattle.scene_schedule.specs.Systems.{SystemOutput, systems_from, writes_of}
 use Rattle.scene_schedule.specs.declared.output.PhaseOutput.{PhaseOutput}

@@ -1,7 +1,7 @@
 -- What a schedule promises, of each phase, of each system and of each two systems.
 use Rattle.std.specs.Prelude.{◌≡◌, ◌≤◌, ◌<◌, ℕ, List, Some, IsTrue, length, slice_get}
 use Rattle.scene_kinds.specs.Schema.{Kinds}
-use Rattle.scene_rules.specs.declared.system_rule.SystemRule.{SystemRule}
+use Rattle.scene_systems.specs.declared.system_rule.SystemRule.{SystemRule}
 use Rattle.scene_schedule.specs.Schedule.{writes, touches, is_good_rule}
 
 -- neither of two systems writes a kind that the other reads or writes

@@ -6,7 +6,7 @@ use Rattle.scene_kinds.specs.declared.fault.Fault.TheVariants.{NoMemory}
 use Rattle.scene_kinds.specs.declared.refusal.Refusal.{Refusal}
 use Rattle.scene_model.specs.World.{World}
 use Rattle.scene_queue.specs.Queue.{QueueState}
-use Rattle.scene_rules.specs.declared.system_rule.SystemRule.{SystemRule}
+use Rattle.scene_systems.specs.declared.system_rule.SystemRule.{SystemRule}
 use Rattle.scene_pass.specs.declared.row_change.RowChange.{RowChange}
 use Rattle.scene_schedule.specs.AtOnce.{IsMadeOf, Overflows}
 

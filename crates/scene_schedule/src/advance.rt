@@ -15,7 +15,7 @@ use crate::schedule::Schedule;
 use crate::write::write_all;
 use scene_kinds::{Entity, Fault, Place, Refusal};
 use scene_queue::apply_all;
-use scene_rules::SystemRule;
+use scene_systems::SystemRule;
 use scene_world::{Frame, Stage, World};
 use std::alloc::Global;
 

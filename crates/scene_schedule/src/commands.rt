@@ -13,7 +13,7 @@ use scene_commands::{Command, Components, Target};
 use scene_kinds::{Entity, Fault, Refusal, Text, Value};
 use scene_pass::RowChange;
 use scene_queue::Queue;
-use scene_rules::Step;
+use scene_systems::Step;
 use scene_world::World;
 use std::alloc::Global;
 

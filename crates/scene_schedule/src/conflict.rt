@@ -3,7 +3,7 @@ ghost use Rattle.std.specs.Prelude.{◌≡◌, ◌≤◌, ◌<◌, ◌+◌, leng
 ghost use Rattle.scene_schedule.specs.Schedule.{step_touches, touches, step_disturbs, disturbs, clash, clash_among, clash_in_phase, clash_from};
 
 use scene_kinds::Fault;
-use scene_rules::{Phase, RowStep, Step, SystemRule};
+use scene_systems::{Phase, RowStep, Step, SystemRule};
 
 /// Whether a step reads a kind, or writes it.
 fn step_touches(kind: u8, step: &Step) -> bool

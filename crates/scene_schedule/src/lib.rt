@@ -39,6 +39,6 @@ pub use laws::{
 };
 pub use output::{PhaseOutput, RowChanges};
 pub use runner::{Alone, RunBy, run_shared};
-pub use scene_rules::{Step, SystemRule};
+pub use scene_systems::{Step, SystemRule};
 pub use schedule::{Schedule, clone_phases, same_schema};
 pub use schedule_phase::{run_phase, run_phase_alone};

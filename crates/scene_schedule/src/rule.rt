@@ -5,7 +5,7 @@ ghost use Rattle.scene_schedule.specs.Schedule.{knows, is_ready, is_good_step, i
 
 use crate::cells::can_spawn;
 use scene_kinds::{Fault, KindSet, KindSetMethods, Schema, Shape, good_name};
-use scene_rules::{Phase, RowStep, Step, SystemRule};
+use scene_systems::{Phase, RowStep, Step, SystemRule};
 
 /// How many steps a system may have.
 const MOST_STEPS: usize = 16;

@@ -13,7 +13,7 @@ use crate::output::PhaseOutput;
 use crate::systems::run_systems_alone;
 use crate::workers::run_systems;
 use scene_kinds::Refusal;
-use scene_rules::SystemRule;
+use scene_systems::SystemRule;
 use scene_world::World;
 use std::alloc::Global;
 use std::thread::Threads;

@@ -7,7 +7,7 @@ ghost use Rattle.scene_schedule.specs.Schedule.{ScheduleState, IsSchedule, sched
 use crate::conflict::first_clash;
 use crate::rule::first_bad;
 use scene_kinds::{Fault, Refusal, Schema};
-use scene_rules::Phase;
+use scene_systems::Phase;
 use std::alloc::{AllocError, Global};
 use std::marker::Model;
 

@@ -13,7 +13,7 @@ use crate::output::{PhaseOutput, RowChanges};
 use scene_kinds::{Entity, Fault, Place, Refusal};
 use scene_pass::{RowChange, first_fault, map_rows_alone};
 use scene_queue::Queue;
-use scene_rules::{RowStep, Step, SystemRule};
+use scene_systems::{RowStep, Step, SystemRule};
 use scene_world::World;
 use std::alloc::{AllocError, Global};
 

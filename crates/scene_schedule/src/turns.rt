@@ -8,7 +8,7 @@ use crate::output::RowChanges;
 use crate::systems::system_output;
 use scene_kinds::Refusal;
 use scene_queue::Queue;
-use scene_rules::SystemRule;
+use scene_systems::SystemRule;
 use std::alloc::{AllocError, Global};
 use std::marker::Model;
 

@@ -14,7 +14,7 @@ use crate::output::{PhaseOutput, RowChanges};
 use crate::turns::{Turns, make_turns};
 use scene_kinds::{Fault, Refusal};
 use scene_queue::Queue;
-use scene_rules::SystemRule;
+use scene_systems::SystemRule;
 use scene_world::World;
 use std::alloc::{AllocError, Global};
 use std::thread;

@@ -1,8 +1,8 @@
 //! Which schemas a schedule is for.
 use scene_commands::Components;
 use scene_kinds::{KindSet, Refusal, Schema, Shape, Text, Value};
-use scene_rules::{Filter, Phase, RowStep, Step, Steps, SystemRule};
 use scene_schedule::{Schedule, same_schema};
+use scene_systems::{Filter, Phase, RowStep, Step, Steps, SystemRule};
 use std::alloc::Global;
 use std::process::Abort;
 use std::test::*;

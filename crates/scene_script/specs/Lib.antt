@@ -2,7 +2,6 @@ pub mod Begins
 pub mod Cells
 pub mod Forms
 pub mod Numbers
-pub mod Printed
 pub mod Reading
 pub mod Script
 pub mod Systems

@@ -5,11 +5,11 @@ use Rattle.std.specs.Str.{bytes_eq}
 use Rattle.scene_kinds.specs.declared.value.Value.{Value}
 use Rattle.scene_kinds.specs.KindSet.{KindSet, set_with}
 use Rattle.scene_kinds.specs.Schema.{Kinds}
-use Rattle.scene_rules.specs.declared.filter.Filter.{Filter}
-use Rattle.scene_rules.specs.declared.row_step.RowStep.TheVariants.{AddVec, AddInt}
-use Rattle.scene_rules.specs.declared.step.Step.{Step}
-use Rattle.scene_rules.specs.declared.step.Step.TheVariants.{Row, DespawnAtZero, SpawnChild, CountInto}
-use Rattle.scene_rules.specs.declared.system_rule.SystemRule.{SystemRule}
+use Rattle.scene_systems.specs.declared.filter.Filter.{Filter}
+use Rattle.scene_systems.specs.declared.row_step.RowStep.TheVariants.{AddVec, AddInt}
+use Rattle.scene_systems.specs.declared.step.Step.{Step}
+use Rattle.scene_systems.specs.declared.step.Step.TheVariants.{Row, DespawnAtZero, SpawnChild, CountInto}
+use Rattle.scene_systems.specs.declared.system_rule.SystemRule.{SystemRule}
 use Rattle.scene_script.specs.declared.bad_line.BadLine.{BadLine}
 use Rattle.scene_script.specs.declared.bad_line.BadLine.TheVariants as bad
 use Rattle.scene_script.specs.Words.{cut_at}

@@ -14,7 +14,6 @@ mod form;
 mod limit;
 mod line;
 mod number;
-mod print;
 mod script_line;
 mod session_number;
 mod system;
@@ -27,9 +26,6 @@ pub use form::Form;
 pub use limit::Limit;
 pub use line::first_line;
 pub use number::{read_count, read_entity, read_number};
-pub use print::{
-    write_cell, write_json_text, write_refusal, write_row_cell, write_row_head, write_value,
-};
 pub use script_line::{Line, read_line};
 pub use session_number::SessionNumber;
 pub use target::read_target;

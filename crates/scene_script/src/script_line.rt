@@ -15,7 +15,7 @@ use crate::word::behind_first;
 use crate::words::Words;
 use scene_commands::Command;
 use scene_kinds::{Entity, Schema, Shape, Text};
-use scene_rules::SystemRule;
+use scene_systems::SystemRule;
 use std::alloc::{AllocError, Global};
 
 /// The meaning of a line (docs/SCRIPTS.md, "Lines").

@@ -10,7 +10,7 @@ use crate::word::{cut, parts};
 use crate::words::Words;
 use scene_commands::Components;
 use scene_kinds::{KindSet, Schema, Value, set_with};
-use scene_rules::{Filter, RowStep, Step, Steps, SystemRule};
+use scene_systems::{Filter, RowStep, Step, Steps, SystemRule};
 use std::alloc::{AllocError, Global};
 
 /// Whether a word is this part of a filter, `need` or `without`: the name and then `=`.

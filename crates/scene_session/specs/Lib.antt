@@ -1,8 +1,13 @@
-pub mod History
+pub mod AllPasses
 pub mod Calls
-pub mod Whole
 pub mod Codes
-pub mod State
+pub mod History
+pub mod Owner
+pub mod OwnerCodes
+pub mod Ownership
+pub mod Passes
+pub mod Performed
 pub mod Queries
 pub mod Session
-pub mod Hand
+pub mod State
+pub mod Whole

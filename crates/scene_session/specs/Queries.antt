@@ -6,7 +6,7 @@ use Rattle.scene_kinds.specs.declared.refusal.Refusal.{Refusal}
 use Rattle.scene_kinds.specs.Answers.{refusal_of}
 use Rattle.scene_model.specs.World.{World}
 use Rattle.scene_machine.specs.Machine.{Machine}
-use Rattle.scene_rules.specs.declared.filter.Filter.{Filter}
+use Rattle.scene_systems.specs.declared.filter.Filter.{Filter}
 use Rattle.scene_pass.specs.declared.cell_name.CellName.{CellName}
 use Rattle.scene_undo.specs.declared.cursor.Cursor.{Cursor}
 use Rattle.scene_undo.specs.Cursor.{since}

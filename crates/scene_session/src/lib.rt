@@ -6,24 +6,31 @@
 //! about a state, and an `EditorQuery` one about an editor.
 //!
 //! A `Session` performs calls and asks queries through one pass of a `WordLock` over the state, beside the sessions of other
-//! threads. Who has the passes of all sessions performs and asks by `perform_in_hand` and `ask_in_hand`, and knows that no
+//! threads. Who has the passes of all sessions performs and asks by `perform_with_all` and `ask_with_all`, and knows that no
 //! other call came between. docs/SESSIONS.md has all this in words.
 #![tactic(auto)]
 
+mod all_passes;
+mod alone;
 mod call;
 mod entry;
 mod given;
-mod hand;
 mod job;
+mod log;
+mod owner;
+mod performer;
 mod query;
 mod session;
+mod shared;
 mod state;
 mod step;
 
+pub use all_passes::{ask_with_all, perform_with_all};
 pub use call::{Call, Reply, Stopped};
 pub use entry::Entry;
 pub use given::{AddedSince, ChangedSince, CursorNow, RowsOf};
-pub use hand::{ask_in_hand, perform_in_hand};
+pub use owner::SessionOwner;
+pub use performer::{OnThreads, Performer, ThisThread};
 pub use query::{EditorQuery, Query};
 pub use scene_undo::Cursor;
 pub use session::Session;

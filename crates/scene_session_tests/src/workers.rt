@@ -4,8 +4,8 @@ ghost use Rattle.scene_schedule.specs.Sound.{IsSoundPhase};
 
 use scene_kinds::Refusal;
 use scene_lock_tests::Gate;
-use scene_rules::SystemRule;
 use scene_schedule::{Advance, PhaseOutput, RunBy, Schedule, run_shared};
+use scene_systems::SystemRule;
 use scene_undo::{Editor, Made};
 use scene_world::World;
 use std::alloc::Global;

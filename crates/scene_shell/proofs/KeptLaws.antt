@@ -11,59 +11,59 @@ use Rattle.std.proofs.lemmas.List.Elements.{All-nil}
 use Rattle.std.proofs.lemmas.List.Sums.{fold-append}
 use Rattle.scene_shell.specs.declared.fault.AppFault.{AppFault}
 use Rattle.scene_shell.specs.declared.fault.AppFault.TheVariants.{NoMemory, ReadFault, WriteFault, TooLong}
-use Rattle.scene_player.specs.Player.{Player, player_reply}
-use Rattle.scene_player.specs.Changes.{frame_is_open}
+use Rattle.scene_interpreter.specs.Interpreter.{Interpreter, interpreter_reply}
+use Rattle.scene_interpreter.specs.Changes.{frame_is_open}
 use Rattle.scene_shell.specs.declared.kept_fault.KeptFault.{KeptFault}
 use Rattle.scene_shell.specs.declared.kept_fault.KeptFault.TheVariants.{Ended, Keep}
-use Rattle.scene_shell.specs.Shell.{AddsAnswer, Answers, AnswerStyle, HasSaid, IsSaid, Parts, Stops, StopsWith, bad_count, player_after}
+use Rattle.scene_shell.specs.Shell.{AddsAnswer, Answers, AnswerStyle, HasSaid, IsSaid, Parts, Stops, StopsWith, bad_count, interpreter_after}
 use Rattle.scene_shell.specs.Kept.{Continues, EndsAs, Grows, IsSettled, Keeping, MaySend, StaysKept, StopsBy, behind, kept_after, kept_line, kept_of, noted, released, starting}
 use Rattle.scene_shell.specs.Waits.{FailsToSettle, HasCome, IsBad, IsPlayed, IsStop, IsUnread, LeadsTo, MaySettle}
 use Rattle.scene_shell.proofs.Lines.{first_line_of}
 
-released_behind : (b : Bool) (p : Player) (t due held : List ℕ)
-    → ◌≡◌ {A = Keeping} (if b then record { player = p; due = t ++ due; held = held } else record { player = p; due = (t ++ due) ++ held; held = [] })
-    (behind t (if b then record { player = p; due = due; held = held } else record { player = p; due = due ++ held; held = [] }))
+released_behind : (b : Bool) (p : Interpreter) (t due held : List ℕ)
+    → ◌≡◌ {A = Keeping} (if b then record { interpreter = p; due = t ++ due; held = held } else record { interpreter = p; due = (t ++ due) ++ held; held = [] })
+    (behind t (if b then record { interpreter = p; due = due; held = held } else record { interpreter = p; due = due ++ held; held = [] }))
 released_behind true p t due held = refl
-released_behind false p t due held = ap (λ d. record { player = p; due = d; held = [] }) (append_assoc t due held)
+released_behind false p t due held = ap (λ d. record { interpreter = p; due = d; held = [] }) (append_assoc t due held)
 
 pub line_behind : (t : List ℕ) (k : Keeping) (l : List ℕ) → kept_line (behind t k) l ≡ behind t (kept_line k l)
 line_behind t k l =
-    let r = player_reply k.player l in
-    released_behind (frame_is_open r.player) r.player t k.due (noted k.player l k.held)
+    let r = interpreter_reply k.interpreter l in
+    released_behind (frame_is_open r.interpreter) r.interpreter t k.due (noted k.interpreter l k.held)
 
 -- ---- lists of lines
 
 -- answers to lines, and answers to the next ones
-said_append : (style : AnswerStyle) (p : Player) (xs ys : List (List ℕ)) (t u : List ℕ) → IsSaid style p xs t → IsSaid style (player_after p xs) ys u → IsSaid style p (xs ++ ys) (t ++ u)
+said_append : (style : AnswerStyle) (p : Interpreter) (xs ys : List (List ℕ)) (t u : List ℕ) → IsSaid style p xs t → IsSaid style (interpreter_after p xs) ys u → IsSaid style p (xs ++ ys) (t ++ u)
 said_append style p [] ys t u said next = subst (IsSaid style p ys) (ap (λ x. x ++ u) (sym said)) next
 said_append style p (x ∷ xs) ys t u said next =
-    let r = player_reply p x in
-    (said.0, said.1 ++ u, said.2, said_append style r.player xs ys said.1 u said.3 next, ap (λ z. z ++ u) said.4 ∙ append_assoc said.0 said.1 u)
+    let r = interpreter_reply p x in
+    (said.0, said.1 ++ u, said.2, said_append style r.interpreter xs ys said.1 u said.3 next, ap (λ z. z ++ u) said.4 ∙ append_assoc said.0 said.1 u)
 
-bad_append : (p : Player) (xs ys : List (List ℕ)) → bad_count p (xs ++ ys) ≡ bad_count p xs + bad_count (player_after p xs) ys
+bad_append : (p : Interpreter) (xs ys : List (List ℕ)) → bad_count p (xs ++ ys) ≡ bad_count p xs + bad_count (interpreter_after p xs) ys
 bad_append p [] ys = let none : bad_count p ys ≡ 0 + bad_count p ys = omega arith in none
 bad_append p (x ∷ xs) ys =
-    let r = player_reply p x in
-    let more = bad_append r.player xs ys in
+    let r = interpreter_reply p x in
+    let more = bad_append r.interpreter xs ys in
     let b = (if is_some r.bad then 1 else 0) in
-    let sum : b + bad_count r.player (xs ++ ys) ≡ (b + bad_count r.player xs) + bad_count (player_after r.player xs) ys = omega (arith, more) in
+    let sum : b + bad_count r.interpreter (xs ++ ys) ≡ (b + bad_count r.interpreter xs) + bad_count (interpreter_after r.interpreter xs) ys = omega (arith, more) in
     sum
 
-after_append : (p : Player) (xs ys : List (List ℕ)) → player_after p (xs ++ ys) ≡ player_after (player_after p xs) ys
+after_append : (p : Interpreter) (xs ys : List (List ℕ)) → interpreter_after p (xs ++ ys) ≡ interpreter_after (interpreter_after p xs) ys
 after_append p [] ys = refl
-after_append p (x ∷ xs) ys = after_append (player_reply p x).player xs ys
+after_append p (x ∷ xs) ys = after_append (interpreter_reply p x).interpreter xs ys
 
-released_player : (b : Bool) (p : Player) (due held : List ℕ)
-    → (cond {A = Keeping} b (record { player = p; due = due; held = held }) (record { player = p; due = due ++ held; held = [] })).player ≡ p
-released_player true p due held = refl
-released_player false p due held = refl
+released_interpreter : (b : Bool) (p : Interpreter) (due held : List ℕ)
+    → (cond {A = Keeping} b (record { interpreter = p; due = due; held = held }) (record { interpreter = p; due = due ++ held; held = [] })).interpreter ≡ p
+released_interpreter true p due held = refl
+released_interpreter false p due held = refl
 
--- what is kept follows the player
-kept_player : (k : Keeping) (ls : List (List ℕ)) → (kept_after k ls).player ≡ player_after k.player ls
-kept_player k [] = refl
-kept_player k (l ∷ ls) =
-    let r = player_reply k.player l in
-    kept_player (kept_line k l) ls ∙ ap (λ p. player_after p ls) (released_player (frame_is_open r.player) r.player k.due (noted k.player l k.held))
+-- what is kept follows the interpreter
+kept_interpreter : (k : Keeping) (ls : List (List ℕ)) → (kept_after k ls).interpreter ≡ interpreter_after k.interpreter ls
+kept_interpreter k [] = refl
+kept_interpreter k (l ∷ ls) =
+    let r = interpreter_reply k.interpreter l in
+    kept_interpreter (kept_line k l) ls ∙ ap (λ p. interpreter_after p ls) (released_interpreter (frame_is_open r.interpreter) r.interpreter k.due (noted k.interpreter l k.held))
 
 -- ---- the reader
 
@@ -143,17 +143,17 @@ Grows-trans keeps a b c x y z is first next text has =
 Grows-stays : {K : Type 0} (keeps : K → List ℕ → Type 0) (a b c : K) (x : List ℕ) → Grows keeps a b x → StaysKept keeps b c → Grows keeps a c x
 Grows-stays keeps a b c x first stays text has = stays (text ++ x) (first text has)
 
-module _ {K : Type 0} (keeps : K → List ℕ → Type 0) (contents : K → Option (List ℕ)) (begun : K → K → Player → AnswerStyle → Type 0)
-    (style : AnswerStyle) (first : Player) (start : K) (script : Option (List ℕ)) where
+module _ {K : Type 0} (keeps : K → List ℕ → Type 0) (contents : K → Option (List ℕ)) (begun : K → K → Interpreter → AnswerStyle → Type 0)
+    (style : AnswerStyle) (first : Interpreter) (start : K) (script : Option (List ℕ)) where
   abbrev Come : K → Option (List ℕ) → List ℕ → Keeping → List ℕ → ℕ → ℕ → Type 0
   Come now rest last keeping answers count number = HasCome keeps contents begun style first start now script rest last keeping answers count number
 
   -- before the first line
   pub comes_first : (due held answers : List ℕ) → due ≡ [] → held ≡ [] → answers ≡ [] → begun start start first style
-      → Come start script [] (record { player = first; due = due; held = held }) answers 0 1
+      → Come start script [] (record { interpreter = first; due = due; held = held }) answers 0 1
   comes_first due held answers none unheld nothing is_of =
-      subst (λ d. Come start script [] (record { player = first; due = d; held = held }) answers 0 1) (sym none)
-      (subst (λ h. Come start script [] (record { player = first; due = []; held = h }) answers 0 1) (sym unheld)
+      subst (λ d. Come start script [] (record { interpreter = first; due = d; held = held }) answers 0 1) (sym none)
+      (subst (λ h. Come start script [] (record { interpreter = first; due = []; held = h }) answers 0 1) (sym unheld)
       (subst (λ t. Come start script [] (starting first) t 0 1) (sym nothing) record {
         is_of = is_of;
         front = [];
@@ -169,22 +169,22 @@ module _ {K : Type 0} (keeps : K → List ℕ → Type 0) (contents : K → Opti
         numbered = refl;
       }))
 
-  -- the player is that of the lines so far
-  player_now : (front next : List (List ℕ)) (keeping : Keeping) → kept_after (starting first) (front ++ next) ≡ behind (kept_of first front) keeping
-      → player_after (player_after first front) next ≡ keeping.player
-  player_now front next keeping reached =
-      sym (after_append first front next) ∙ sym (kept_player (starting first) (front ++ next)) ∙ ap (λ (k : Keeping). k.player) reached
+  -- the interpreter is that of the lines so far
+  interpreter_now : (front next : List (List ℕ)) (keeping : Keeping) → kept_after (starting first) (front ++ next) ≡ behind (kept_of first front) keeping
+      → interpreter_after (interpreter_after first front) next ≡ keeping.interpreter
+  interpreter_now front next keeping reached =
+      sym (after_append first front next) ∙ sym (kept_interpreter (starting first) (front ++ next)) ∙ ap (λ (k : Keeping). k.interpreter) reached
 
   -- a line that is played and noted
   come_line : (l : List ℕ) (now : K) (rest more : Option (List ℕ)) (keeping : Keeping) (answers said : List ℕ) (count number : ℕ)
-      → AddsAnswer style keeping.player l answers said
+      → AddsAnswer style keeping.interpreter l answers said
       → (so : Come now rest [] keeping answers count number) → Parts script more ((so.front ++ so.next) ++ l ∷ []) []
-      → Come now more [] (kept_line keeping l) said (count + (if is_some (player_reply keeping.player l).bad then 1 else 0)) (number + 1)
+      → Come now more [] (kept_line keeping l) said (count + (if is_some (interpreter_reply keeping.interpreter l).bad then 1 else 0)) (number + 1)
   come_line l now rest more keeping answers said count number adds so parted =
       let next = so.next ++ l ∷ [] in
-      let player = player_now so.front so.next keeping so.reached in
+      let interpreter = interpreter_now so.front so.next keeping so.reached in
       let all : so.front ++ next ≡ (so.front ++ so.next) ++ l ∷ [] = sym (append_assoc so.front so.next (l ∷ [])) in
-      let bad : ℕ = (if is_some (player_reply keeping.player l).bad then 1 else 0) in
+      let bad : ℕ = (if is_some (interpreter_reply keeping.interpreter l).bad then 1 else 0) in
       record {
         is_of = so.is_of;
         front = so.front;
@@ -195,15 +195,15 @@ module _ {K : Type 0} (keeps : K → List ℕ → Type 0) (contents : K → Opti
         said = so.said;
         is_said = so.is_said;
         waits =
-            let one : IsSaid style keeping.player (l ∷ []) adds.0 = (adds.0, [], adds.1, refl, sym (append-nil adds.0)) in
-            subst (IsSaid style (player_after first so.front) next) (sym adds.2)
-            (said_append style (player_after first so.front) so.next (l ∷ []) answers adds.0 so.waits (subst (λ p. IsSaid style p (l ∷ []) adds.0) (sym player) one));
+            let one : IsSaid style keeping.interpreter (l ∷ []) adds.0 = (adds.0, [], adds.1, refl, sym (append-nil adds.0)) in
+            subst (IsSaid style (interpreter_after first so.front) next) (sym adds.2)
+            (said_append style (interpreter_after first so.front) so.next (l ∷ []) answers adds.0 so.waits (subst (λ p. IsSaid style p (l ∷ []) adds.0) (sym interpreter) one));
         reached =
             ap (kept_after (starting first)) all ∙ fold-append kept_line (starting first) (so.front ++ so.next) (l ∷ []) ∙ ap (λ k. kept_line k l) so.reached
             ∙ line_behind (kept_of first so.front) keeping l;
         counted =
-            let before : player_after first (so.front ++ so.next) ≡ keeping.player = after_append first so.front so.next ∙ player in
-            let more_bad : bad_count first (so.front ++ next) ≡ bad_count first (so.front ++ so.next) + bad_count keeping.player (l ∷ []) =
+            let before : interpreter_after first (so.front ++ so.next) ≡ keeping.interpreter = after_append first so.front so.next ∙ interpreter in
+            let more_bad : bad_count first (so.front ++ next) ≡ bad_count first (so.front ++ so.next) + bad_count keeping.interpreter (l ∷ []) =
             ap (bad_count first) all ∙ bad_append first (so.front ++ so.next) (l ∷ []) ∙ ap (λ p. bad_count first (so.front ++ so.next) + bad_count p (l ∷ [])) before in
             let is : count + bad ≡ bad_count first (so.front ++ so.next) + (bad + 0) = omega (arith, so.counted) in
             is ∙ sym more_bad;
@@ -216,7 +216,7 @@ module _ {K : Type 0} (keeps : K → List ℕ → Type 0) (contents : K → Opti
   pub comes_line : (now : K) (rest more : Option (List ℕ)) (keeping next : Keeping) (answers said : List ℕ) (count bad number : ℕ) (line : List ℕ)
       → Come now rest [] keeping answers count number
       → IfSome rest (λ r. line ≡ take_through 10 r) → DropsThrough rest more 10 → StopsAt line 10 → 0 < length line
-      → IsPlayed style line keeping next answers said → IsBad line keeping.player bad
+      → IsPlayed style line keeping next answers said → IsBad line keeping.interpreter bad
       → Come now more [] next said (count + bad) (number + 1)
   comes_line now rest more keeping next answers said count bad number line so taken left part some played is_bad =
       let it = first_line_of line some in
@@ -225,7 +225,7 @@ module _ {K : Type 0} (keeps : K → List ℕ → Type 0) (contents : K → Opti
       let did = played l [] one in
       let come = come_line l now rest more keeping answers said count number did.1 so (parts_line script rest more (so.front ++ so.next) line l one so.parted taken left some) in
       subst (λ n. Come now more [] next said (count + n) (number + 1)) (sym (is_bad l [] one))
-      (subst (λ k. Come now more [] k said (count + (if is_some (player_reply keeping.player l).bad then 1 else 0)) (number + 1)) (sym did.0) come)
+      (subst (λ k. Come now more [] k said (count + (if is_some (interpreter_reply keeping.interpreter l).bad then 1 else 0)) (number + 1)) (sym did.0) come)
 
   -- one that isn't played
   come_unplayed : (now : K) (rest more : Option (List ℕ)) (line : List ℕ) (keeping : Keeping) (answers said : List ℕ) (count number : ℕ)
@@ -271,15 +271,15 @@ module _ {K : Type 0} (keeps : K → List ℕ → Type 0) (contents : K → Opti
       }
 
   -- the same by its parts
-  pub comes_on : (now later : K) (rest : Option (List ℕ)) (last : List ℕ) (p : Player) (due held answers d h t : List ℕ) (count number : ℕ)
+  pub comes_on : (now later : K) (rest : Option (List ℕ)) (last : List ℕ) (p : Interpreter) (due held answers d h t : List ℕ) (count number : ℕ)
       → Grows keeps now later due → Appends (contents now) (contents later) answers → Continues begun now later → d ≡ [] → h ≡ held → t ≡ []
-      → Come now rest last (record { player = p; due = due; held = held }) answers count number
-      → Come later rest last (record { player = p; due = d; held = h }) t count number
+      → Come now rest last (record { interpreter = p; due = due; held = held }) answers count number
+      → Come later rest last (record { interpreter = p; due = d; held = h }) t count number
   comes_on now later rest last p due held answers d h t count number grew wrote goes_on none same nothing so =
-      subst (λ x. Come later rest last (record { player = p; due = x; held = h }) t count number) (sym none)
-      (subst (λ x. Come later rest last (record { player = p; due = []; held = x }) t count number) (sym same)
-      (subst (λ x. Come later rest last (record { player = p; due = []; held = held }) x count number) (sym nothing)
-      (come_settled now later rest last (record { player = p; due = due; held = held }) answers count number so grew wrote goes_on)))
+      subst (λ x. Come later rest last (record { interpreter = p; due = x; held = h }) t count number) (sym none)
+      (subst (λ x. Come later rest last (record { interpreter = p; due = []; held = x }) t count number) (sym same)
+      (subst (λ x. Come later rest last (record { interpreter = p; due = []; held = held }) x count number) (sym nothing)
+      (come_settled now later rest last (record { interpreter = p; due = due; held = held }) answers count number so grew wrote goes_on)))
 
   -- what waits may be settled
   pub come_may : (now : K) (rest : Option (List ℕ)) (last : List ℕ) (keeping : Keeping) (due answers : List ℕ) (count number : ℕ) → keeping.due ≡ due
@@ -415,7 +415,7 @@ unread_stops script rest last count number TooLong h = absurd h
 
 -- ---- from the call on
 
-module _ {K : Type 0} (keeps : K → List ℕ → Type 0) (contents : K → Option (List ℕ)) (style : AnswerStyle) (first : Player) (old start now : K)
+module _ {K : Type 0} (keeps : K → List ℕ → Type 0) (contents : K → Option (List ℕ)) (style : AnswerStyle) (first : Interpreter) (old start now : K)
     (stays : StaysKept keeps old start) (same : contents start ≡ contents old) where
   grows_from : (x : List ℕ) → Grows keeps start now x → Grows keeps old now x
   grows_from x grew text has = grew text (stays text has)
@@ -445,20 +445,20 @@ module _ {K : Type 0} (keeps : K → List ℕ → Type 0) (contents : K → Opti
 pub grows_none : {K : Type 0} (keeps : K → List ℕ → Type 0) (k : K) (due : List ℕ) → due ≡ [] → Grows keeps k k due
 grows_none keeps k due none text has = subst (keeps k) (sym (append-nil text) ∙ ap (λ t. text ++ t) (sym none)) has
 
-released_parts : (b : Bool) (p : Player) (due held d h : List ℕ) → d ≡ (if b then due else due ++ held) → h ≡ (if b then held else [])
-    → ◌≡◌ {A = Keeping} (record { player = p; due = d; held = h }) (if b then record { player = p; due = due; held = held } else record { player = p; due = due ++ held; held = [] })
-released_parts true p due held d h is_due is_held = ap (λ x. record { player = p; due = x; held = h }) is_due ∙ ap (λ x. record { player = p; due = due; held = x }) is_held
-released_parts false p due held d h is_due is_held = ap (λ x. record { player = p; due = x; held = h }) is_due ∙ ap (λ x. record { player = p; due = due ++ held; held = x }) is_held
+released_parts : (b : Bool) (p : Interpreter) (due held d h : List ℕ) → d ≡ (if b then due else due ++ held) → h ≡ (if b then held else [])
+    → ◌≡◌ {A = Keeping} (record { interpreter = p; due = d; held = h }) (if b then record { interpreter = p; due = due; held = held } else record { interpreter = p; due = due ++ held; held = [] })
+released_parts true p due held d h is_due is_held = ap (λ x. record { interpreter = p; due = x; held = h }) is_due ∙ ap (λ x. record { interpreter = p; due = due; held = x }) is_held
+released_parts false p due held d h is_due is_held = ap (λ x. record { interpreter = p; due = x; held = h }) is_due ∙ ap (λ x. record { interpreter = p; due = due ++ held; held = x }) is_held
 
 -- a line that was played and noted, by its parts
-pub noted_line : (k : Keeping) (l : List ℕ) (p : Player) (d h : List ℕ) → p ≡ (player_reply k.player l).player
-    → d ≡ (if frame_is_open p then k.due else k.due ++ noted k.player l k.held)
-    → h ≡ (if frame_is_open p then noted k.player l k.held else []) → ◌≡◌ {A = Keeping} (record { player = p; due = d; held = h }) (kept_line k l)
-noted_line k l p d h is is_due is_held = released_parts (frame_is_open p) p k.due (noted k.player l k.held) d h is_due is_held ∙ ap (λ q. released q k.due (noted k.player l k.held)) is
+pub noted_line : (k : Keeping) (l : List ℕ) (p : Interpreter) (d h : List ℕ) → p ≡ (interpreter_reply k.interpreter l).interpreter
+    → d ≡ (if frame_is_open p then k.due else k.due ++ noted k.interpreter l k.held)
+    → h ≡ (if frame_is_open p then noted k.interpreter l k.held else []) → ◌≡◌ {A = Keeping} (record { interpreter = p; due = d; held = h }) (kept_line k l)
+noted_line k l p d h is is_due is_held = released_parts (frame_is_open p) p k.due (noted k.interpreter l k.held) d h is_due is_held ∙ ap (λ q. released q k.due (noted k.interpreter l k.held)) is
 
 -- ---- without a store
 
-module _ {K : Type 0} (keeps : K → List ℕ → Type 0) (contents : K → Option (List ℕ)) (style : AnswerStyle) (first : Player) (start now : K) (script rest : Option (List ℕ)) where
+module _ {K : Type 0} (keeps : K → List ℕ → Type 0) (contents : K → Option (List ℕ)) (style : AnswerStyle) (first : Interpreter) (start now : K) (script rest : Option (List ℕ)) where
   pub ends_answered : (F : Type 0) (count : ℕ) → EndsAs {F = F} keeps contents style first start now script rest (Ok count)
       → Answers style first (contents start) (contents now) script count
   ends_answered F count (ls, all, so, counted) = (ls, all, so.0, counted)

@@ -1,4 +1,4 @@
--- The lines that a shell keeps lead to the player that it had.
+-- The lines that a shell keeps lead to the interpreter that it had.
 use Rattle.std.proofs.Common.{◌≡◌, ℕ, ◌-◌, List, [], ◌∷◌, ◌++◌, Bool, true, false, cond, All, if◌then◌else◌, length, take, codes, arith, refl, sym, ap, subst, ◌∙◌, append_assoc, append-nil}
 use Rattle.std.specs.Prelude.{◌==◌, slice_index}
 use Rattle.std.specs.List.{AllByRecursion, onto_first, slice_split}
@@ -6,10 +6,10 @@ use Rattle.std.specs.Str.Lines.{lines, lines_of_parts, strip_carriage_return}
 use Rattle.std.proofs.lemmas.List.Elements.{All-append, All-cons, All-nil, All-take}
 use Rattle.std.proofs.lemmas.List.Splits.{slice_split_at, slice_split-cons_no, slice_split-cons_yes}
 use Rattle.std.proofs.lemmas.Grind.{common_steps}
-use Rattle.scene_player.specs.Player.{Player, player_reply}
-use Rattle.scene_player.specs.Changes.{changes, frame_is_open}
-use Rattle.scene_player.proofs.ChangeLaws.{unchanged}
-use Rattle.scene_shell.specs.Shell.{player_after}
+use Rattle.scene_interpreter.specs.Interpreter.{Interpreter, interpreter_reply}
+use Rattle.scene_interpreter.specs.Changes.{changes, frame_is_open}
+use Rattle.scene_interpreter.proofs.ChangeLaws.{unchanged}
+use Rattle.scene_shell.specs.Shell.{interpreter_after}
 use Rattle.scene_shell.specs.Kept.{Keeping, noted, kept_line, kept_after, starting, kept_of, ended}
 use Rattle.scene_shell.proofs.Lines.{HasPart, has_part, is_end, line_before}
 
@@ -49,52 +49,52 @@ whole_more t l whole line ys =
     ap lines (append_assoc t (ended l) ys) ∙ whole (ended l ++ ys) ∙ ap (λ ls. lines t ++ ls) (ended_first l ys line)
     ∙ ap (λ ls. lines t ++ (ls ++ lines ys)) (sym one) ∙ sym (append_assoc (lines t) (lines (ended l)) (lines ys)) ∙ ap (λ ls. ls ++ lines ys) (sym (whole (ended l)))
 
-after_append : (p : Player) (xs ys : List (List ℕ)) → player_after p (xs ++ ys) ≡ player_after (player_after p xs) ys
+after_append : (p : Interpreter) (xs ys : List (List ℕ)) → interpreter_after p (xs ++ ys) ≡ interpreter_after (interpreter_after p xs) ys
 after_append p [] ys = refl
-after_append p (x ∷ xs) ys = after_append (player_reply p x).player xs ys
+after_append p (x ∷ xs) ys = after_append (interpreter_reply p x).interpreter xs ys
 
 -- all that was noted
 abbrev pub all_of : Keeping → List ℕ
 all_of k = k.due ++ k.held
 
-released_all : (b : Bool) (p : Player) (due held : List ℕ)
-    → all_of (cond {A = Keeping} b (record { player = p; due = due; held = held }) (record { player = p; due = due ++ held; held = [] })) ≡ due ++ held
+released_all : (b : Bool) (p : Interpreter) (due held : List ℕ)
+    → all_of (cond {A = Keeping} b (record { interpreter = p; due = due; held = held }) (record { interpreter = p; due = due ++ held; held = [] })) ≡ due ++ held
 released_all true p due held = refl
 released_all false p due held = append-nil (due ++ held)
 
-line_all : (k : Keeping) (l : List ℕ) → all_of (kept_line k l) ≡ all_of k ++ (if changes k.player l then ended l else [])
+line_all : (k : Keeping) (l : List ℕ) → all_of (kept_line k l) ≡ all_of k ++ (if changes k.interpreter l then ended l else [])
 line_all k l =
-    let r = player_reply k.player l in
-    released_all (frame_is_open r.player) r.player k.due (noted k.player l k.held) ∙ sym (append_assoc k.due k.held (if changes k.player l then ended l else []))
+    let r = interpreter_reply k.interpreter l in
+    released_all (frame_is_open r.interpreter) r.interpreter k.due (noted k.interpreter l k.held) ∙ sym (append_assoc k.due k.held (if changes k.interpreter l then ended l else []))
 
-released_player : (b : Bool) (p : Player) (due held : List ℕ)
-    → (cond {A = Keeping} b (record { player = p; due = due; held = held }) (record { player = p; due = due ++ held; held = [] })).player ≡ p
-released_player true p due held = refl
-released_player false p due held = refl
+released_interpreter : (b : Bool) (p : Interpreter) (due held : List ℕ)
+    → (cond {A = Keeping} b (record { interpreter = p; due = due; held = held }) (record { interpreter = p; due = due ++ held; held = [] })).interpreter ≡ p
+released_interpreter true p due held = refl
+released_interpreter false p due held = refl
 
--- what was noted leads from a player to the one that is kept with it
-abbrev Leads : Player → Keeping → Type 0
-Leads first k = IsWhole (all_of k) × (player_after first (lines (all_of k)) ≡ k.player)
+-- what was noted leads from an interpreter to the one that is kept with it
+abbrev Leads : Interpreter → Keeping → Type 0
+Leads first k = IsWhole (all_of k) × (interpreter_after first (lines (all_of k)) ≡ k.interpreter)
 
-module _ (first : Player) where
-  noted_leads : (b : Bool) (k : Keeping) (l : List ℕ) → changes k.player l ≡ b → IsLine l → Leads first k
-      → IsWhole (all_of k ++ (if b then ended l else [])) × (player_after first (lines (all_of k ++ (if b then ended l else []))) ≡ (player_reply k.player l).player)
+module _ (first : Interpreter) where
+  noted_leads : (b : Bool) (k : Keeping) (l : List ℕ) → changes k.interpreter l ≡ b → IsLine l → Leads first k
+      → IsWhole (all_of k ++ (if b then ended l else [])) × (interpreter_after first (lines (all_of k ++ (if b then ended l else []))) ≡ (interpreter_reply k.interpreter l).interpreter)
   noted_leads true k l is line so = (
     whole_more (all_of k) l so.0 line,
-    ap (player_after first) (so.0 (ended l) ∙ ap (λ ls. lines (all_of k) ++ ls) (ap lines (sym (append-nil (ended l))) ∙ ended_first l [] line))
-        ∙ after_append first (lines (all_of k)) (l ∷ []) ∙ ap (λ q. (player_reply q l).player) so.1,
+    ap (interpreter_after first) (so.0 (ended l) ∙ ap (λ ls. lines (all_of k) ++ ls) (ap lines (sym (append-nil (ended l))) ∙ ended_first l [] line))
+        ∙ after_append first (lines (all_of k)) (l ∷ []) ∙ ap (λ q. (interpreter_reply q l).interpreter) so.1,
   )
   noted_leads false k l is line so =
       let none : all_of k ++ [] ≡ all_of k = append-nil (all_of k) in
-      (subst IsWhole (sym none) so.0, ap (λ t. player_after first (lines t)) none ∙ so.1 ∙ sym (unchanged k.player l is))
+      (subst IsWhole (sym none) so.0, ap (λ t. interpreter_after first (lines t)) none ∙ so.1 ∙ sym (unchanged k.interpreter l is))
 
   line_leads : (k : Keeping) (l : List ℕ) → IsLine l → Leads first k → Leads first (kept_line k l)
   line_leads k l line so =
-      let r = player_reply k.player l in
-      let led = noted_leads (changes k.player l) k l refl line so in
+      let r = interpreter_reply k.interpreter l in
+      let led = noted_leads (changes k.interpreter l) k l refl line so in
       let all = line_all k l in (
         subst IsWhole (sym all) led.0,
-        ap (λ t. player_after first (lines t)) all ∙ led.1 ∙ sym (released_player (frame_is_open r.player) r.player k.due (noted k.player l k.held)),
+        ap (λ t. interpreter_after first (lines t)) all ∙ led.1 ∙ sym (released_interpreter (frame_is_open r.interpreter) r.interpreter k.due (noted k.interpreter l k.held)),
       )
 
   after_leads : (k : Keeping) (ls : List (List ℕ)) → AllByRecursion IsLine ls → Leads first k → Leads first (kept_after k ls)
@@ -134,39 +134,39 @@ lines_are text = of_parts (slice_split is_end text) (parts_are text)
 
 -- ---- and where no frame is open, all is due
 
-released_held : (b : Bool) (p : Player) (due held : List ℕ) → b ≡ false
-    → (cond {A = Keeping} b (record { player = p; due = due; held = held }) (record { player = p; due = due ++ held; held = [] })).held ≡ []
+released_held : (b : Bool) (p : Interpreter) (due held : List ℕ) → b ≡ false
+    → (cond {A = Keeping} b (record { interpreter = p; due = due; held = held }) (record { interpreter = p; due = due ++ held; held = [] })).held ≡ []
 released_held true p due held is = absurd cc
 released_held false p due held is = refl
 
-held_after : (k : Keeping) (ls : List (List ℕ)) → k.held ≡ [] → frame_is_open (player_after k.player ls) ≡ false → (kept_after k ls).held ≡ []
+held_after : (k : Keeping) (ls : List (List ℕ)) → k.held ≡ [] → frame_is_open (interpreter_after k.interpreter ls) ≡ false → (kept_after k ls).held ≡ []
 held_after k [] none closed = none
 held_after k (l ∷ []) none closed =
-    let r = player_reply k.player l in
-    released_held (frame_is_open r.player) r.player k.due (noted k.player l k.held) closed
+    let r = interpreter_reply k.interpreter l in
+    released_held (frame_is_open r.interpreter) r.interpreter k.due (noted k.interpreter l k.held) closed
 held_after k (l ∷ l₂ ∷ ls) none closed =
-    let r = player_reply k.player l in
+    let r = interpreter_reply k.interpreter l in
     let next = kept_line k l in
-    held_last next l₂ ls (subst (λ p. frame_is_open (player_after p (l₂ ∷ ls)) ≡ false) (sym (released_player (frame_is_open r.player) r.player k.due (noted k.player l k.held))) closed)
+    held_last next l₂ ls (subst (λ p. frame_is_open (interpreter_after p (l₂ ∷ ls)) ≡ false) (sym (released_interpreter (frame_is_open r.interpreter) r.interpreter k.due (noted k.interpreter l k.held))) closed)
   where
-    held_last : (j : Keeping) (m : List ℕ) (ms : List (List ℕ)) → frame_is_open (player_after j.player (m ∷ ms)) ≡ false → (kept_after j (m ∷ ms)).held ≡ []
-    held_last j m [] closed = let r = player_reply j.player m in released_held (frame_is_open r.player) r.player j.due (noted j.player m j.held) closed
+    held_last : (j : Keeping) (m : List ℕ) (ms : List (List ℕ)) → frame_is_open (interpreter_after j.interpreter (m ∷ ms)) ≡ false → (kept_after j (m ∷ ms)).held ≡ []
+    held_last j m [] closed = let r = interpreter_reply j.interpreter m in released_held (frame_is_open r.interpreter) r.interpreter j.due (noted j.interpreter m j.held) closed
     held_last j m (m₂ ∷ ms) closed =
-        let r = player_reply j.player m in
-        held_last (kept_line j m) m₂ ms (subst (λ p. frame_is_open (player_after p (m₂ ∷ ms)) ≡ false) (sym (released_player (frame_is_open r.player) r.player j.due (noted j.player m j.held))) closed)
+        let r = interpreter_reply j.interpreter m in
+        held_last (kept_line j m) m₂ ms (subst (λ p. frame_is_open (interpreter_after p (m₂ ∷ ms)) ≡ false) (sym (released_interpreter (frame_is_open r.interpreter) r.interpreter j.due (noted j.interpreter m j.held))) closed)
 
--- the law: where no frame is open, the lines that are kept lead to the player that all lines lead to
-pub kept_lines_lead : (p : Player) (text : List ℕ)
-    → frame_is_open (player_after p (lines text)) ≡ false → player_after p (lines (kept_of p (lines text))) ≡ player_after p (lines text)
+-- the law: where no frame is open, the lines that are kept lead to the interpreter that all lines lead to
+pub kept_lines_lead : (p : Interpreter) (text : List ℕ)
+    → frame_is_open (interpreter_after p (lines text)) ≡ false → interpreter_after p (lines (kept_of p (lines text))) ≡ interpreter_after p (lines text)
 kept_lines_lead p text closed =
     let k = kept_after (starting p) (lines text) in
     let led = kept_leads p (lines text) (lines_are text) in
     let none = held_after (starting p) (lines text) refl closed in
     let due : all_of k ≡ k.due = ap (λ t. k.due ++ t) none ∙ append-nil k.due in
-    ap (λ t. player_after p (lines t)) (sym due) ∙ led.1 ∙ kept_player (starting p) (lines text)
+    ap (λ t. interpreter_after p (lines t)) (sym due) ∙ led.1 ∙ kept_interpreter (starting p) (lines text)
   where
-    kept_player : (j : Keeping) (ls : List (List ℕ)) → (kept_after j ls).player ≡ player_after j.player ls
-    kept_player j [] = refl
-    kept_player j (l ∷ ls) =
-        let r = player_reply j.player l in
-        kept_player (kept_line j l) ls ∙ ap (λ q. player_after q ls) (released_player (frame_is_open r.player) r.player j.due (noted j.player l j.held))
+    kept_interpreter : (j : Keeping) (ls : List (List ℕ)) → (kept_after j ls).interpreter ≡ interpreter_after j.interpreter ls
+    kept_interpreter j [] = refl
+    kept_interpreter j (l ∷ ls) =
+        let r = interpreter_reply j.interpreter l in
+        kept_interpreter (kept_line j l) ls ∙ ap (λ q. interpreter_after q ls) (released_interpreter (frame_is_open r.interpreter) r.interpreter j.due (noted j.interpreter l j.held))

@@ -1,24 +1,24 @@
 -- What a shell says of lines.
 use Rattle.std.proofs.Common.{sym, Bool, IfOk, OnOk, Result, Ok, Err, ◌≡◌, ℕ, List, [], ◌∷◌, ◌++◌, true, Option, refl, ap, subst, ◌∙◌, append-nil}
 use Rattle.scene_script.specs.declared.bad_line.BadLine.{BadLine}
-use Rattle.scene_player.specs.JsonLine.{IsAnsweredAsJson, AddsJson, asked_in}
-use Rattle.scene_player.specs.Player.{Player, player_reply}
+use Rattle.scene_interpreter.specs.JsonLine.{IsAnsweredAsJson, AddsJson, asked_in}
+use Rattle.scene_interpreter.specs.Interpreter.{Interpreter, interpreter_reply}
 use Rattle.scene_shell.specs.Shell.{IsAnswer, IsSaid, plain_style, said_of}
 
 -- the answers of a script that aren't framed are those, one after another
-pub said_plainly : (p : Player) (ls : List (List ℕ)) (text : List ℕ) → IsSaid plain_style p ls text → text ≡ said_of p ls
+pub said_plainly : (p : Interpreter) (ls : List (List ℕ)) (text : List ℕ) → IsSaid plain_style p ls text → text ≡ said_of p ls
 said_plainly p [] text said = said
 said_plainly p (l ∷ ls) text said =
-    let r = player_reply p l in
+    let r = interpreter_reply p l in
     let first : said.0 ≡ r.text = said.2.2 ∙ append-nil said.2.0 ∙ said.2.1 in
-    said.4 ∙ ap (λ t. t ++ said.1) first ∙ ap (λ t. r.text ++ t) (said_plainly r.player ls said.1 said.3)
+    said.4 ∙ ap (λ t. t ++ said.1) first ∙ ap (λ t. r.text ++ t) (said_plainly r.interpreter ls said.1 said.3)
 
 -- an answer that is JSON
-pub is_json_answer : (p after : Player) (l text : List ℕ) (bad : Option BadLine) → IsAnsweredAsJson [] text p after l bad → IsAnswer true p l text
+pub is_json_answer : (p after : Interpreter) (l text : List ℕ) (bad : Option BadLine) → IsAnsweredAsJson [] text p after l bad → IsAnswer true p l text
 is_json_answer p after l text bad h = (refl, refl, subst (λ a. AddsJson [] text p a l (asked_in p l)) h.1 h.2)
 
 -- and where it was given
-pub json_said : {E : Type 0} (r : Result (Option BadLine) E) (is_json : Bool) (old text : List ℕ) (p after : Player) (l : List ℕ) → is_json ≡ true → old ≡ []
+pub json_said : {E : Type 0} (r : Result (Option BadLine) E) (is_json : Bool) (old text : List ℕ) (p after : Interpreter) (l : List ℕ) → is_json ≡ true → old ≡ []
     → IfOk r (λ bad. IsAnsweredAsJson old text p after l bad) → OnOk r (IsAnswer is_json p l text)
 json_said (Err e) is_json old text p after l given empty h = tt
 json_said (Ok bad) is_json old text p after l given empty h =

@@ -4,8 +4,8 @@ use Rattle.std.specs.List.{fold}
 use Rattle.std.specs.Io.{StopsAt}
 use Rattle.std.specs.Io.KnownBytes.{Appends, Keeps}
 use Rattle.std.specs.Str.Lines.{lines}
-use Rattle.scene_player.specs.Player.{Player, player_reply}
-use Rattle.scene_player.specs.Changes.{changes, frame_is_open}
+use Rattle.scene_interpreter.specs.Interpreter.{Interpreter, interpreter_reply}
+use Rattle.scene_interpreter.specs.Changes.{changes, frame_is_open}
 use Rattle.scene_shell.specs.declared.fault.AppFault.{AppFault}
 use Rattle.scene_shell.specs.declared.fault.AppFault.TheVariants.{NoMemory, ReadFault, WriteFault, TooLong}
 use Rattle.scene_shell.specs.declared.kept_fault.KeptFault.{KeptFault}
@@ -20,35 +20,35 @@ break_of l = if slice_index l (length l - 1) == 13 then codes "\r\n" else codes 
 abbrev pub ended : List ℕ → List ℕ
 ended l = l ++ break_of l
 
--- A player, and the lines that led to it: those that are to be kept by now, and those of the frame that is open
+-- An interpreter, and the lines that led to it: those that are to be kept by now, and those of the frame that is open
 pub record Keeping : Type 0 where
-  pub player : Player
+  pub interpreter : Interpreter
   pub due : List ℕ
   pub held : List ℕ
 
 -- the lines of a frame are due where it is over
-abbrev pub released : Player → List ℕ → List ℕ → Keeping
+abbrev pub released : Interpreter → List ℕ → List ℕ → Keeping
 released p due held =
-    if frame_is_open p then record { player = p; due = due; held = held }
-    else record { player = p; due = due ++ held; held = [] }
+    if frame_is_open p then record { interpreter = p; due = due; held = held }
+    else record { interpreter = p; due = due ++ held; held = [] }
 
--- a line is noted where it changes the player
-abbrev pub noted : Player → List ℕ → List ℕ → List ℕ
+-- a line is noted where it changes the interpreter
+abbrev pub noted : Interpreter → List ℕ → List ℕ → List ℕ
 noted p l held = held ++ (if changes p l then ended l else [])
 
 -- a line is played and noted
 abbrev pub kept_line : Keeping → List ℕ → Keeping
-kept_line k l = released (player_reply k.player l).player k.due (noted k.player l k.held)
+kept_line k l = released (interpreter_reply k.interpreter l).interpreter k.due (noted k.interpreter l k.held)
 
 abbrev pub kept_after : Keeping → List (List ℕ) → Keeping
 kept_after = fold kept_line
 
 -- before the first line
-abbrev pub starting : Player → Keeping
-starting p = record { player = p; due = []; held = [] }
+abbrev pub starting : Interpreter → Keeping
+starting p = record { interpreter = p; due = []; held = [] }
 
 -- what is to be kept of lines
-abbrev pub kept_of : Player → List (List ℕ) → List ℕ
+abbrev pub kept_of : Interpreter → List (List ℕ) → List ℕ
 kept_of p ls = (kept_after (starting p) ls).due
 
 -- the same, behind lines that were kept before
@@ -62,15 +62,15 @@ Grows keeps old new more = (text : List ℕ) → keeps old text → keeps new (t
 -- ---- who keeps lines and writes answers
 
 -- the shell that one is at goes on
-abbrev pub Continues : {K : Type 0} → (K → K → Player → AnswerStyle → Type 0) → K → K → Type 0
-Continues begun old new = (start : _) (first : Player) (style : AnswerStyle) → begun old start first style → begun new start first style
+abbrev pub Continues : {K : Type 0} → (K → K → Interpreter → AnswerStyle → Type 0) → K → K → Type 0
+Continues begun old new = (start : _) (first : Interpreter) (style : AnswerStyle) → begun old start first style → begun new start first style
 
--- When answers may be sent: with what was written since the shell began they are the answers to lines of its player, and what
+-- When answers may be sent: with what was written since the shell began they are the answers to lines of its interpreter, and what
 -- these lines have to keep is kept.
 pub record MaySend {K : Type 0} (keeps : K → List ℕ → Type 0) (contents : K → Option (List ℕ))
-    (begun : K → K → Player → AnswerStyle → Type 0) (now : K) (answers : List ℕ) : Type 0 where
+    (begun : K → K → Interpreter → AnswerStyle → Type 0) (now : K) (answers : List ℕ) : Type 0 where
   pub start : K
-  pub first : Player
+  pub first : Interpreter
   pub style : AnswerStyle
   pub is_of : begun now start first style
   pub front : List (List ℕ)
@@ -86,13 +86,13 @@ StaysKept keeps old new = (text : List ℕ) → keeps old text → keeps new tex
 -- ---- how a shell ends
 
 -- the answers to these lines are written, and what they have to keep is kept
-abbrev pub IsSettled : {K : Type 0} → (K → List ℕ → Type 0) → (K → Option (List ℕ)) → AnswerStyle → Player → (start now : K)
+abbrev pub IsSettled : {K : Type 0} → (K → List ℕ → Type 0) → (K → Option (List ℕ)) → AnswerStyle → Interpreter → (start now : K)
     → List (List ℕ) → Type 0
 IsSettled keeps contents style first start now ls =
     HasSaid style first ls (contents start) (contents now) × Grows keeps start now (kept_of first ls)
 
 -- what is known of the lines before the one that was read when a stream, the memory or the number of lines stopped it
-abbrev pub StopsBy : {K : Type 0} → (K → List ℕ → Type 0) → (K → Option (List ℕ)) → AnswerStyle → Player → (start now : K)
+abbrev pub StopsBy : {K : Type 0} → (K → List ℕ → Type 0) → (K → Option (List ℕ)) → AnswerStyle → Interpreter → (start now : K)
     → List (List ℕ) → AppFault → Type 0
 StopsBy keeps contents style first start now ls WriteFault = Grows keeps start now (kept_of first ls)
 StopsBy keeps contents style first start now ls NoMemory = IsSettled keeps contents style first start now ls
@@ -102,7 +102,7 @@ StopsBy keeps contents style first start now ls TooLong =
 
 -- How a shell that keeps its lines ends: all lines are answered and kept; or all before the one that was read when a stream or
 -- the memory stopped it, which are kept where the writer failed. Where lines weren't kept, first lines are answered.
-abbrev pub EndsAs : {K F : Type 0} → (K → List ℕ → Type 0) → (K → Option (List ℕ)) → AnswerStyle → Player → (start now : K)
+abbrev pub EndsAs : {K F : Type 0} → (K → List ℕ → Type 0) → (K → Option (List ℕ)) → AnswerStyle → Interpreter → (start now : K)
     → (script rest : Option (List ℕ)) → Result ℕ (KeptFault F) → Type 0
 EndsAs keeps contents style first start now script rest (Ok count) =
     (ls : List (List ℕ)) × IfSome script (λ s. lines s ≡ ls) × IsSettled keeps contents style first start now ls

@@ -3,8 +3,8 @@ use Rattle.std.specs.Prelude.{◌≡◌, ℕ, ◌+◌, ◌^◌, ◌≤◌, List,
 use Rattle.std.specs.Io.{StopsAt}
 use Rattle.std.specs.Io.KnownBytes.{Appends}
 use Rattle.std.specs.Str.Lines.{lines}
-use Rattle.scene_player.specs.JsonLine.{IsAnsweredAsJson}
-use Rattle.scene_player.specs.Player.{Player, player_reply}
+use Rattle.scene_interpreter.specs.JsonLine.{IsAnsweredAsJson}
+use Rattle.scene_interpreter.specs.Interpreter.{Interpreter, interpreter_reply}
 use Rattle.scene_shell.specs.declared.fault.AppFault.{AppFault}
 use Rattle.scene_shell.specs.declared.fault.AppFault.TheVariants.{NoMemory, ReadFault, WriteFault, TooLong}
 pub use Rattle.scene_shell.specs.declared.style.AnswerStyle.{AnswerStyle}
@@ -12,49 +12,49 @@ pub use Rattle.scene_shell.specs.declared.style.AnswerStyle.{AnswerStyle}
 -- ---- one line
 
 -- an answer to a line is what a script prints, or it is JSON
-abbrev pub IsAnswer : (is_json : Bool) → Player → List ℕ → List ℕ → Type 0
-IsAnswer false p l text = text ≡ (player_reply p l).text
-IsAnswer true p l text = IsAnsweredAsJson [] text p (player_reply p l).player l (player_reply p l).bad
+abbrev pub IsAnswer : (is_json : Bool) → Interpreter → List ℕ → List ℕ → Type 0
+IsAnswer false p l text = text ≡ (interpreter_reply p l).text
+IsAnswer true p l text = IsAnsweredAsJson [] text p (interpreter_reply p l).interpreter l (interpreter_reply p l).bad
 
 -- an answer as it is sent; a frame ends with an empty line
-abbrev pub IsSent : AnswerStyle → Player → List ℕ → List ℕ → Type 0
+abbrev pub IsSent : AnswerStyle → Interpreter → List ℕ → List ℕ → Type 0
 IsSent style p l sent =
     (text : List ℕ) × IsAnswer style.is_json p l text × (sent ≡ text ++ (if style.is_framed then codes "\n" else []))
 
 -- a line's answer goes behind others
-abbrev pub AddsAnswer : AnswerStyle → Player → List ℕ → List ℕ → List ℕ → Type 0
+abbrev pub AddsAnswer : AnswerStyle → Interpreter → List ℕ → List ℕ → List ℕ → Type 0
 AddsAnswer style p l old new = (sent : List ℕ) × IsSent style p l sent × (new ≡ old ++ sent)
 
 -- ---- lines
 
--- the player after lines
-abbrev pub player_after : Player → List (List ℕ) → Player
-player_after p [] = p
-player_after p (l ∷ ls) = player_after (player_reply p l).player ls
+-- the interpreter after lines
+abbrev pub interpreter_after : Interpreter → List (List ℕ) → Interpreter
+interpreter_after p [] = p
+interpreter_after p (l ∷ ls) = interpreter_after (interpreter_reply p l).interpreter ls
 
 -- how many of the lines are bad
-abbrev pub bad_count : Player → List (List ℕ) → ℕ
+abbrev pub bad_count : Interpreter → List (List ℕ) → ℕ
 bad_count p [] = 0
-bad_count p (l ∷ ls) = (if is_some (player_reply p l).bad then 1 else 0) + bad_count (player_reply p l).player ls
+bad_count p (l ∷ ls) = (if is_some (interpreter_reply p l).bad then 1 else 0) + bad_count (interpreter_reply p l).interpreter ls
 
 -- answers as a script has them
 abbrev pub plain_style : AnswerStyle
 plain_style = record { is_json = false; is_framed = false }
 
 -- the answers to lines, one after another
-abbrev pub IsSaid : AnswerStyle → Player → List (List ℕ) → List ℕ → Type 0
+abbrev pub IsSaid : AnswerStyle → Interpreter → List (List ℕ) → List ℕ → Type 0
 IsSaid style p [] text = text ≡ []
 IsSaid style p (l ∷ ls) text =
-    (first : List ℕ) × (others : List ℕ) × IsSent style p l first × IsSaid style (player_reply p l).player ls others
+    (first : List ℕ) × (others : List ℕ) × IsSent style p l first × IsSaid style (interpreter_reply p l).interpreter ls others
     × (text ≡ first ++ others)
 
 -- the same in the plain style
-abbrev pub said_of : Player → List (List ℕ) → List ℕ
+abbrev pub said_of : Interpreter → List (List ℕ) → List ℕ
 said_of p [] = []
-said_of p (l ∷ ls) = (player_reply p l).text ++ said_of (player_reply p l).player ls
+said_of p (l ∷ ls) = (interpreter_reply p l).text ++ said_of (interpreter_reply p l).interpreter ls
 
 -- just the answers to these lines are written
-abbrev pub HasSaid : AnswerStyle → Player → List (List ℕ) → (old new : Option (List ℕ)) → Type 0
+abbrev pub HasSaid : AnswerStyle → Interpreter → List (List ℕ) → (old new : Option (List ℕ)) → Type 0
 HasSaid style p ls old new = (text : List ℕ) × IsSaid style p ls text × Appends old new text
 
 -- ---- the lines of a reader
@@ -66,18 +66,18 @@ Parts (Some script) None ls last = ⊥
 Parts (Some script) (Some rest) ls last = lines script ≡ ls ++ lines (last ++ rest)
 
 -- all lines of a reader are answered, of which so many are bad
-abbrev pub Answers : AnswerStyle → Player → (old new script : Option (List ℕ)) → ℕ → Type 0
+abbrev pub Answers : AnswerStyle → Interpreter → (old new script : Option (List ℕ)) → ℕ → Type 0
 Answers style p old new script count =
     (ls : List (List ℕ)) × IfSome script (λ s. lines s ≡ ls) × HasSaid style p ls old new × (count ≡ bad_count p ls)
 
 -- what is known of the answers to the lines before the one that was read when something stopped a shell
-abbrev pub StopsWith : AnswerStyle → Player → (old new : Option (List ℕ)) → List (List ℕ) → AppFault → Type 0
+abbrev pub StopsWith : AnswerStyle → Interpreter → (old new : Option (List ℕ)) → List (List ℕ) → AppFault → Type 0
 StopsWith style p old new ls WriteFault = ⊤
 StopsWith style p old new ls NoMemory = HasSaid style p ls old new
 StopsWith style p old new ls ReadFault = HasSaid style p ls old new
 StopsWith style p old new ls TooLong = HasSaid style p ls old new × (2 ^ 64 ≤ length ls + 2)
 
 -- all lines are answered before the one that was read, or a part of it, when something stopped a shell
-abbrev pub Stops : AnswerStyle → Player → (old new script rest : Option (List ℕ)) → AppFault → Type 0
+abbrev pub Stops : AnswerStyle → Interpreter → (old new script rest : Option (List ℕ)) → AppFault → Type 0
 Stops style p old new script rest fault =
     (ls : List (List ℕ)) × (last : List ℕ) × StopsAt last 10 × Parts script rest ls last × StopsWith style p old new ls fault

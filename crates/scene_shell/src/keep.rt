@@ -1,7 +1,7 @@
 //! What keeps lines for good.
 use crate::fault::AppFault;
 use crate::style::AnswerStyle;
-use scene_player::Player;
+use scene_interpreter::Interpreter;
 use std::alloc::Global;
 
 /// What keeps lines for good, as a file does (docs/SHELL.md, "A store").
@@ -25,7 +25,7 @@ pub trait Keep {
 /// The lines that were kept, as a text.
 #[derive(Drop)]
 pub struct KeptText {
-    /// How many calls the player takes that plays the lines.
+    /// How many calls the interpreter takes that plays the lines.
     pub calls: u64,
     /// The lines, each with its line break.
     pub text: Vec<u8>,
@@ -34,7 +34,7 @@ pub struct KeptText {
 /// What has kept lines, which can be read again.
 ///
 /// The meaning that contracts use: `is_store` says that lines are kept as they have to be, whichever they are; and
-/// `plays` that a player plays this text which takes so many calls.
+/// `plays` that an interpreter plays this text which takes so many calls.
 pub trait KeptLines: Keep {
     ghost use Rattle.std.specs.Prelude.{ℕ, List, IfOk, OnOk};
     ghost use Rattle.scene_shell.specs.Kept.{StaysKept};
@@ -55,7 +55,7 @@ pub trait KeptLines: Keep {
 ///
 /// The meaning that contracts use: `keeps` says that these are the bytes of all lines that are kept, and `contents`
 /// gives what is written, where that is known. `begun` says which shell it is at: what it was when the shell began, the
-/// player before its first line, and the style of its answers. It may say less, as that of a writer that has no notes
+/// interpreter before its first line, and the style of its answers. It may say less, as that of a writer that has no notes
 /// of them; each call keeps what it says.
 pub trait KeptWriter {
     /// Why lines weren't kept.
@@ -64,7 +64,7 @@ pub trait KeptWriter {
     ghost use Rattle.std.specs.Prelude.{◌≡◌, ℕ, List, Option, OnOk, IfErr};
     ghost use Rattle.std.specs.Io.KnownBytes.{Appends, Keeps};
     ghost use Rattle.scene_shell.specs.declared.fault.AppFault.TheVariants.{WriteFault};
-    ghost use Rattle.scene_player.specs.Player.{Player as State, player_of};
+    ghost use Rattle.scene_interpreter.specs.Interpreter.{Interpreter as State, interpreter_of};
     ghost use Rattle.scene_shell.specs.Kept.{Continues, Grows, MaySend, StaysKept};
     ghost use Rattle.scene_shell.specs.Shell.{AnswerStyle as Style};
 
@@ -74,9 +74,9 @@ pub trait KeptWriter {
 
     ghost begun: { Self → Self → State → Style → Type 0 };
 
-    /// A shell begins, which answers by this player in this style.
-    fn begin(&mut self, player: &Player, style: AnswerStyle)
-        ensures begun { begun self.new self.new (player_of player.now) style }
+    /// A shell begins, which answers by this interpreter in this style.
+    fn begin(&mut self, interpreter: &Interpreter, style: AnswerStyle)
+        ensures begun { begun self.new self.new (interpreter_of interpreter.now) style }
         ensures kept { StaysKept keeps self.old self.new }
         ensures written { contents self.new ≡ contents self.old };
 

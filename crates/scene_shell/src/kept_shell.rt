@@ -1,7 +1,7 @@
 //! A shell whose lines are kept.
 ghost use Rattle.std.specs.Prelude.{◌≡◌, []};
 ghost use Rattle.std.specs.Io.Buffered.{reader_remaining};
-ghost use Rattle.scene_player.specs.Player.{player_of};
+ghost use Rattle.scene_interpreter.specs.Interpreter.{interpreter_of};
 ghost use Rattle.scene_shell.specs.Kept.{EndsAs};
 ghost use Rattle.scene_shell.specs.Waits.{LeadsTo};
 
@@ -11,8 +11,8 @@ use crate::kept_fault::KeptFault;
 use crate::streams::read_line;
 use crate::style::AnswerStyle;
 use crate::waiting::Waiting;
-use scene_hand::Performer;
-use scene_player::Player;
+use scene_interpreter::Interpreter;
+use scene_session::Performer;
 use std::alloc::Global;
 use std::io::{BufReader, Read, Write};
 
@@ -21,7 +21,7 @@ use std::io::{BufReader, Read, Write};
 fn play_lines<P: Performer, R: Read, E: Write, K: KeptWriter>(
     performer: &P,
     alloc: Global,
-    player: &mut Player,
+    interpreter: &mut Interpreter,
     style: AnswerStyle,
     waiting: &mut Waiting,
     keeper: &mut K,
@@ -31,8 +31,8 @@ fn play_lines<P: Performer, R: Read, E: Write, K: KeptWriter>(
     requires due { waiting.old.due.items ≡ [] }
     requires held { waiting.old.held.items ≡ [] }
     requires answers { waiting.old.answers.items ≡ [] }
-    requires begun { K.begun keeper.old keeper.old (player_of player.old) style }
-    ensures { LeadsTo K.keeps K.contents K.begun style (player_of player.old) keeper.old keeper.new
+    requires begun { K.begun keeper.old keeper.old (interpreter_of interpreter.old) style }
+    ensures { LeadsTo K.keeps K.contents K.begun style (interpreter_of interpreter.old) keeper.old keeper.new
         (reader_remaining R.remaining reader.old) (reader_remaining R.remaining reader.new)
         waiting.new.due.items waiting.new.answers.items result }
 {
@@ -46,7 +46,7 @@ fn play_lines<P: Performer, R: Read, E: Write, K: KeptWriter>(
         if read.is_empty() {
             return Ok(Ok(bad_lines));
         }
-        match waiting.play(performer, player, style, number, read, errors) {
+        match waiting.play(performer, interpreter, style, number, read, errors) {
             Ok(bad) => bad_lines += bad,
             Err(fault) => return Ok(Err(fault)),
         }
@@ -63,21 +63,21 @@ fn play_lines<P: Performer, R: Read, E: Write, K: KeptWriter>(
 fn play_settled<P: Performer, R: Read, E: Write, K: KeptWriter>(
     performer: &P,
     alloc: Global,
-    player: &mut Player,
+    interpreter: &mut Interpreter,
     style: AnswerStyle,
     keeper: &mut K,
     reader: &mut BufReader<R>,
     errors: &mut E,
 ) -> Result<u64, KeptFault<K::Fault>>
-    requires { K.begun keeper.old keeper.old (player_of player.old) style }
-    ensures { EndsAs K.keeps K.contents style (player_of player.old) keeper.old keeper.new
+    requires { K.begun keeper.old keeper.old (interpreter_of interpreter.old) style }
+    ensures { EndsAs K.keeps K.contents style (interpreter_of interpreter.old) keeper.old keeper.new
         (reader_remaining R.remaining reader.old) (reader_remaining R.remaining reader.new) result }
 {
     let mut waiting = Waiting::new(alloc);
     let played = play_lines(
         performer,
         alloc,
-        player,
+        interpreter,
         style,
         &mut waiting,
         keeper,
@@ -94,9 +94,9 @@ fn play_settled<P: Performer, R: Read, E: Write, K: KeptWriter>(
     }
 }
 
-/// Answers each line of a reader before it waits for the next one, as `run_shell` does, by a player that lines which
+/// Answers each line of a reader before it waits for the next one, as `run_shell` does, by an interpreter that lines which
 /// are kept have led to (docs/SHELL.md, "A store"). At every moment at which an answer is written, all lines are kept
-/// that changed the player up to it: what the keeper asks for whom it sends answers. Lines that wait in the reader's
+/// that changed the interpreter up to it: what the keeper asks for whom it sends answers. Lines that wait in the reader's
 /// buffer share a call of the keeper. The lines of an open frame are kept where it ends. It gives how many lines were
 /// bad.
 ///
@@ -105,15 +105,15 @@ fn play_settled<P: Performer, R: Read, E: Write, K: KeptWriter>(
 pub fn run_kept_shell<P: Performer, R: Read, E: Write, K: KeptWriter>(
     performer: &P,
     alloc: Global,
-    player: &mut Player,
+    interpreter: &mut Interpreter,
     style: AnswerStyle,
     keeper: &mut K,
     reader: &mut BufReader<R>,
     errors: &mut E,
 ) -> Result<u64, KeptFault<K::Fault>>
-    ensures { EndsAs K.keeps K.contents style (player_of player.old) keeper.old keeper.new
+    ensures { EndsAs K.keeps K.contents style (interpreter_of interpreter.old) keeper.old keeper.new
         (reader_remaining R.remaining reader.old) (reader_remaining R.remaining reader.new) result }
 {
-    keeper.begin(player, style);
-    play_settled(performer, alloc, player, style, keeper, reader, errors)
+    keeper.begin(interpreter, style);
+    play_settled(performer, alloc, interpreter, style, keeper, reader, errors)
 }

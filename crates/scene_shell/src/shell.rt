@@ -1,7 +1,7 @@
 //! The shell without a store.
 ghost use Rattle.std.specs.Prelude.{IfErr, IfOk};
 ghost use Rattle.std.specs.Io.Buffered.{reader_remaining};
-ghost use Rattle.scene_player.specs.Player.{lone_player, player_of};
+ghost use Rattle.scene_interpreter.specs.Interpreter.{lone_interpreter, interpreter_of};
 ghost use Rattle.scene_shell.specs.Shell.{Answers, Stops};
 
 use crate::fault::AppFault;
@@ -9,8 +9,8 @@ use crate::kept_fault::KeptFault;
 use crate::kept_shell::run_kept_shell;
 use crate::style::AnswerStyle;
 use crate::unkept::Unkept;
-use scene_hand::Performer;
-use scene_player::{Player, PlayerSettings};
+use scene_interpreter::{Interpreter, InterpreterSettings};
+use scene_session::Performer;
 use std::alloc::Global;
 use std::io::{BufReader, Read, Write};
 
@@ -18,29 +18,29 @@ use std::io::{BufReader, Read, Write};
 #[derive(Drop)]
 pub struct ShellSettings {
     /// Of how many frames a record is kept, as the line `depth` says it, and how many calls there may be.
-    pub player: PlayerSettings,
+    pub interpreter: InterpreterSettings,
     /// How its answers are written.
     pub style: AnswerStyle,
 }
 
-/// Answers each line of a reader by a player, as `run_shell` does.
+/// Answers each line of a reader by an interpreter, as `run_shell` does.
 #[tactic(auto, using(crate::proofs::KeptLaws::ends_answered, crate::proofs::KeptLaws::ends_unanswered))]
 fn run_unkept<P: Performer, R: Read, W: Write + Drop, E: Write>(
     performer: &P,
     alloc: Global,
-    player: &mut Player,
+    interpreter: &mut Interpreter,
     style: AnswerStyle,
     reader: &mut BufReader<R>,
     writer: &mut Unkept<W>,
     errors: &mut E,
 ) -> Result<u64, AppFault>
-    ensures answers { IfOk result (Answers style (player_of player.old) (W.contents writer.old.writer)
+    ensures answers { IfOk result (Answers style (interpreter_of interpreter.old) (W.contents writer.old.writer)
         (W.contents writer.new.writer) (reader_remaining R.remaining reader.old)) }
-    ensures stops { IfErr result (Stops style (player_of player.old) (W.contents writer.old.writer)
+    ensures stops { IfErr result (Stops style (interpreter_of interpreter.old) (W.contents writer.old.writer)
         (W.contents writer.new.writer) (reader_remaining R.remaining reader.old)
         (reader_remaining R.remaining reader.new)) }
 {
-    match run_kept_shell(performer, alloc, player, style, writer, reader, errors) {
+    match run_kept_shell(performer, alloc, interpreter, style, writer, reader, errors) {
         Ok(bad_lines) => Ok(bad_lines),
         Err(KeptFault::Ended(fault)) => Err(fault),
         Err(KeptFault::Keep(never)) => match never {},
@@ -53,7 +53,7 @@ fn run_unkept<P: Performer, R: Read, W: Write + Drop, E: Write>(
 /// Refused: `ReadFault`, `WriteFault`, and `NoMemory`; then the stream of errors tells what became of the line. But for
 /// `WriteFault`, all lines before are answered, each whole. `TooLong` only behind 18,446,744,073,709,551,614 lines. A
 /// line costs what `scene run` costs for it, and where none waits behind it a call of the writer; the memory is the
-/// player's, a line's and 64 KiB of answers.
+/// interpreter's, a line's and 64 KiB of answers.
 pub fn run_shell<P: Performer, R: Read, W: Write + Drop, E: Write>(
     performer: &P,
     alloc: Global,
@@ -62,28 +62,28 @@ pub fn run_shell<P: Performer, R: Read, W: Write + Drop, E: Write>(
     writer: W,
     errors: &mut E,
 ) -> (Result<u64, AppFault>, W)
-    ensures answers { IfOk result.0 (Answers settings.style (lone_player settings.player.depth settings.player.calls)
+    ensures answers { IfOk result.0 (Answers settings.style (lone_interpreter settings.interpreter.depth settings.interpreter.calls)
         (W.contents writer) (W.contents result.1) (reader_remaining R.remaining reader.old)) }
-    ensures stops { IfErr result.0 (Stops settings.style (lone_player settings.player.depth settings.player.calls)
+    ensures stops { IfErr result.0 (Stops settings.style (lone_interpreter settings.interpreter.depth settings.interpreter.calls)
         (W.contents writer) (W.contents result.1) (reader_remaining R.remaining reader.old)
         (reader_remaining R.remaining reader.new)) }
 {
     let ShellSettings {
-        player: settings,
+        interpreter: settings,
         style,
     } = settings;
-    let mut player = Player::alone(alloc, settings);
+    let mut interpreter = Interpreter::alone(alloc, settings);
     let mut unkept = Unkept { writer };
     let ended = run_unkept(
         performer,
         alloc,
-        &mut player,
+        &mut interpreter,
         style,
         reader,
         &mut unkept,
         errors,
     );
-    player.close();
+    interpreter.close();
     let Unkept { writer } = unkept;
     (ended, writer)
 }

@@ -3,7 +3,7 @@ use crate::fault::AppFault;
 use crate::keep::{Keep, KeptWriter};
 use crate::streams::send;
 use crate::style::AnswerStyle;
-use scene_player::Player;
+use scene_interpreter::Interpreter;
 use std::io::Write;
 
 /// A store beside the stream that takes the answers of a shell on it.
@@ -27,7 +27,7 @@ impl<K: Keep + Drop, W: Write + Drop> KeptWriter for StoreWriter<K, W> {
     // It has no notes of the shell that it is at.
     ghost begun = { λ _ _ _ _. ⊤ };
 
-    fn begin(&mut self, _player: &Player, _style: AnswerStyle) {}
+    fn begin(&mut self, _interpreter: &Interpreter, _style: AnswerStyle) {}
 
     fn keep(&mut self, lines: &[u8]) -> Result<(), K::Fault> {
         self.store.keep(lines)

@@ -7,7 +7,7 @@ ghost use Rattle.scene_shell.specs.declared.fault.AppFault.TheVariants.{WriteFau
 ghost use Rattle.scene_shell.specs.Waits.{IsUnread};
 
 use crate::fault::AppFault;
-use scene_player::Halt;
+use scene_interpreter::Halt;
 use scene_script::BadLine;
 use std::io::{BufRead, ErrorKind, Write};
 

@@ -3,7 +3,7 @@ use crate::fault::AppFault;
 use crate::keep::KeptWriter;
 use crate::streams::send;
 use crate::style::AnswerStyle;
-use scene_player::Player;
+use scene_interpreter::Interpreter;
 use std::convert::Infallible;
 use std::io::Write;
 
@@ -25,7 +25,7 @@ impl<W: Write + Drop> KeptWriter for Unkept<W> {
 
     ghost begun = { λ _ _ _ _. ⊤ };
 
-    fn begin(&mut self, _player: &Player, _style: AnswerStyle) {}
+    fn begin(&mut self, _interpreter: &Interpreter, _style: AnswerStyle) {}
 
     fn keep(&mut self, _lines: &[u8]) -> Result<(), Infallible> {
         Ok(())

@@ -2,7 +2,7 @@
 ghost use Rattle.std.specs.Prelude.{ℕ, List, Option, ◌≡◌, ◌++◌, ◌<◌, ◌≤◌, [], IfErr, IfOk, OnErr, OnOk, if◌then◌else◌, length, string_bytes};
 ghost use Rattle.std.specs.Io.KnownBytes.{Appends, Keeps};
 ghost use Rattle.scene_shell.specs.declared.fault.AppFault.TheVariants.{NoMemory, WriteFault};
-ghost use Rattle.scene_player.specs.Player.{Player as State, player_of, player_reply};
+ghost use Rattle.scene_interpreter.specs.Interpreter.{Interpreter as State, interpreter_of, interpreter_reply};
 ghost use Rattle.scene_shell.specs.Kept.{Continues, Grows, MaySend, StaysKept, ended, kept_line};
 ghost use Rattle.scene_shell.specs.Waits.{FailsToSettle, HasCome, IsBad, IsPlayed, MaySettle, keeping_of, waiting_of};
 ghost use Rattle.scene_shell.specs.Shell.{AddsAnswer, AnswerStyle as Style, IsAnswer, IsSent};
@@ -13,9 +13,9 @@ use crate::kept_fault::KeptFault;
 use crate::kept_line::push_kept_line;
 use crate::streams::{tell_bad, tell_halt};
 use crate::style::AnswerStyle;
-use scene_hand::Performer;
-use scene_player::{Halt, Player};
+use scene_interpreter::{Halt, Interpreter};
 use scene_script::{BadLine, first_line};
+use scene_session::Performer;
 use std::alloc::{AllocError, Global};
 use std::io::Write;
 
@@ -39,36 +39,36 @@ pub(crate) struct Waiting {
 #[tactic(auto, using(crate::proofs::SaidLaws::is_json_answer))]
 fn answer_alone<P: Performer>(
     performer: &P,
-    player: &mut Player,
+    interpreter: &mut Interpreter,
     is_json: bool,
     line: &[u8],
     answer: &mut String,
 ) -> Result<Option<BadLine>, Halt>
-    ensures answer { OnOk result (IsAnswer is_json (player_of player.old) line.now (string_bytes answer.new)) }
-    ensures player { OnOk result (player_of player.new ≡ (player_reply (player_of player.old) line.now).player) }
-    ensures bad { IfOk result (λ bad. bad ≡ (player_reply (player_of player.old) line.now).bad) }
+    ensures answer { OnOk result (IsAnswer is_json (interpreter_of interpreter.old) line.now (string_bytes answer.new)) }
+    ensures interpreter { OnOk result (interpreter_of interpreter.new ≡ (interpreter_reply (interpreter_of interpreter.old) line.now).interpreter) }
+    ensures bad { IfOk result (λ bad. bad ≡ (interpreter_reply (interpreter_of interpreter.old) line.now).bad) }
 {
     answer.clear();
     if is_json {
-        player.line_json(performer, line, answer)
+        interpreter.line_json(performer, line, answer)
     } else {
-        player.line(performer, line, answer)
+        interpreter.line(performer, line, answer)
     }
 }
 
 /// The same, as the answer is sent.
 fn answer_line<P: Performer>(
     performer: &P,
-    player: &mut Player,
+    interpreter: &mut Interpreter,
     style: AnswerStyle,
     line: &[u8],
     answer: &mut String,
 ) -> Result<Option<BadLine>, Halt>
-    ensures answer { OnOk result (IsSent style (player_of player.old) line.now (string_bytes answer.new)) }
-    ensures player { OnOk result (player_of player.new ≡ (player_reply (player_of player.old) line.now).player) }
-    ensures bad { IfOk result (λ bad. bad ≡ (player_reply (player_of player.old) line.now).bad) }
+    ensures answer { OnOk result (IsSent style (interpreter_of interpreter.old) line.now (string_bytes answer.new)) }
+    ensures interpreter { OnOk result (interpreter_of interpreter.new ≡ (interpreter_reply (interpreter_of interpreter.old) line.now).interpreter) }
+    ensures bad { IfOk result (λ bad. bad ≡ (interpreter_reply (interpreter_of interpreter.old) line.now).bad) }
 {
-    let bad = answer_alone(performer, player, style.is_json, line, answer)?;
+    let bad = answer_alone(performer, interpreter, style.is_json, line, answer)?;
     if style.is_framed && answer.push('\n').is_err() {
         return Err(Halt::After);
     }
@@ -107,7 +107,7 @@ impl Waiting {
         Ok(())
     }
 
-    /// Notes a line, where it may have changed the player; and then its frame is open or not.
+    /// Notes a line, where it may have changed the interpreter; and then its frame is open or not.
     fn note(&mut self, line: &[u8], is_changed: bool, is_frame_open: bool) -> Result<(), AllocError>
         ensures due { OnOk result (self.new.due.items ≡ (if is_frame_open then self.old.due.items
             else self.old.due.items ++ (self.old.held.items ++ (if is_changed then ended line.now else [])))) }
@@ -131,22 +131,22 @@ impl Waiting {
     fn play_line<P: Performer>(
         &mut self,
         performer: &P,
-        player: &mut Player,
+        interpreter: &mut Interpreter,
         style: AnswerStyle,
         line: &[u8],
     ) -> Result<Option<BadLine>, Halt>
-        ensures kept { OnOk result (keeping_of player.new self.new
-            ≡ kept_line (keeping_of player.old self.old) line.now) }
-        ensures answer { OnOk result (AddsAnswer style (player_of player.old) line.now
+        ensures kept { OnOk result (keeping_of interpreter.new self.new
+            ≡ kept_line (keeping_of interpreter.old self.old) line.now) }
+        ensures answer { OnOk result (AddsAnswer style (interpreter_of interpreter.old) line.now
             self.old.answers.items self.new.answers.items) }
-        ensures bad { IfOk result (λ bad. bad ≡ (player_reply (player_of player.old) line.now).bad) }
+        ensures bad { IfOk result (λ bad. bad ≡ (interpreter_reply (interpreter_of interpreter.old) line.now).bad) }
         ensures due { OnErr result (self.new.due.items ≡ self.old.due.items) }
         ensures unsaid { OnErr result (self.new.answers.items ≡ self.old.answers.items) }
     {
-        let Ok(is_changed) = player.changes(line) else {
+        let Ok(is_changed) = interpreter.changes(line) else {
             return Err(Halt::Before);
         };
-        let bad = answer_line(performer, player, style, line, &mut self.answer)?;
+        let bad = answer_line(performer, interpreter, style, line, &mut self.answer)?;
         let before = self.answers.len();
         if self
             .answers
@@ -155,7 +155,7 @@ impl Waiting {
         {
             return Err(Halt::After);
         }
-        match self.note(line, is_changed, player.has_open_frame()) {
+        match self.note(line, is_changed, interpreter.has_open_frame()) {
             Ok(()) => Ok(bad),
             Err(AllocError) => {
                 self.answers.truncate(before);
@@ -169,23 +169,23 @@ impl Waiting {
     pub(crate) fn play<P: Performer, E: Write>(
         &mut self,
         performer: &P,
-        player: &mut Player,
+        interpreter: &mut Interpreter,
         style: AnswerStyle,
         number: u64,
         line: &[u8],
         errors: &mut E,
     ) -> Result<u64, AppFault>
         requires { 0 < length line.now }
-        ensures played { OnOk result (IsPlayed style line.now (keeping_of player.old self.old)
-            (keeping_of player.new self.new) self.old.answers.items self.new.answers.items) }
-        ensures bad { IfOk result (λ bad. IsBad line.now (player_of player.old) bad) }
+        ensures played { OnOk result (IsPlayed style line.now (keeping_of interpreter.old self.old)
+            (keeping_of interpreter.new self.new) self.old.answers.items self.new.answers.items) }
+        ensures bad { IfOk result (λ bad. IsBad line.now (interpreter_of interpreter.old) bad) }
         ensures one { IfOk result (λ bad. bad ≤ 1) }
         ensures fault { IfErr result (λ f. f ≡ NoMemory) }
         ensures due { OnErr result (self.new.due.items ≡ self.old.due.items) }
         ensures unsaid { OnErr result (self.new.answers.items ≡ self.old.answers.items) }
     {
         let (bytes, _) = first_line(line);
-        match self.play_line(performer, player, style, bytes) {
+        match self.play_line(performer, interpreter, style, bytes) {
             Ok(None) => Ok(0),
             Ok(Some(reason)) => {
                 tell_bad(errors, number, &reason);
@@ -275,11 +275,11 @@ impl Waiting {
     ) -> Result<(), KeptFault<K::Fault>>
         requires { MaySettle K.keeps K.contents K.begun keeper.old self.old.due.items self.old.answers.items }
         ensures come { OnOk result ((style : Style) (first : State) (start : K) (script rest : Option (List ℕ))
-            (last : List ℕ) (player : State) (count number : ℕ)
+            (last : List ℕ) (interpreter : State) (count number : ℕ)
             → HasCome K.keeps K.contents K.begun style first start keeper.old script rest last
-            (waiting_of player self.old) self.old.answers.items count number
+            (waiting_of interpreter self.old) self.old.answers.items count number
             → HasCome K.keeps K.contents K.begun style first start keeper.new script rest last
-            (waiting_of player self.new) self.new.answers.items count number) }
+            (waiting_of interpreter self.new) self.new.answers.items count number) }
         ensures fails { IfErr result (FailsToSettle K.keeps K.contents keeper.old keeper.new self.old.due.items) }
     {
         if is_due { self.settle(keeper) } else { Ok(()) }

@@ -1,13 +1,13 @@
 //! The state that a run leaves.
-ghost use Rattle.scene_hand.specs.Hand.{HandState};
-ghost use Rattle.scene_hand.specs.Passes.{AreOf};
+ghost use Rattle.scene_session.specs.Owner.{OwnerState};
+ghost use Rattle.scene_session.specs.Passes.{AreOf};
 
 use scene_app::RunEnd;
 use scene_session::State;
 
 /// The state behind the lock of a run, by the pass of session 0.
 pub fn state_left(end: RunEnd) -> Option<State>
-    requires { (hand : HandState) × AreOf end.lock end.passes.items hand }
+    requires { (hand : OwnerState) × AreOf end.lock end.passes.items hand }
 {
     let RunEnd {
         lock,

@@ -13,7 +13,7 @@ use Rattle.scene_undo.specs.declared.direction.Direction.TheVariants.{Undo, Redo
 use Rattle.scene_undo.specs.Direction.{AllFit, CanAll}
 use Rattle.scene_undo.specs.Kept.{CanRedoAll, CanUndoAll}
 use Rattle.scene_undo.specs.Parts.{IsFirstFault, NamesFrame}
-use Rattle.scene_verdicts.specs.Faults.{IsFaultOf}
+use Rattle.scene_journal.specs.FirstFaults.{IsFaultOf}
 use Rattle.scene_undo.proofs.Kept.{undo_wider}
 use Rattle.scene_undo.proofs.Turns.{no_fault}
 

@@ -7,7 +7,7 @@ use Rattle.scene_model.specs.World.{World}
 use Rattle.scene_journal.specs.Records.{Record}
 use Rattle.scene_undo.specs.declared.direction.Direction.{Direction}
 use Rattle.scene_undo.specs.Direction.{Fits, IsFault, step}
-use Rattle.scene_verdicts.specs.Faults.{IsFirstFault as IsFirstFaultBy}
+use Rattle.scene_journal.specs.FirstFaults.{IsFirstFault as IsFirstFaultBy}
 
 -- of records, in the order in which they go, the one of this number is the first that doesn't fit at its turn, and this is its fault,
 -- by the number of a delta

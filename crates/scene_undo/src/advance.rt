@@ -15,8 +15,8 @@ ghost use Rattle.scene_undo.specs.Size.{IsNewestWithin, advance_size};
 use crate::editor::Editor;
 use crate::made::Made;
 use scene_kinds::Refusal;
-use scene_rules::SystemRule;
 use scene_schedule::{Advance, Alone, OpenGate, PhaseOutput, RunBy, Schedule, run_shared};
+use scene_systems::SystemRule;
 use scene_world::World;
 use std::thread::Threads;
 

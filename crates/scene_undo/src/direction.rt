@@ -1,14 +1,13 @@
 //! Which way records are gone through.
 ghost use Rattle.std.specs.Prelude.{◌≡◌, OnOk, OnErr, IfErr};
 ghost use Rattle.scene_journal.specs.Faults.{Names};
-ghost use Rattle.scene_newest.specs.Newest.{Covers};
+ghost use Rattle.scene_journal.specs.Newest.{Covers};
 ghost use Rattle.scene_world.specs.Room.{IsWider};
 ghost use Rattle.scene_undo.specs.declared.direction.Direction.TheVariants.{Undo};
 ghost use Rattle.scene_undo.specs.Direction.{Can, IsFault, opposite, step};
 
-use scene_journal::FrameRecord;
+use scene_journal::{FrameRecord, NewestCells};
 use scene_kinds::Refusal;
-use scene_newest::NewestCells;
 use scene_world::World;
 use std::alloc::AllocError;
 

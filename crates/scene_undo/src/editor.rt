@@ -19,7 +19,7 @@ ghost use Rattle.scene_undo.specs.Kept.{CanUndo};
 ghost use Rattle.scene_undo.specs.Parts.{NamesFrame};
 ghost use Rattle.scene_undo.specs.Size.{IsNewestWithin};
 ghost use Rattle.scene_undo.specs.Stacks.{IsRedone, IsUndone};
-ghost use Rattle.scene_verdicts.specs.Faults.{FutureFits, IsFaultOf, PastFits};
+ghost use Rattle.scene_journal.specs.FirstFaults.{FutureFits, IsFaultOf, PastFits};
 
 use crate::cursor::Cursor;
 use crate::direction::Direction;

@@ -2,15 +2,14 @@
 ghost use Rattle.std.specs.Prelude.{◌≡◌, ℕ, ◌+◌, ◌<◌, ◌^◌, length, slice_get, Some, OnOk, IfOk, IfErr};
 ghost use Rattle.scene_kinds.specs.Answers.{refusal_of};
 ghost use Rattle.scene_kinds.specs.declared.fault.Fault.TheVariants.{BadRecord, NoMemory};
-ghost use Rattle.scene_newest.specs.Newest.{Covers};
+ghost use Rattle.scene_journal.specs.Newest.{Covers};
 ghost use Rattle.scene_world.specs.Room.{IsWider};
 ghost use Rattle.scene_undo.specs.Direction.{CanAll, after, in_turn};
 ghost use Rattle.scene_undo.specs.Parts.{IsFirstFault, NamesFrame};
 
 use crate::direction::Direction;
-use scene_journal::FrameRecord;
+use scene_journal::{FrameRecord, NewestCells};
 use scene_kinds::{Fault, Refusal};
-use scene_newest::NewestCells;
 use scene_world::{RawChanges, World};
 use std::alloc::{AllocError, Global};
 

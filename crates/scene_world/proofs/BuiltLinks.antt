@@ -14,11 +14,11 @@ use Rattle.scene_links.proofs.Held.{none_or, parent_holds, held_parent, holds_he
 use Rattle.scene_links.proofs.Walks.{above_suc, above_none, ancestors_step}
 use Rattle.scene_links.proofs.Below.{child_below}
 use Rattle.scene_links.proofs.Joins.{put_at_last}
-use Rattle.scene_parts.specs.Parts.{forest_of}
-use Rattle.scene_parts.specs.Seen.{lists_seen}
-use Rattle.scene_parts.proofs.Listed.{listed_in, listed_nowhere, listed_rest}
-use Rattle.scene_parts.proofs.LinkRules.{Lists, children_at, held_at, at_held}
-use Rattle.scene_parts.proofs.Once.{one_place}
+use Rattle.scene_validate.specs.Parts.{forest_of}
+use Rattle.scene_validate.specs.Seen.{lists_seen}
+use Rattle.scene_validate.proofs.Listed.{listed_in, listed_nowhere, listed_rest}
+use Rattle.scene_validate.proofs.LinkRules.{Lists, children_at, held_at, at_held}
+use Rattle.scene_validate.proofs.Once.{one_place}
 use Rattle.scene_world.specs.Built.{CanHang, AreLinkable}
 use Rattle.scene_world.proofs.BuiltLists.{AreLeft, one_left, lists_push}
 

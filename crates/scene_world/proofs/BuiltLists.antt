@@ -4,7 +4,7 @@ use Rattle.std.specs.Prelude.{String, string_bytes}
 use Rattle.std.specs.declared.alloc.Global.{Global}
 use Rattle.std.proofs.lemmas.List.{map-append}
 use Rattle.scene_kinds.specs.declared.cell.Cell.{Cell}
-use Rattle.scene_parts.specs.Seen.{lists_seen, named_seen}
+use Rattle.scene_validate.specs.Seen.{lists_seen, named_seen}
 
 -- of all elements the first stand still there, and the others are done
 pub record AreLeft {X : Type 0} (all rest : List X) : Type 0 where

@@ -5,8 +5,8 @@ use Rattle.std.specs.declared.alloc.Global.{Global}
 use Rattle.scene_kinds.specs.declared.cell.Cell.{Cell}
 use Rattle.scene_kinds.specs.Map as map
 use Rattle.scene_resources.specs.Resources.{NamedCells, restore_of}
-use Rattle.scene_parts.specs.Parts.{resources_of}
-use Rattle.scene_parts.specs.Seen.{named_seen}
+use Rattle.scene_validate.specs.Parts.{resources_of}
+use Rattle.scene_validate.specs.Seen.{named_seen}
 use Rattle.scene_world.proofs.BuiltLists.{named_push}
 
 abbrev pub Named : Type 0

@@ -13,12 +13,12 @@ use Rattle.scene_kinds.proofs.Lists.{list_at_same, with_list-with_list, with_lis
 use Rattle.scene_table.specs.Tables.{Tables, NoneOf, rows_at, with_rows, with_row, with_row_back}
 use Rattle.scene_table.proofs.Standing.{added}
 use Rattle.scene_table.proofs.ReturnedRows.{back_last}
-use Rattle.scene_parts.specs.Parts.{tables_of}
-use Rattle.scene_parts.specs.Rules.{flat, are_distinct}
-use Rattle.scene_parts.specs.Seen.{lists_seen}
-use Rattle.scene_parts.proofs.Tests.{and_is, all_with}
-use Rattle.scene_parts.proofs.Listed.{list_at-map_of, listed_nowhere, flat_is}
-use Rattle.scene_parts.proofs.RowRules.{each_row}
+use Rattle.scene_validate.specs.Parts.{tables_of}
+use Rattle.scene_validate.specs.Rules.{flat, are_distinct}
+use Rattle.scene_validate.specs.Seen.{lists_seen}
+use Rattle.scene_validate.proofs.Tests.{and_is, all_with}
+use Rattle.scene_validate.proofs.Listed.{list_at-map_of, listed_nowhere, flat_is}
+use Rattle.scene_validate.proofs.RowRules.{each_row}
 use Rattle.scene_world.specs.Built.{CanTake, taken, AreStorable}
 use Rattle.scene_world.proofs.BuiltLists.{AreLeft, one_left, lists_push}
 

@@ -12,12 +12,12 @@ use Rattle.scene_links.specs.Forest.{Forest, IsLink}
 use Rattle.scene_links.proofs.Held.{same_is}
 use Rattle.scene_table.specs.Tables.{Tables, lives}
 use Rattle.scene_model.specs.Valid.{IsValid, IsRowOf}
-use Rattle.scene_parts.specs.Parts.{Parts, AreInRange, world_of, tables_of, forest_of, resources_of, slots_in}
-use Rattle.scene_parts.specs.Rules.{rows_in, is_current, are_distinct, first_broken}
-use Rattle.scene_parts.proofs.Tests.{and_is, all_is, all_with, at_place, any_is}
-use Rattle.scene_parts.proofs.RowRules.{has_row_lives, tables_fit}
-use Rattle.scene_parts.proofs.BrokenTests.{one_current, places_once, row_indices, all_mapped}
-use Rattle.scene_parts.proofs.WorldRules.{Unbroken, unbroken_is, valid_is, apart_is, parents_apart}
+use Rattle.scene_validate.specs.Parts.{Parts, AreInRange, world_of, tables_of, forest_of, resources_of, slots_in}
+use Rattle.scene_validate.specs.Rules.{rows_in, is_current, are_distinct, first_broken}
+use Rattle.scene_validate.proofs.Tests.{and_is, all_is, all_with, at_place, any_is}
+use Rattle.scene_validate.proofs.RowRules.{has_row_lives, tables_fit}
+use Rattle.scene_validate.proofs.BrokenTests.{one_current, places_once, row_indices, all_mapped}
+use Rattle.scene_validate.proofs.WorldRules.{Unbroken, unbroken_is, valid_is, apart_is, parents_apart}
 use Rattle.scene_world.specs.Built.{AreStorable, AreLinkable}
 
 module _ (p : Parts) (range : AreInRange p) (h : first_broken p ≡ None) where

@@ -14,8 +14,8 @@ use Rattle.scene_kinds.specs.declared.fault.Fault.TheVariants.{BadWorld}
 use Rattle.scene_kinds.specs.declared.refusal.Refusal.{Refusal}
 use Rattle.scene_kinds.specs.KindSet.{KindSet}
 use Rattle.scene_model.specs.World.{World}
-use Rattle.scene_parts.specs.Parts.{Parts, keys, forest_of, world_of}
-use Rattle.scene_parts.specs.Rules.{flat, are_distinct, first_broken}
+use Rattle.scene_validate.specs.Parts.{Parts, keys, forest_of, world_of}
+use Rattle.scene_validate.specs.Rules.{flat, are_distinct, first_broken}
 
 -- ---- rows
 

@@ -1,8 +1,8 @@
 //! The storage of a world, made of the lists of parts.
 ghost use Rattle.std.specs.Prelude.{◌≡◌, ◌≤◌, IfOk, OnOk};
 ghost use Rattle.scene_links.specs.Forest.{with_children};
-ghost use Rattle.scene_parts.specs.Parts.{tables_of, forest_of, resources_of};
-ghost use Rattle.scene_parts.specs.Seen.{lists_seen, named_seen};
+ghost use Rattle.scene_validate.specs.Parts.{tables_of, forest_of, resources_of};
+ghost use Rattle.scene_validate.specs.Seen.{lists_seen, named_seen};
 ghost use Rattle.scene_world.specs.Built.{CanTake, taken, AreStorable, CanHang, AreLinkable};
 
 use scene_archetypes::Archetypes;

@@ -19,7 +19,7 @@ mod world;
 
 pub use frame::Frame;
 pub use raw_changes::RawChanges;
-pub use scene_parts::WorldParts;
 pub use scene_table::Home;
+pub use scene_validate::WorldParts;
 pub use stage::Stage;
 pub use world::World;

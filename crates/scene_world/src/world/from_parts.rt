@@ -2,16 +2,16 @@
 ghost use Rattle.std.specs.Prelude.{◌≡◌, ◌≢◌, None, Ok, Err, IfOk, MatchResult};
 ghost use Rattle.scene_kinds.specs.Answers.{refusal_of};
 ghost use Rattle.scene_kinds.specs.declared.fault.Fault.TheVariants.{NoMemory};
-ghost use Rattle.scene_parts.specs.Parts.{world_of};
-ghost use Rattle.scene_parts.specs.Rules.{first_broken};
-ghost use Rattle.scene_parts.specs.Seen.{seen};
+ghost use Rattle.scene_validate.specs.Parts.{world_of};
+ghost use Rattle.scene_validate.specs.Rules.{first_broken};
+ghost use Rattle.scene_validate.specs.Seen.{seen};
 ghost use Rattle.scene_world.specs.Built.{made};
 
 use crate::built::{build_links, build_resources, build_tables};
 use crate::world::World;
 use scene_alloc::Slots;
 use scene_kinds::{Fault, Refusal};
-use scene_parts::{WorldParts, unbroken_parts_are_those_of_valid_worlds};
+use scene_validate::{WorldParts, unbroken_parts_are_those_of_valid_worlds};
 use std::alloc::{AllocError, Global};
 
 /// The world of parts that break no rule.

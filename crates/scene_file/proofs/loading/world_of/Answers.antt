@@ -1,4 +1,4 @@
-use Rattle.scene_parts.specs.Seen.{seen}
+use Rattle.scene_validate.specs.Seen.{seen}
 use Rattle.scene_file.proofs.TextFaults.{world_made}
 use Rattle.scene_file.proofs.loading.world_of.Goals as goal
 

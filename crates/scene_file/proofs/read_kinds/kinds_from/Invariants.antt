@@ -1,6 +1,6 @@
 use Rattle.std.proofs.Common.{◌≡◌, ◌+◌, [], length}
 use Rattle.scene_json.specs.View.{views}
-use Rattle.scene_forms.specs.Paths.{path_bytes}
+use Rattle.scene_json_forms.specs.Paths.{path_bytes}
 use Rattle.scene_file.specs.Walk.{kinds_from}
 use Rattle.scene_file.proofs.read_kinds.kinds_from.Given as goal
 

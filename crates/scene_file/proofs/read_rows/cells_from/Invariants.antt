@@ -1,8 +1,8 @@
 use Rattle.std.proofs.Common.{◌≡◌, ◌+◌, drop, length}
 use Rattle.scene_json.specs.View.{views}
-use Rattle.scene_forms.specs.Paths.{path_bytes}
+use Rattle.scene_json_forms.specs.Paths.{path_bytes}
 use Rattle.scene_file.specs.Walk.{cells_from}
-use Rattle.scene_forms.proofs.Lists.{joined}
+use Rattle.scene_json_forms.proofs.Lists.{joined}
 use Rattle.scene_file.proofs.read_rows.cells_from.Given as goal
 
 abbrev pub invariant-cells : goal.invariant-cells

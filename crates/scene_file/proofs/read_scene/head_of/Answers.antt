@@ -1,7 +1,7 @@
 use Rattle.std.proofs.Common.{Ok, ap, ◌∙◌}
 use Rattle.std.proofs.lemmas.List.{map-id}
 use Rattle.scene_json.specs.View.{view}
-use Rattle.scene_forms.specs.Members.{members_in}
+use Rattle.scene_json_forms.specs.Members.{members_in}
 use Rattle.scene_file.proofs.SceneSteps.{head_said}
 use Rattle.scene_file.proofs.read_scene.head_of.Goals as goal
 

@@ -1,7 +1,7 @@
 use Rattle.std.proofs.Common.{subst, sym}
 use Rattle.std.proofs.lemmas.List.{reverse-reverse}
 use Rattle.scene_model.specs.Valid.{IsValid}
-use Rattle.scene_verdicts.specs.Faults.{PastFits}
+use Rattle.scene_journal.specs.FirstFaults.{PastFits}
 use Rattle.scene_file.proofs.saving_editor.records_fit.Goals as goal
 
 pub returns : goal.returns

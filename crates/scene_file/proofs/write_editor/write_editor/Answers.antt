@@ -2,9 +2,9 @@ use Rattle.std.proofs.Common.{ap, sym, reverse, ◌∙◌, ◌++◌, ◌≡◌, 
 use Rattle.std.specs.Prelude.{codes}
 use Rattle.std.proofs.lemmas.List.{reverse-reverse}
 use Rattle.serde_json.specs.Written.{compact_text}
-use Rattle.scene_record_text.specs.Text.{records_text}
+use Rattle.scene_file_records.specs.Text.{records_text}
 use Rattle.scene_file.specs.Printing.{first_members, last_members}
-use Rattle.scene_forms.proofs.ListsWritten.{accepted, chain}
+use Rattle.scene_json_forms.proofs.ListsWritten.{accepted, chain}
 use Rattle.scene_file.proofs.Objects.{editor_is}
 use Rattle.scene_file.proofs.write_editor.write_editor.Goals as goal
 

@@ -1,8 +1,8 @@
 use Rattle.std.proofs.Common.{ℕ, string_bytes}
 use Rattle.scene_kinds.specs.Cells.{shown}
 use Rattle.scene_kinds.specs.declared.cell.Cell.{Cell}
-use Rattle.scene_forms.specs.Text.{cell_text}
-use Rattle.scene_forms.proofs.ListsWritten.{written}
+use Rattle.scene_json_forms.specs.Text.{cell_text}
+use Rattle.scene_json_forms.proofs.ListsWritten.{written}
 use Rattle.scene_file.proofs.write_rows.write_cells.Goals as goal
 
 pub cells-preserved : goal.cells-preserved

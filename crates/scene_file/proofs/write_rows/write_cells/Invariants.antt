@@ -1,8 +1,8 @@
 use Rattle.std.proofs.Common.{◌≡◌, ◌++◌, drop, string_bytes}
 use Rattle.std.specs.Prelude.{false, Some, slice_get}
-use Rattle.scene_forms.specs.Printing.{rest_text}
+use Rattle.scene_json_forms.specs.Printing.{rest_text}
 use Rattle.scene_kinds.specs.declared.cells.Row.{Row}
-use Rattle.scene_forms.specs.Text.{cell_text}
+use Rattle.scene_json_forms.specs.Text.{cell_text}
 use Rattle.scene_file.proofs.write_rows.write_cells.Given as goal
 
 abbrev pub invariant-cells : goal.invariant-cells

@@ -1,6 +1,6 @@
 use Rattle.std.proofs.Common.{string_bytes}
 use Rattle.scene_kinds.specs.KindSet.{kinds_left}
-use Rattle.scene_forms.proofs.ListsWritten.{accepted}
+use Rattle.scene_json_forms.proofs.ListsWritten.{accepted}
 use Rattle.scene_file.proofs.KindLists.{kind_written, kinds_closed}
 use Rattle.scene_file.proofs.write_rows.write_kind_set.Goals as goal
 

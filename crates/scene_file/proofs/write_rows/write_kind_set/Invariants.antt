@@ -1,8 +1,8 @@
 use Rattle.std.proofs.Common.{◌≡◌, ◌++◌, string_bytes}
 use Rattle.std.specs.Prelude.{false}
 use Rattle.scene_kinds.specs.KindSet.{kinds_in, kinds_left}
-use Rattle.scene_forms.specs.Text.{count_text}
-use Rattle.scene_forms.specs.Printing.{rest_text}
+use Rattle.scene_json_forms.specs.Text.{count_text}
+use Rattle.scene_json_forms.specs.Printing.{rest_text}
 use Rattle.scene_file.proofs.write_rows.write_kind_set.Given as goal
 
 abbrev pub invariant-numbers : goal.invariant-numbers

@@ -2,9 +2,9 @@ use Rattle.std.proofs.Common.{ap, sym, ◌∙◌, ◌++◌, string_bytes}
 use Rattle.std.specs.Prelude.{codes}
 use Rattle.serde_json.specs.Written.{compact_text}
 use Rattle.scene_kinds.specs.declared.cells.Row.{Row}
-use Rattle.scene_forms.specs.Text.{list_text, cell_text, entity_json}
+use Rattle.scene_json_forms.specs.Text.{list_text, cell_text, entity_json}
 use Rattle.scene_file.specs.Text.{row_text}
-use Rattle.scene_forms.proofs.ListsWritten.{accepted, five, read_of}
+use Rattle.scene_json_forms.proofs.ListsWritten.{accepted, five, read_of}
 use Rattle.scene_file.proofs.Objects.{row_is}
 use Rattle.scene_file.proofs.write_rows.write_row.Goals as goal
 

@@ -1,7 +1,7 @@
 use Rattle.std.proofs.Common.{arith, string_bytes}
 use Rattle.scene_table.proofs.RowLists.{element_at}
 use Rattle.scene_file.specs.Text.{row_text}
-use Rattle.scene_forms.proofs.ListsWritten.{written}
+use Rattle.scene_json_forms.proofs.ListsWritten.{written}
 use Rattle.scene_file.proofs.write_rows.write_rows.Goals as goal
 
 pub rows-preserved : goal.rows-preserved

@@ -1,6 +1,6 @@
 use Rattle.std.proofs.Common.{◌≡◌, ◌++◌, drop, string_bytes}
 use Rattle.std.specs.Prelude.{false}
-use Rattle.scene_forms.specs.Printing.{rest_text}
+use Rattle.scene_json_forms.specs.Printing.{rest_text}
 use Rattle.scene_file.specs.Text.{row_text}
 use Rattle.scene_file.proofs.write_rows.write_rows.Given as goal
 

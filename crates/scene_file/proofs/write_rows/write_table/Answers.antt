@@ -1,10 +1,10 @@
 use Rattle.std.proofs.Common.{ap, sym, ◌∙◌, string_bytes}
 use Rattle.std.specs.Prelude.{codes}
 use Rattle.serde_json.specs.Written.{compact_text}
-use Rattle.scene_forms.specs.Text.{list_text}
+use Rattle.scene_json_forms.specs.Text.{list_text}
 use Rattle.scene_file.specs.Text.{row_text}
 use Rattle.scene_file.specs.Printing.{kinds_json, table_json}
-use Rattle.scene_forms.proofs.ListsWritten.{accepted, five}
+use Rattle.scene_json_forms.proofs.ListsWritten.{accepted, five}
 use Rattle.scene_file.proofs.Objects.{table_is}
 use Rattle.scene_file.proofs.write_rows.write_table.Goals as goal
 

@@ -1,7 +1,7 @@
 use Rattle.std.proofs.Common.{◌≡◌, ◌++◌, drop, string_bytes}
 use Rattle.std.specs.Prelude.{false}
 use Rattle.scene_file.specs.Printing.{table_json}
-use Rattle.scene_forms.specs.Printing.{rest_text}
+use Rattle.scene_json_forms.specs.Printing.{rest_text}
 use Rattle.scene_file.proofs.write_rows.write_tables.Given as goal
 
 abbrev pub invariant-tables : goal.invariant-tables

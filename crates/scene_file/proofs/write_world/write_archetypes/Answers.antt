@@ -1,8 +1,8 @@
 use Rattle.std.proofs.Common.{ap, ◌∙◌, ◌++◌, string_bytes}
 use Rattle.serde_json.specs.Written.{compact_text}
-use Rattle.scene_forms.specs.Text.{list_text}
+use Rattle.scene_json_forms.specs.Text.{list_text}
 use Rattle.scene_file.specs.Printing.{table_json}
-use Rattle.scene_forms.proofs.ListsWritten.{so}
+use Rattle.scene_json_forms.proofs.ListsWritten.{so}
 use Rattle.scene_file.proofs.Found.{tables_found}
 use Rattle.scene_file.proofs.write_world.write_archetypes.Goals as goal
 

@@ -1,7 +1,7 @@
 use Rattle.std.proofs.Common.{ap, sym, ◌∙◌}
 use Rattle.serde_json.specs.Written.{compact_text}
 use Rattle.scene_file.specs.Text.{children_text}
-use Rattle.scene_forms.proofs.ListsWritten.{accepted, five}
+use Rattle.scene_json_forms.proofs.ListsWritten.{accepted, five}
 use Rattle.scene_file.proofs.Objects.{children_is}
 use Rattle.scene_file.proofs.write_world.write_children.Goals as goal
 

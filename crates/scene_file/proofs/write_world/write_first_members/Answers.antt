@@ -1,10 +1,10 @@
 use Rattle.std.proofs.Common.{ap, ◌∙◌, ◌++◌, ◌≡◌, string_bytes}
 use Rattle.std.specs.Prelude.{codes, decimal}
 use Rattle.serde_json.specs.Written.{compact_text}
-use Rattle.scene_parts.specs.Parts.{lists_of}
-use Rattle.scene_forms.specs.Text.{list_text, count_text}
+use Rattle.scene_validate.specs.Parts.{lists_of}
+use Rattle.scene_json_forms.specs.Text.{list_text, count_text}
 use Rattle.scene_file.specs.Text.{kind_text, children_text}
-use Rattle.scene_forms.proofs.ListsWritten.{chain}
+use Rattle.scene_json_forms.proofs.ListsWritten.{chain}
 use Rattle.scene_file.proofs.write_world.write_first_members.Goals as goal
 
 pub returns : goal.returns

@@ -1,5 +1,5 @@
 use Rattle.scene_file.specs.Text.{kind_text}
-use Rattle.scene_forms.proofs.ListsWritten.{written}
+use Rattle.scene_json_forms.proofs.ListsWritten.{written}
 use Rattle.scene_file.proofs.write_world.write_kinds.Goals as goal
 
 pub kinds-preserved : goal.kinds-preserved

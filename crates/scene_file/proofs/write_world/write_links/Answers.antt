@@ -1,9 +1,9 @@
 use Rattle.std.proofs.Common.{ap, ◌∙◌, ◌++◌, ◌≡◌, string_bytes}
 use Rattle.serde_json.specs.Written.{compact_text}
 use Rattle.scene_links.specs.Forest.{children_of, parents}
-use Rattle.scene_forms.specs.Text.{list_text}
+use Rattle.scene_json_forms.specs.Text.{list_text}
 use Rattle.scene_file.specs.Text.{children_text}
-use Rattle.scene_forms.proofs.ListsWritten.{so}
+use Rattle.scene_json_forms.proofs.ListsWritten.{so}
 use Rattle.scene_file.proofs.Found.{forest_found}
 use Rattle.scene_file.proofs.write_world.write_links.Goals as goal
 

@@ -2,7 +2,7 @@ use Rattle.std.proofs.Common.{◌≡◌, ◌++◌, drop, string_bytes}
 use Rattle.std.specs.Prelude.{false}
 use Rattle.scene_links.specs.Forest.{children_of}
 use Rattle.scene_file.specs.Text.{children_text}
-use Rattle.scene_forms.specs.Printing.{rest_text}
+use Rattle.scene_json_forms.specs.Printing.{rest_text}
 use Rattle.scene_file.proofs.write_world.write_parents.Given as goal
 
 abbrev pub invariant-parents : goal.invariant-parents

@@ -1,4 +1,4 @@
-use Rattle.scene_forms.proofs.ListsWritten.{accepted, five}
+use Rattle.scene_json_forms.proofs.ListsWritten.{accepted, five}
 use Rattle.scene_file.proofs.Objects.{resource_is}
 use Rattle.scene_file.proofs.write_world.write_resource.Goals as goal
 

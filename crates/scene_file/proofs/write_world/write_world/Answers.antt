@@ -1,7 +1,7 @@
 use Rattle.std.proofs.Common.{ap, sym, ◌∙◌, ◌++◌, string_bytes}
 use Rattle.std.specs.Prelude.{codes}
 use Rattle.scene_file.specs.Printing.{first_members, last_members}
-use Rattle.scene_forms.proofs.ListsWritten.{accepted, chain}
+use Rattle.scene_json_forms.proofs.ListsWritten.{accepted, chain}
 use Rattle.scene_file.proofs.Objects.{world_is}
 use Rattle.scene_file.proofs.write_world.write_world.Goals as goal
 

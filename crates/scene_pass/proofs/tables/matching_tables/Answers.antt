@@ -1,7 +1,7 @@
 use Rattle.std.proofs.Common.{ap, ◌∙◌, rules}
 use Rattle.std.specs.List.{flat_map}
 use Rattle.std.proofs.lemmas.Fn.{filter_same}
-use Rattle.scene_rules.specs.Filter.{is_match}
+use Rattle.scene_systems.specs.Filter.{is_match}
 use Rattle.scene_pass.proofs.KeptTables.{rows_of_matching}
 use Rattle.scene_pass.proofs.tables.matching_tables.Goals as goal
 

@@ -1,7 +1,7 @@
 use Rattle.std.proofs.Common.{◌≡◌, ◌+◌, ◌<◌, ℕ, [], ◌∷◌, length, get_or, sym, subst, ap, ◌∙◌, arith, Some, None}
 use Rattle.std.specs.Prelude.{slice_get}
 use Rattle.std.proofs.lemmas.List.{length-append}
-use Rattle.scene_rules.specs.declared.system_rule.SystemRule.{SystemRule}
+use Rattle.scene_systems.specs.declared.system_rule.SystemRule.{SystemRule}
 use Rattle.scene_schedule.specs.Turns.{IsTurn}
 use Rattle.std.proofs.lemmas.Option.{slice_get_within}
 use Rattle.scene_schedule.proofs.Outputs.{few_steps}

@@ -1,5 +1,5 @@
 use Rattle.std.proofs.Common.{◌≡◌, take}
-use Rattle.scene_newest.specs.Newest.{Covers}
+use Rattle.scene_journal.specs.Newest.{Covers}
 use Rattle.scene_world.specs.Room.{IsWider}
 use Rattle.scene_undo.specs.declared.direction.Direction.TheVariants.{Undo}
 use Rattle.scene_undo.specs.Direction.{CanAll, after, in_turn}

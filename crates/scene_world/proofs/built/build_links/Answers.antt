@@ -1,6 +1,6 @@
 use Rattle.std.proofs.Common.{◌≡◌, [], rules}
 use Rattle.std.proofs.lemmas.List.{nil_from_length}
-use Rattle.scene_parts.specs.Seen.{lists_seen}
+use Rattle.scene_validate.specs.Seen.{lists_seen}
 use Rattle.scene_world.proofs.BuiltLinks.{hung_can, hung_more, none_hung, all_hung}
 use Rattle.scene_world.proofs.built.build_links.Goals as goal
 

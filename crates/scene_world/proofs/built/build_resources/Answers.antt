@@ -1,5 +1,5 @@
 use Rattle.std.proofs.Common.{◌∙◌, ap}
-use Rattle.scene_parts.specs.Seen.{named_seen}
+use Rattle.scene_validate.specs.Seen.{named_seen}
 use Rattle.scene_world.proofs.BuiltNames.{onto, onto_empty, onto_next}
 use Rattle.scene_world.proofs.built.build_resources.Goals as goal
 

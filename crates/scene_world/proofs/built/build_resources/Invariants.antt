@@ -1,6 +1,6 @@
 use Rattle.std.proofs.Common.{◌≡◌, length}
-use Rattle.scene_parts.specs.Parts.{resources_of}
-use Rattle.scene_parts.specs.Seen.{named_seen}
+use Rattle.scene_validate.specs.Parts.{resources_of}
+use Rattle.scene_validate.specs.Seen.{named_seen}
 use Rattle.scene_world.proofs.BuiltNames.{onto}
 use Rattle.scene_world.proofs.built.build_resources.Given as goal
 

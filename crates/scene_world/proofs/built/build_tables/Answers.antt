@@ -1,7 +1,7 @@
 use Rattle.std.proofs.Common.{◌≡◌, ◌∙◌, [], ap, rules}
 use Rattle.std.proofs.lemmas.List.{nil_from_length}
 use Rattle.scene_archetypes.specs.Archetypes.{ArchetypesState}
-use Rattle.scene_parts.specs.Seen.{lists_seen}
+use Rattle.scene_validate.specs.Seen.{lists_seen}
 use Rattle.scene_world.proofs.BuiltRows.{built_can, built_more, none_built, all_built}
 use Rattle.scene_world.proofs.built.build_tables.Goals as goal
 

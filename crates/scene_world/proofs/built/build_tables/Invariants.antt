@@ -1,5 +1,5 @@
 use Rattle.std.proofs.Common.{length}
-use Rattle.scene_parts.specs.Seen.{lists_seen}
+use Rattle.scene_validate.specs.Seen.{lists_seen}
 use Rattle.scene_world.proofs.BuiltRows.{AreBuilt}
 use Rattle.scene_world.proofs.built.build_tables.Given as goal
 

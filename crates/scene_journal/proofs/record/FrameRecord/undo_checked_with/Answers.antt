@@ -6,8 +6,8 @@ use Rattle.scene_deltas.specs.Ready.{AreReady}
 use Rattle.scene_deltas.specs.Deltas.{back_all}
 use Rattle.scene_deltas.proofs.Deltas.{back_all_keeps_tick}
 use Rattle.scene_deltas.proofs.Turns.{ready_fits_back}
-use Rattle.scene_newest.specs.Newest.{Covers}
-use Rattle.scene_newest.proofs.Covers.{covers_at}
+use Rattle.scene_journal.specs.Newest.{Covers}
+use Rattle.scene_journal.proofs.Covers.{covers_at}
 use Rattle.scene_journal.specs.Faults.{IsLastUnfit, Names}
 use Rattle.scene_journal.proofs.SomeDeltas.{fault_of_delta}
 use Rattle.scene_journal.proofs.record.FrameRecord.undo_checked_with.Goals as goal

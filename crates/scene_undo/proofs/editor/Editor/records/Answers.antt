@@ -1,5 +1,5 @@
 use Rattle.std.proofs.Common.{subst}
-use Rattle.scene_verdicts.specs.Faults.{FutureFits, PastFits}
+use Rattle.scene_journal.specs.FirstFaults.{FutureFits, PastFits}
 use Rattle.scene_undo.specs.declared.direction.Direction.TheVariants.{Undo, Redo}
 use Rattle.scene_undo.specs.Editor.{EditorState}
 use Rattle.scene_undo.proofs.EditorLaws.{found}

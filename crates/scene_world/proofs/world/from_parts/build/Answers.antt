@@ -1,7 +1,7 @@
 use Rattle.std.proofs.Common.{List, ℕ, length, subst, sym, ap, arith}
 use Rattle.scene_alloc.specs.Slots.{SlotState}
 use Rattle.scene_model.specs.Valid.{IsValid}
-use Rattle.scene_parts.specs.Seen.{lists_seen, seen}
+use Rattle.scene_validate.specs.Seen.{lists_seen, seen}
 use Rattle.scene_world.specs.Built.{AreStorable}
 use Rattle.scene_world.proofs.BuiltWorlds.{storable, linkable, seen_world}
 use Rattle.scene_world.proofs.world.from_parts.build.Goals as goal

@@ -1,0 +1,4 @@
+pub mod GoesOn
+pub mod Laws
+pub mod Order
+pub mod Since

@@ -1,0 +1,211 @@
+-- Records that were written are read again.
+use Rattle.std.proofs.Common.{◌≡◌, ℕ, ◌^◌, ◌<◌, true, false, cond, List, [], ◌∷◌, length, refl, ap, ◌∙◌, Option, Some, None, Result, Ok, is_some, nat_eq, codes}
+use Rattle.std.specs.Prelude.{Bool, IfSome}
+use Rattle.std.specs.List.{list_all, AllByRecursion}
+use Rattle.std.specs.Ordering.{nat_cmp}
+use Rattle.std.specs.FinMap.Entries.{below_all, is_sorted}
+use Rattle.std.proofs.lemmas.Bool.{eq-eqb, lt-ltb}
+use Rattle.serde_json.specs.Data.{Data, boolean, string}
+use Rattle.serde_json.specs.Find.{as_null}
+use Rattle.scene_kinds.specs.declared.cell.Cell.{Cell}
+use Rattle.scene_kinds.specs.declared.entity.Entity.{Entity}
+use Rattle.scene_kinds.specs.declared.shape.Shape.{Shape}
+use Rattle.scene_kinds.specs.declared.value.Value.{Value}
+use Rattle.scene_kinds.specs.Cells.{IsAscending}
+use Rattle.scene_kinds.specs.Schema.{Kinds, fits_kind, is_good_name, shape_of}
+use Rattle.scene_kinds.specs.Shape.{shape_of_value}
+use Rattle.scene_kinds.proofs.Choices.{test_parts}
+use Rattle.scene_deltas.specs.declared.delta.Delta.{Delta}
+use Rattle.scene_deltas.specs.declared.delta.Delta.TheVariants.{Spawned, Despawned, Shifted, CellSet, Linked, ResourceSet}
+use Rattle.scene_journal.specs.Records.{Record, record_of}
+use Rattle.scene_json_forms.specs.declared.fault.FileFault.{FileFault}
+use Rattle.scene_json_forms.specs.Reading.{◌>>=◌, field, if_good, below, list_of, under, place_in}
+use Rattle.scene_json_forms.specs.Text.{count_text, list_text, entity_json, value_text, resource_cell_text}
+use Rattle.scene_json_forms.specs.Walk.{u32_at, tick_at, entity_at, name_at, cell_from, resource_cell_at}
+use Rattle.scene_json_forms.proofs.FitKinds.{Fits, fits_is, all_above}
+use Rattle.scene_json_forms.proofs.GoodSteps.{both_pass}
+use Rattle.scene_json_forms.proofs.ListsBack.{ReadsBack, Follow, after, good, below_back, list_back, rising_back}
+use Rattle.scene_json_forms.proofs.ValuesBack.{entity_back, cell_from_back, resource_cell_back}
+use Rattle.scene_file_records.specs.Text.{maybe_text, kcell_text, kcells_text, parent_text, link_text, maybe_resource_cell_text, delta_text, record_text, records_text}
+use Rattle.scene_file_records.specs.Walk.{maybe_of, kind_at, kcell_at, kcells_at, kind_follows, parent_at, link_at, maybe_resource_cell_at, flag_at, delta_at, record_at, records_at}
+use Rattle.scene_file_records.specs.Writable.{IsPlace, IsCellOf, AreCells, IsLink, IsResourceCell, IsWritableDelta, IsWritable}
+
+-- ---- cells
+
+kind_back : (schema : Kinds) (v : Value) (kind : ℕ) → Fits schema v kind → (path : List ℕ) → kind_at schema path (count_text kind)
+    ≡ Ok (kind, shape_of_value v)
+kind_back schema v kind f path =
+    after (below (length schema) path (count_text kind)) kind (λ k. field path (shape_of schema k) >>= λ shape. Ok (k, shape))
+    (Ok (kind, shape_of_value v)) (below_back (length schema) kind f.low path) (ap (λ o. field path o >>= λ shape. Ok (kind, shape)) f.shape)
+
+kcell_back : (schema : Kinds) (c : ℕ × Cell) → IsCellOf schema c.0 c.1 → ReadsBack (kcell_at schema) kcell_text c
+kcell_back schema c h path =
+    let f = fits_is schema c.1.value c.0 h in
+    let s : Shape = shape_of_value c.1.value in
+    after (kind_at schema (place_in path 0) (count_text c.0)) (c.0, s)
+    (λ kind. cell_from kind.1 path 1 (value_text c.1.value) (count_text c.1.added) (count_text c.1.changed) >>= λ cell. Ok (kind.0, cell)) (Ok c)
+    (kind_back schema c.1.value c.0 f (place_in path 0))
+    (after (cell_from s path 1 (value_text c.1.value) (count_text c.1.added) (count_text c.1.changed)) c.1 (λ cell. Ok (c.0, cell)) (Ok c)
+    (cell_from_back c.1 f.range path 1) refl)
+
+each_kcell_back : (schema : Kinds) (cells : List (ℕ × Cell)) → list_all (λ c. fits_kind schema c.1.value c.0) cells ≡ true
+    → AllByRecursion (ReadsBack (kcell_at schema) kcell_text) cells
+each_kcell_back schema [] h = tt
+each_kcell_back schema (c ∷ cs) h =
+    let k = both_pass (fits_kind schema c.1.value c.0) (list_all (λ c. fits_kind schema c.1.value c.0) cs) h in
+    (kcell_back schema c k.0, each_kcell_back schema cs k.1)
+
+-- cells whose kinds ascend follow one another
+follow_after : (before : ℕ × Cell) (cells : List (ℕ × Cell)) → IsAscending cells → AllByRecursion (λ c. before.0 < c.0) cells
+    → Follow kind_follows (Some before) cells
+follow_after before [] s h = tt
+follow_after before (c ∷ cs) s h =
+    let p = test_parts (below_all nat_cmp c.0 cs) (is_sorted nat_cmp cs) s in
+    (lt-ltb before.0 c.0 h.0, follow_after c cs p.1 (all_above c.0 cs p.0))
+
+follow : (cells : List (ℕ × Cell)) → IsAscending cells → Follow kind_follows None cells
+follow [] s = tt
+follow (c ∷ cs) s = let p = test_parts (below_all nat_cmp c.0 cs) (is_sorted nat_cmp cs) s in (refl, follow_after c cs p.1 (all_above c.0 cs p.0))
+
+kcells_back : (schema : Kinds) (cells : List (ℕ × Cell)) → AreCells schema cells → ReadsBack (kcells_at schema) kcells_text cells
+kcells_back schema cells h = rising_back (kcell_at schema) kcell_text kind_follows cells (each_kcell_back schema cells h.fit) (follow cells h.ascending)
+
+-- ---- what may be missing
+
+maybe_back : {A : Type 0} (read : List ℕ → Data → Result A FileFault) (text : A → Data) → ((a : A) → is_some (as_null (text a)) ≡ false)
+    → (o : Option A) → IfSome o (ReadsBack read text)
+    → ReadsBack (maybe_of read) (maybe_text text) o
+maybe_back read text some None h path = refl
+maybe_back read text some (Some a) h path =
+    ap (λ b. cond b (Ok None) (read path (text a) >>= λ x. Ok (Some x))) (some a)
+    ∙ after (read path (text a)) a (λ x. Ok (Some x)) (Ok (Some a)) (h path) refl
+
+place_back : (place : ℕ) → IsPlace place → ReadsBack u32_at count_text place
+place_back place h = below_back (2 ^ 32) place h
+
+parent_back : (link : Entity × ℕ) → IsLink link → ReadsBack parent_at parent_text link
+parent_back link h path =
+    after (entity_at (place_in path 0) (entity_json link.0)) link.0
+    (λ parent. u32_at (place_in path 1) (count_text link.1) >>= λ place. Ok (parent, place)) (Ok link) (entity_back link.0 h.0 (place_in path 0))
+    (after (u32_at (place_in path 1) (count_text link.1)) link.1 (λ place. Ok (link.0, place)) (Ok link) (place_back link.1 h.1 (place_in path 1)) refl)
+
+link_back : (link : Option (Entity × ℕ)) → IfSome link IsLink → ReadsBack link_at link_text link
+link_back None h = maybe_back parent_at parent_text (λ l. refl) None tt
+link_back (Some l) h = maybe_back parent_at parent_text (λ l. refl) (Some l) (parent_back l h)
+
+maybe_cell_back : (cell : Option Cell) → IfSome cell IsResourceCell → ReadsBack maybe_resource_cell_at maybe_resource_cell_text cell
+maybe_cell_back None h = maybe_back resource_cell_at resource_cell_text (λ c. refl) None tt
+maybe_cell_back (Some c) h = maybe_back resource_cell_at resource_cell_text (λ c. refl) (Some c) (resource_cell_back c h)
+
+name_back : (name : List ℕ) → is_good_name name ≡ true → ReadsBack name_at string name
+name_back name h path = good path (is_good_name name) name h
+
+-- ---- deltas
+
+spawned_back : (schema : Kinds) (e : Entity) (cells : List (ℕ × Cell)) (fresh : Bool) → IsWritableDelta schema (Spawned e cells fresh) → ReadsBack (delta_at schema) delta_text (Spawned e cells fresh)
+spawned_back schema e cells fresh h path =
+    after (kcells_at schema (under path (codes "cells")) (kcells_text cells)) cells
+    (λ cs. entity_at (under path (codes "entity")) (entity_json e) >>= λ x. flag_at (under path (codes "fresh")) (boolean fresh) >>= λ f. Ok (Spawned x cs f))
+    (Ok (Spawned e cells fresh)) (kcells_back schema cells h.0 (under path (codes "cells")))
+    (after (entity_at (under path (codes "entity")) (entity_json e)) e
+    (λ x. flag_at (under path (codes "fresh")) (boolean fresh) >>= λ f. Ok (Spawned x cells f))
+    (Ok (Spawned e cells fresh)) (entity_back e h.1 (under path (codes "entity")))
+    refl)
+
+despawned_back : (schema : Kinds) (e : Entity) (place : ℕ) (cells : List (ℕ × Cell)) (link : Option (Entity × ℕ)) (retired : Bool) → IsWritableDelta schema (Despawned e place cells link retired) → ReadsBack (delta_at schema) delta_text (Despawned e place cells link retired)
+despawned_back schema e place cells link retired h path =
+    after (kcells_at schema (under path (codes "cells")) (kcells_text cells)) cells
+    (λ cs. entity_at (under path (codes "entity")) (entity_json e) >>= λ x. link_at (under path (codes "link")) (link_text link) >>= λ l. u32_at (under path (codes "place")) (count_text place) >>= λ p. flag_at (under path (codes "retired")) (boolean retired) >>= λ f. Ok (Despawned x p cs l f))
+    (Ok (Despawned e place cells link retired)) (kcells_back schema cells h.0 (under path (codes "cells")))
+    (after (entity_at (under path (codes "entity")) (entity_json e)) e
+    (λ x. link_at (under path (codes "link")) (link_text link) >>= λ l. u32_at (under path (codes "place")) (count_text place) >>= λ p. flag_at (under path (codes "retired")) (boolean retired) >>= λ f. Ok (Despawned x p cells l f))
+    (Ok (Despawned e place cells link retired)) (entity_back e h.1 (under path (codes "entity")))
+    (after (link_at (under path (codes "link")) (link_text link)) link
+    (λ l. u32_at (under path (codes "place")) (count_text place) >>= λ p. flag_at (under path (codes "retired")) (boolean retired) >>= λ f. Ok (Despawned e p cells l f))
+    (Ok (Despawned e place cells link retired)) (link_back link h.2 (under path (codes "link")))
+    (after (u32_at (under path (codes "place")) (count_text place)) place
+    (λ p. flag_at (under path (codes "retired")) (boolean retired) >>= λ f. Ok (Despawned e p cells link f))
+    (Ok (Despawned e place cells link retired)) (place_back place h.3 (under path (codes "place")))
+    refl)))
+
+shifted_back : (schema : Kinds) (e : Entity) (place kind : ℕ) (cell : Cell) (inward : Bool) → IsWritableDelta schema (Shifted e place kind cell inward) → ReadsBack (delta_at schema) delta_text (Shifted e place kind cell inward)
+shifted_back schema e place kind cell inward h path =
+    after (kcell_at schema (under path (codes "cell")) (kcell_text (kind, cell))) (kind, cell)
+    (λ c. entity_at (under path (codes "entity")) (entity_json e) >>= λ x. flag_at (under path (codes "inward")) (boolean inward) >>= λ f. u32_at (under path (codes "place")) (count_text place) >>= λ p. Ok (Shifted x p c.0 c.1 f))
+    (Ok (Shifted e place kind cell inward)) (kcell_back schema (kind, cell) h.0 (under path (codes "cell")))
+    (after (entity_at (under path (codes "entity")) (entity_json e)) e
+    (λ x. flag_at (under path (codes "inward")) (boolean inward) >>= λ f. u32_at (under path (codes "place")) (count_text place) >>= λ p. Ok (Shifted x p kind cell f))
+    (Ok (Shifted e place kind cell inward)) (entity_back e h.1 (under path (codes "entity")))
+    (after (u32_at (under path (codes "place")) (count_text place)) place
+    (λ p. Ok (Shifted e p kind cell inward))
+    (Ok (Shifted e place kind cell inward)) (place_back place h.2 (under path (codes "place")))
+    refl))
+
+cell_set_back : (schema : Kinds) (e : Entity) (kind : ℕ) (old new : Cell) → IsWritableDelta schema (CellSet e kind old new) → ReadsBack (delta_at schema) delta_text (CellSet e kind old new)
+cell_set_back schema e kind old new h path =
+    after (kcell_at schema (under path (codes "after")) (kcell_text (kind, new))) (kind, new)
+    (λ a. kcell_at schema (under path (codes "before")) (kcell_text (kind, old)) >>= λ b. entity_at (under path (codes "entity")) (entity_json e) >>= λ x. if_good (under path (codes "after")) (nat_eq a.0 b.0) (CellSet x a.0 b.1 a.1))
+    (Ok (CellSet e kind old new)) (kcell_back schema (kind, new) h.0 (under path (codes "after")))
+    (after (kcell_at schema (under path (codes "before")) (kcell_text (kind, old))) (kind, old)
+    (λ b. entity_at (under path (codes "entity")) (entity_json e) >>= λ x. if_good (under path (codes "after")) (nat_eq kind b.0) (CellSet x kind b.1 new))
+    (Ok (CellSet e kind old new)) (kcell_back schema (kind, old) h.1 (under path (codes "before")))
+    (after (entity_at (under path (codes "entity")) (entity_json e)) e
+    (λ x. if_good (under path (codes "after")) (nat_eq kind kind) (CellSet x kind old new))
+    (Ok (CellSet e kind old new)) (entity_back e h.2 (under path (codes "entity")))
+    (good (under path (codes "after")) (nat_eq kind kind) (CellSet e kind old new) (eq-eqb kind kind refl))))
+
+linked_back : (schema : Kinds) (e : Entity) (old new : Option (Entity × ℕ)) → IsWritableDelta schema (Linked e old new) → ReadsBack (delta_at schema) delta_text (Linked e old new)
+linked_back schema e old new h path =
+    after (link_at (under path (codes "after")) (link_text new)) new
+    (λ a. link_at (under path (codes "before")) (link_text old) >>= λ b. entity_at (under path (codes "entity")) (entity_json e) >>= λ x. Ok (Linked x b a))
+    (Ok (Linked e old new)) (link_back new h.0 (under path (codes "after")))
+    (after (link_at (under path (codes "before")) (link_text old)) old
+    (λ b. entity_at (under path (codes "entity")) (entity_json e) >>= λ x. Ok (Linked x b new))
+    (Ok (Linked e old new)) (link_back old h.1 (under path (codes "before")))
+    (after (entity_at (under path (codes "entity")) (entity_json e)) e
+    (λ x. Ok (Linked x old new))
+    (Ok (Linked e old new)) (entity_back e h.2 (under path (codes "entity")))
+    refl))
+
+resource_set_back : (schema : Kinds) (name : List ℕ) (old new : Option Cell) → IsWritableDelta schema (ResourceSet name old new) → ReadsBack (delta_at schema) delta_text (ResourceSet name old new)
+resource_set_back schema name old new h path =
+    after (maybe_resource_cell_at (under path (codes "after")) (maybe_resource_cell_text new)) new
+    (λ a. maybe_resource_cell_at (under path (codes "before")) (maybe_resource_cell_text old) >>= λ b. name_at (under path (codes "name")) (string name) >>= λ n. Ok (ResourceSet n b a))
+    (Ok (ResourceSet name old new)) (maybe_cell_back new h.0 (under path (codes "after")))
+    (after (maybe_resource_cell_at (under path (codes "before")) (maybe_resource_cell_text old)) old
+    (λ b. name_at (under path (codes "name")) (string name) >>= λ n. Ok (ResourceSet n b new))
+    (Ok (ResourceSet name old new)) (maybe_cell_back old h.1 (under path (codes "before")))
+    (after (name_at (under path (codes "name")) (string name)) name
+    (λ n. Ok (ResourceSet n old new))
+    (Ok (ResourceSet name old new)) (name_back name h.2 (under path (codes "name")))
+    refl))
+
+delta_back : (schema : Kinds) (d : Delta) → IsWritableDelta schema d → ReadsBack (delta_at schema) delta_text d
+delta_back schema (Spawned e cells fresh) h = spawned_back schema e cells fresh h
+delta_back schema (Despawned e place cells link retired) h = despawned_back schema e place cells link retired h
+delta_back schema (Shifted e place kind cell inward) h = shifted_back schema e place kind cell inward h
+delta_back schema (CellSet e kind before after) h = cell_set_back schema e kind before after h
+delta_back schema (Linked e before after) h = linked_back schema e before after h
+delta_back schema (ResourceSet name before after) h = resource_set_back schema name before after h
+
+each_delta_back : (schema : Kinds) (ds : List Delta) → AllByRecursion (IsWritableDelta schema) ds
+    → AllByRecursion (ReadsBack (delta_at schema) delta_text) ds
+each_delta_back schema [] h = tt
+each_delta_back schema (d ∷ ds) h = (delta_back schema d h.0, each_delta_back schema ds h.1)
+
+-- ---- records
+
+record_back : (schema : Kinds) (r : Record) → IsWritable schema r → ReadsBack (record_at schema) record_text r
+record_back schema r h path =
+    after (list_of (delta_at schema) (under path (codes "deltas")) (list_text delta_text r.deltas)) r.deltas
+    (λ ds. tick_at (under path (codes "tick")) (count_text r.tick_before) >>= λ tick. Ok (record_of tick ds)) (Ok r)
+    (list_back (delta_at schema) delta_text r.deltas (each_delta_back schema r.deltas h) (under path (codes "deltas"))) refl
+
+each_record_back : (schema : Kinds) (rs : List Record) → AllByRecursion (IsWritable schema) rs
+    → AllByRecursion (ReadsBack (record_at schema) record_text) rs
+each_record_back schema [] h = tt
+each_record_back schema (r ∷ rs) h = (record_back schema r h.0, each_record_back schema rs h.1)
+
+-- records that can be written are read again
+pub records_back : (schema : Kinds) (rs : List Record) → AllByRecursion (IsWritable schema) rs → ReadsBack (records_at schema) records_text rs
+records_back schema rs h = list_back (record_at schema) record_text rs (each_record_back schema rs h)

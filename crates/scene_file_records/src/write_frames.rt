@@ -1,0 +1,55 @@
+//! Records as JSON.
+ghost use Rattle.std.specs.Prelude.{◌≡◌, ◌++◌, OnOk, string_bytes};
+ghost use Rattle.serde_json.specs.Written.{compact_text};
+ghost use Rattle.scene_json_forms.specs.Text.{list_text};
+ghost use Rattle.scene_file_records.specs.Text.{delta_text, record_text, records_text};
+
+use crate::write_deltas::write_delta;
+use scene_deltas::Delta;
+use scene_journal::FrameRecord;
+use scene_json_forms::write_comma;
+use std::alloc::{AllocError, Global};
+
+/// Adds a list of deltas.
+fn write_deltas(alloc: Global, out: &mut String, deltas: &[Delta]) -> Result<(), AllocError>
+    ensures { OnOk result (string_bytes out.new ≡ string_bytes out.old ++ compact_text (list_text delta_text deltas.now)) }
+{
+    let mut later = false;
+    out.push_str("[")?;
+    'deltas: for delta in deltas {
+        write_comma(out, later)?;
+        write_delta(alloc, out, delta)?;
+        later = true;
+    }
+    out.push_str("]")
+}
+
+/// Adds a record: its deltas and its tick.
+fn write_record(alloc: Global, out: &mut String, frame: &FrameRecord) -> Result<(), AllocError>
+    ensures { OnOk result (string_bytes out.new ≡ string_bytes out.old ++ compact_text (record_text frame.now)) }
+{
+    out.push_str("{\"deltas\":")?;
+    write_deltas(alloc, out, frame.deltas())?;
+    write!(out, ",\"tick\":{}}}", frame.tick_before())?;
+    Ok(())
+}
+
+/// Adds to a text the list of records in this order, as the past or the future of a scene text has them
+/// (docs/SCENE_FILES.md, "Version 2"). Only want of memory is an error, and then a part may have been added. It costs a
+/// walk over the records.
+pub fn write_records(
+    alloc: Global,
+    out: &mut String,
+    records: &[FrameRecord],
+) -> Result<(), AllocError>
+    ensures { OnOk result (string_bytes out.new ≡ string_bytes out.old ++ compact_text (records_text records.now)) }
+{
+    let mut later = false;
+    out.push_str("[")?;
+    'records: for frame in records {
+        write_comma(out, later)?;
+        write_record(alloc, out, frame)?;
+        later = true;
+    }
+    out.push_str("]")
+}

@@ -1,3 +1,0 @@
-mod Bare
-mod Machines
-pub mod Places

@@ -1,0 +1,9 @@
+pub mod ChangeLaws
+pub mod FileFaultLaws
+pub mod FrameLaws
+pub mod JsonLaws
+pub mod JsonLines
+pub mod LockLaws
+pub mod PhaseLaws
+pub mod InterpreterLaws
+pub mod QueryLaws

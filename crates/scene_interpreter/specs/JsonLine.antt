@@ -1,0 +1,37 @@
+-- A line that is answered as JSON (docs/SHELL.md, "JSON").
+use Rattle.std.specs.Prelude.{◌≡◌, ℕ, List, ◌++◌, Option, Some, None, Result, Ok, if◌then◌else◌}
+use Rattle.scene_session.specs.Owner.{whole_at}
+use Rattle.scene_script.specs.declared.bad_line.BadLine.{BadLine}
+use Rattle.scene_script.specs.declared.script_line.Line.{Line}
+use Rattle.scene_script.specs.declared.script_line.Line.TheVariants as line
+use Rattle.scene_script.specs.Script.{line_in}
+use Rattle.scene_interpreter.specs.declared.json_question.StateJson.{StateJson}
+use Rattle.scene_interpreter.specs.declared.json_question.StateJson.TheVariants.{Show, Get, Dump, DumpAll}
+use Rattle.scene_interpreter.specs.Changes.{frame_is_open}
+use Rattle.scene_interpreter.specs.JsonAnswer.{json_line, json_text}
+use Rattle.scene_interpreter.specs.JsonQuestion.{asked_json}
+use Rattle.scene_interpreter.specs.Interpreter.{Interpreter, owner_of, interpreter_kinds, interpreter_reply}
+
+-- a line that asks for a text of the state
+abbrev pub question_of : Result Line BadLine → Option StateJson
+question_of (Ok line.Show) = Some Show
+question_of (Ok (line.Get e)) = Some (Get e)
+question_of (Ok line.Dump) = Some Dump
+question_of (Ok line.DumpAll) = Some DumpAll
+question_of said = None
+
+-- what a line asks of the state, where it does; in an open frame no line does
+abbrev pub asked_in : Interpreter → List ℕ → Option StateJson
+asked_in z bytes = if frame_is_open z then None else question_of (line_in (interpreter_kinds z) bytes)
+
+-- a line of JSON was added: what the state is asked for; or else that of what the reply to the line means
+abbrev pub AddsJson : (old new : List ℕ) → (before after : Interpreter) → List ℕ → Option StateJson → Type 0
+AddsJson old new before after bytes (Some asked) = new ≡ old ++ json_line (asked_json asked (whole_at (owner_of before)))
+AddsJson old new before after bytes None =
+    (words : List ℕ) × (new ≡ old ++ json_text (interpreter_kinds after) words (interpreter_reply before bytes).said)
+
+-- a line of JSON was added, and the interpreter and why the line is bad are those of the reply
+abbrev pub IsAnsweredAsJson : (old new : List ℕ) → (before after : Interpreter) → List ℕ → Option BadLine → Type 0
+IsAnsweredAsJson old new before after bytes bad =
+    (bad ≡ (interpreter_reply before bytes).bad) × (after ≡ (interpreter_reply before bytes).interpreter)
+    × AddsJson old new before after bytes (asked_in before bytes)

@@ -1,0 +1,14 @@
+pub mod Answer
+pub mod Changes
+pub mod FileFaultText
+pub mod JsonAnswer
+pub mod JsonLine
+pub mod JsonQuestion
+pub mod LockAlike
+pub mod OpenFrame
+pub mod Phases
+pub mod Play
+pub mod Interpreter
+pub mod Questions
+pub mod Said
+pub mod Setup

@@ -1,0 +1,374 @@
+//! The interpreter: the lines of a script one at a time.
+ghost use Rattle.std.specs.Prelude.{◌≡◌, ◌≢◌, Ok, Err, IfOk, IfErr, IfNone, IfSome, MatchResult, OnErr, OnOk, string_bytes};
+ghost use Rattle.scene_session.specs.Owner.{whole_at};
+ghost use Rattle.scene_script.specs.Script.{line_in};
+ghost use Rattle.scene_session.specs.Whole.{whole_of};
+ghost use Rattle.scene_interpreter.specs.Answer.{Says};
+ghost use Rattle.scene_interpreter.specs.Changes.{changes, frame_is_open};
+ghost use Rattle.scene_interpreter.specs.Play.{first_owner, first_state, said_reply};
+ghost use Rattle.scene_interpreter.specs.Interpreter.{HaltsSetup, HasNoEditor, IsAnswered, Interpreter as Reached, Playing, Tells, begun, first_interpreter, halted, owner_of, lone_interpreter, interpreter_kinds, interpreter_of, interpreter_reply, interpreter_said, systems_of, without_frame};
+ghost use Rattle.scene_interpreter.specs.Setup.{setup_of};
+ghost use Rattle.scene_interpreter.specs.declared.halt.Halt.TheVariants.{After, Begun};
+
+use crate::answer::Answer;
+use crate::changes::{changes_setup, changes_state};
+use crate::halt::Halt;
+use crate::play_state::PlayState;
+use crate::settings::InterpreterSettings;
+use crate::setup::{Calls, Setup};
+use crate::setup_line::{SetupAnswer, answer_setup};
+use crate::state_line::answer;
+use scene_kinds::Schema;
+use scene_script::{BadLine, Line, LineError, read_line};
+use scene_session::{Performer, SessionOwner};
+use scene_systems::Phase;
+use scene_undo::Editor;
+use std::alloc::{AllocError, Global};
+use std::mem;
+
+/// Where an interpreter is.
+#[derive(Drop)]
+pub(crate) enum Stage {
+    /// In the setup.
+    Setting(Setup),
+    /// Behind the setup.
+    Playing(PlayState),
+}
+
+/// What the lines of a script so far have come to: the setup, or the sessions of the state, the frame that is open, the systems
+/// and the cursor (docs/SCRIPTS.md, "Lines"). It takes a line at a time, and keeps none of them.
+#[derive(Drop)]
+pub struct Interpreter {
+    pub(crate) alloc: Global,
+    pub(crate) stage: Stage,
+}
+
+/// What a line says, or why it is bad.
+pub(crate) fn said_in(
+    alloc: Global,
+    schema: &Schema,
+    bytes: &[u8],
+) -> Result<Result<Line, BadLine>, AllocError>
+    ensures { IfOk result (λ said. said ≡ line_in schema.now bytes.now) }
+{
+    match read_line(alloc, schema, bytes) {
+        Ok(line) => Ok(Ok(line)),
+        Err(LineError::Bad(reason)) => Ok(Err(reason)),
+        Err(LineError::NoMemory) => Err(AllocError),
+    }
+}
+
+/// Ends the setup by a line, and answers it in the state that follows. The state is there also where no memory is found for the
+/// line itself.
+fn begin<P: Performer>(
+    performer: &P,
+    alloc: Global,
+    setup: &mut Setup,
+    line: Line,
+) -> Result<(PlayState, Result<Answer, AllocError>), Halt>
+    ensures begun { IfOk result (λ p. MatchResult p.1 (λ answer. Says answer p.0 (said_reply (first_state (setup_of setup.old)) (Ok line)))
+        (λ _. p.0 ≡ first_state (setup_of setup.old))) }
+    ensures halted { IfErr result (λ h. HaltsSetup h (setup_of setup.old) (setup_of setup.new)) }
+{
+    let mut state = setup.begin(alloc)?;
+    let answered = answer(performer, alloc, &mut state, Ok(line));
+    Ok((state, answered))
+}
+
+/// Drops a setup.
+fn leave_setup(_setup: Setup) {}
+
+/// Drops the sessions of a state.
+fn leave_owner(_owner: SessionOwner) {}
+
+/// Drops what a stage has. Only here: a drop of a whole scene is dear to check wherever it is, two in one function are
+/// dearer still, and a move isn't.
+fn leave(stage: Stage) {
+    match stage {
+        Stage::Setting(setup) => leave_setup(setup),
+        Stage::Playing(state) => leave_owner(owner_of_state(state)),
+    }
+}
+
+/// The sessions of a state, of which all else is dropped.
+fn owner_of_state(state: PlayState) -> SessionOwner
+    ensures { result ≡ state.hand }
+{
+    let PlayState { hand, .. } = state;
+    hand
+}
+
+/// The sessions in which a setup ends, of which all else is dropped.
+fn owner_of_setup(alloc: Global, setup: Setup) -> Result<SessionOwner, AllocError>
+    ensures { IfOk result (λ hand. hand ≡ first_owner (setup_of setup)) }
+{
+    let mut setup = setup;
+    setup.take_owner(alloc)
+}
+
+/// What a line that ended the setup came to.
+fn after_begin(answered: Result<Answer, AllocError>) -> Result<Answer, Halt>
+    ensures { MatchResult answered (λ answer. result ≡ Ok answer) (λ _. result ≡ Err Begun) }
+{
+    match answered {
+        Ok(answer) => Ok(answer),
+        Err(AllocError) => Err(Halt::Begun),
+    }
+}
+
+impl Interpreter {
+    /// The interpreter before its first line, whose sessions will have a lock. `OnThreads` performs its lines. It takes no memory.
+    pub fn new(alloc: Global) -> Interpreter
+        ensures { interpreter_of result ≡ first_interpreter }
+    {
+        Interpreter {
+            alloc,
+            stage: Stage::Setting(Setup::new(alloc)),
+        }
+    }
+
+    /// The interpreter before its first line, whose sessions will have no lock, with these limits: `ThisThread` performs its lines. What
+    /// they are answered with doesn't depend on the lock (`a_lock_changes_no_answer`). Its calls are only counted, and so may be
+    /// more than a lock keeps. It takes no memory.
+    pub fn alone(alloc: Global, settings: InterpreterSettings) -> Interpreter
+        ensures { interpreter_of result ≡ lone_interpreter settings.depth settings.calls }
+    {
+        let InterpreterSettings { depth, calls } = settings;
+        let mut setup = Setup::new(alloc);
+        setup.depth = depth;
+        setup.calls = Calls::Counted(calls);
+        Interpreter {
+            alloc,
+            stage: Stage::Setting(setup),
+        }
+    }
+
+    /// The kinds so far.
+    pub fn schema(&self) -> &Schema
+        ensures { result.now ≡ interpreter_kinds (interpreter_of self.now) }
+    {
+        match &self.stage {
+            Stage::Setting(setup) => setup.schema(),
+            Stage::Playing(state) => &state.schema,
+        }
+    }
+
+    /// Whether a frame is open: a line `begin` without its `commit`.
+    pub fn has_open_frame(&self) -> bool
+        ensures { result ≡ frame_is_open (interpreter_of self.now) }
+    {
+        match &self.stage {
+            Stage::Setting(_) => false,
+            Stage::Playing(state) => state.frame.is_some(),
+        }
+    }
+
+    /// The systems that the lines so far have given, phase by phase (docs/SCRIPTS.md, "Systems"). In the setup there are none. It
+    /// takes no memory.
+    pub fn systems(&self) -> &[Phase]
+        ensures { result.now ≡ systems_of (interpreter_of self.now) }
+    {
+        match &self.stage {
+            Stage::Setting(_) => &[],
+            Stage::Playing(state) => state.phases.as_slice(),
+        }
+    }
+
+    /// The session whose turn it is, 0 to 7; in the setup 0. It takes no memory.
+    pub fn session(&self) -> u32
+        ensures { result ≡ (owner_of (interpreter_of self.now)).session }
+    {
+        match &self.stage {
+            Stage::Setting(_) => 0,
+            Stage::Playing(state) => state.hand.session(),
+        }
+    }
+
+    /// How many calls there may be, those included that were made. It takes no memory.
+    pub fn call_limit(&self) -> u64
+        ensures { result ≡ (owner_of (interpreter_of self.now)).limit }
+    {
+        match &self.stage {
+            Stage::Setting(setup) => setup.calls.limit(),
+            Stage::Playing(state) => state.hand.limit(),
+        }
+    }
+
+    /// Drops the frame that is open, with its commands, and makes no call. It says whether there was one; all else stays. It takes
+    /// no memory.
+    pub fn drop_frame(&mut self) -> bool
+        ensures open { result ≡ frame_is_open (interpreter_of self.old) }
+        ensures dropped { interpreter_of self.new ≡ without_frame (interpreter_of self.old) }
+    {
+        match &mut self.stage {
+            Stage::Setting(_) => false,
+            Stage::Playing(state) => state.frame.take().is_some(),
+        }
+    }
+
+    /// Whether a line, given without its line break, may change the interpreter. One of which this is false only asks, is empty
+    /// or is bad: who keeps lines to play them again can leave it out (`a_line_that_changes_nothing_leaves_the_interpreter`). It
+    /// is true of each line that ends the setup, and of one that is refused. The line isn't played; it costs a walk over it.
+    ///
+    /// `AllocError` where no memory was found for what it says.
+    pub fn changes(&self, bytes: &[u8]) -> Result<bool, AllocError>
+        ensures { IfOk result (λ b. b ≡ changes (interpreter_of self.now) bytes.now) }
+    {
+        let said = said_in(self.alloc, self.schema(), bytes)?;
+        match &self.stage {
+            Stage::Setting(setup) => Ok(changes_setup(&setup.base, &said)),
+            Stage::Playing(state) => Ok(changes_state(&state.frame, &said)),
+        }
+    }
+
+    /// Plays what a line says to the setup, which it may end. Only there is it called.
+    // A function pays at entry for the room of its locals, and a line behind the setup needs none of these.
+    #[inline(never)]
+    fn set_said<P: Performer>(
+        &mut self,
+        performer: &P,
+        said: Result<Line, BadLine>,
+    ) -> Result<Answer, Halt>
+        ensures answer { IfOk result (λ answer. Tells answer (interpreter_of self.new) (interpreter_said (interpreter_of self.old) said)) }
+        ensures halted { IfErr result (λ h. interpreter_of self.new
+            ≡ halted h (interpreter_of self.old) (interpreter_said (interpreter_of self.old) said).interpreter) }
+        ensures undone { IfErr result (λ h. h ≢ After) }
+    {
+        let Stage::Setting(setup) = &mut self.stage else {
+            return Err(Halt::Before);
+        };
+        match answer_setup(self.alloc, setup, said) {
+            Err(AllocError) => Err(Halt::Before),
+            Ok(SetupAnswer::Given(answer)) => Ok(answer),
+            Ok(SetupAnswer::Ends(line)) => match begin(performer, self.alloc, setup, line) {
+                Err(halt) => Err(halt),
+                Ok((state, answered)) => {
+                    self.go_to(state);
+                    after_begin(answered)
+                }
+            },
+        }
+    }
+
+    /// Plays what a line says, or why it is bad, as `play` does with the line: for callers that make a `Line` themselves. No text
+    /// is read. `interpreter_said` is its meaning, of which that of `play` is a case.
+    ///
+    /// Halted as `play` is.
+    #[tactic(auto, using(crate::proofs::InterpreterLaws::told))]
+    #[inline(always)]
+    pub fn play_said<P: Performer>(
+        &mut self,
+        performer: &P,
+        said: Result<Line, BadLine>,
+    ) -> Result<Answer, Halt>
+        ensures answer { IfOk result (λ answer. Tells answer (interpreter_of self.new) (interpreter_said (interpreter_of self.old) said)) }
+        ensures halted { IfErr result (λ h. interpreter_of self.new
+            ≡ halted h (interpreter_of self.old) (interpreter_said (interpreter_of self.old) said).interpreter) }
+        ensures undone { IfErr result (λ h. h ≢ After) }
+    {
+        match &mut self.stage {
+            Stage::Playing(state) => match answer(performer, self.alloc, state, said) {
+                Ok(answer) => Ok(answer),
+                Err(AllocError) => Err(Halt::Before),
+            },
+            Stage::Setting(_) => self.set_said(performer, said),
+        }
+    }
+
+    /// Plays a line, which is given without its line break (docs/SCRIPTS.md, "Lines"). A bad line, and one that is refused, is
+    /// answered, and changes nothing. It costs what the line asks for, over a lock some thirty loads of a word, and the memory of
+    /// a call.
+    ///
+    /// Halted only for want of memory: `Before` and `Begun`, where the line isn't done; `Lost`, where it would have ended the setup,
+    /// whose kinds or scene are lost.
+    pub fn play<P: Performer>(&mut self, performer: &P, bytes: &[u8]) -> Result<Answer, Halt>
+        ensures answer { IfOk result (λ answer. Tells answer (interpreter_of self.new) (interpreter_reply (interpreter_of self.old) bytes.now)) }
+        ensures halted { IfErr result (λ h. interpreter_of self.new
+            ≡ halted h (interpreter_of self.old) (interpreter_reply (interpreter_of self.old) bytes.now).interpreter) }
+        ensures undone { IfErr result (λ h. h ≢ After) }
+    {
+        let Ok(said) = said_in(self.alloc, self.schema(), bytes) else {
+            return Err(Halt::Before);
+        };
+        self.play_said(performer, said)
+    }
+
+    /// Plays a line, and adds its answer as a script prints it. It gives why the line is bad, where it is.
+    ///
+    /// Halted only for want of memory, as `play` is, or `After`, where the line is done. A part of the answer may be added then.
+    pub fn line<P: Performer>(
+        &mut self,
+        performer: &P,
+        bytes: &[u8],
+        out: &mut String,
+    ) -> Result<Option<BadLine>, Halt>
+        ensures answer { IfOk result (λ bad. IsAnswered (string_bytes out.old) (string_bytes out.new) (interpreter_of self.new) bad
+            (interpreter_reply (interpreter_of self.old) bytes.now)) }
+        ensures halted { IfErr result (λ h. interpreter_of self.new
+            ≡ halted h (interpreter_of self.old) (interpreter_reply (interpreter_of self.old) bytes.now).interpreter) }
+    {
+        let answer = self.play(performer, bytes)?;
+        match answer.write_text(self.alloc, self.schema(), out) {
+            Ok(()) => Ok(answer.into_bad_line()),
+            Err(AllocError) => Err(Halt::After),
+        }
+    }
+
+    /// Goes to the state behind the setup.
+    pub(crate) fn go_to(&mut self, state: PlayState)
+        ensures { interpreter_of self.new ≡ Playing state }
+    {
+        leave(mem::replace(&mut self.stage, Stage::Playing(state)));
+    }
+
+    /// Ends the setup, where it isn't over: what follows is as behind a line that ends it. It costs what that line costs.
+    ///
+    /// Halted only for want of memory: `Before`; `Lost`, where the kinds or the scene of the setup are lost.
+    pub fn end_setup(&mut self) -> Result<(), Halt>
+        ensures begun { OnOk result (interpreter_of self.new ≡ begun (interpreter_of self.old)) }
+        ensures halted { IfErr result (λ h. (next : Reached) → interpreter_of self.new ≡ halted h (interpreter_of self.old) next) }
+    {
+        match &mut self.stage {
+            Stage::Playing(_) => Ok(()),
+            Stage::Setting(setup) => match setup.begin(self.alloc) {
+                Err(halt) => Err(halt),
+                Ok(state) => {
+                    self.go_to(state);
+                    Ok(())
+                }
+            },
+        }
+    }
+
+    /// The editor behind the setup of an interpreter that is alone, to read without a copy. `None` only in the setup, and where a lock is
+    /// over the editor. It takes no memory.
+    pub fn editor(&self) -> Option<&Editor>
+        ensures editor { IfSome result (λ editor. whole_of editor.now ≡ whole_at (owner_of (interpreter_of self.now))) }
+        ensures missing { IfNone result (HasNoEditor (interpreter_of self.now)) }
+    {
+        match &self.stage {
+            Stage::Setting(_) => None,
+            Stage::Playing(state) => state.hand.editor(),
+        }
+    }
+
+    /// Drops the interpreter, as the end of its owner would. Who says it has the drop checked here, where it is dear, and not once
+    /// more in a crate of its own.
+    pub fn close(self) {
+        let Interpreter { stage, .. } = self;
+        leave(stage);
+    }
+
+    /// The sessions as the lines so far leave them. A frame that is still open is dropped.
+    ///
+    /// `AllocError` where no memory was found, which only an interpreter in its setup needs.
+    pub fn into_owner(self) -> Result<SessionOwner, AllocError>
+        ensures { IfOk result (λ hand. hand ≡ owner_of (interpreter_of self)) }
+    {
+        let Interpreter { alloc, stage, .. } = self;
+        match stage {
+            Stage::Playing(state) => Ok(owner_of_state(state)),
+            Stage::Setting(setup) => owner_of_setup(alloc, setup),
+        }
+    }
+}

@@ -1,0 +1,167 @@
+//! The lines of a script one at a time, each answered by one line of JSON.
+ghost use Rattle.std.specs.Prelude.{◌≡◌, ◌++◌, IfErr, IfOk, None, OnOk, string_bytes};
+ghost use Rattle.scene_session.specs.Owner.{whole_at};
+ghost use Rattle.scene_interpreter.specs.JsonAnswer.{json_line};
+ghost use Rattle.scene_interpreter.specs.JsonLine.{AddsJson, IsAnsweredAsJson, asked_in, question_of};
+ghost use Rattle.scene_interpreter.specs.JsonQuestion.{asked_json};
+ghost use Rattle.scene_interpreter.specs.Play.{first_state};
+ghost use Rattle.scene_interpreter.specs.Interpreter.{HaltsSetup, Interpreter as State, begun, halted, owner_of, interpreter_of, interpreter_reply};
+ghost use Rattle.scene_interpreter.specs.Setup.{setup_of};
+
+use crate::halt::Halt;
+use crate::interpreter::{Interpreter, Stage, said_in};
+use crate::json_question::StateJson;
+use crate::play_state::PlayState;
+use crate::setup::Setup;
+use scene_script::{BadLine, Line};
+use scene_session::Performer;
+use std::alloc::{AllocError, Global};
+
+/// What a line asks of the state, where it asks for a text of it.
+fn question_of(said: &Result<Line, BadLine>) -> Option<StateJson>
+    ensures { result ≡ question_of said.now }
+{
+    match said {
+        Ok(Line::Show) => Some(StateJson::Show),
+        Ok(Line::Get(entity)) => Some(StateJson::Get(*entity)),
+        Ok(Line::Dump) => Some(StateJson::Dump),
+        Ok(Line::DumpAll) => Some(StateJson::DumpAll),
+        _ => None,
+    }
+}
+
+/// Asks the state behind the setup, which stays as it is.
+fn ask_state<P: Performer>(
+    performer: &P,
+    alloc: Global,
+    state: &mut PlayState,
+    asked: StateJson,
+) -> Result<String, AllocError>
+    ensures text { IfOk result (λ text. string_bytes text ≡ json_line (asked_json asked (whole_at state.old.hand))) }
+    ensures same { state.new ≡ state.old }
+{
+    match performer.ask(alloc, &mut state.hand, &asked) {
+        Some(text) => text,
+        None => Err(AllocError),
+    }
+}
+
+/// Ends the setup by a line that asks the state that follows. The state is there also where no memory is found for
+/// the answer.
+fn begin_asked<P: Performer>(
+    performer: &P,
+    alloc: Global,
+    setup: &mut Setup,
+    asked: StateJson,
+) -> Result<(PlayState, Result<String, AllocError>), Halt>
+    ensures begun { IfOk result (λ p. p.0 ≡ first_state (setup_of setup.old)) }
+    ensures text { IfOk result (λ p. IfOk p.1 (λ text. string_bytes text
+        ≡ json_line (asked_json asked (whole_at (first_state (setup_of setup.old)).hand)))) }
+    ensures halted { IfErr result (λ h. HaltsSetup h (setup_of setup.old) (setup_of setup.new)) }
+{
+    let mut state = setup.begin(alloc)?;
+    let answered = ask_state(performer, alloc, &mut state, asked);
+    Ok((state, answered))
+}
+
+impl Interpreter {
+    /// What a line asks of the state, where it does.
+    fn asked_in(&self, bytes: &[u8]) -> Result<Option<StateJson>, AllocError>
+        ensures { IfOk result (λ asked. asked ≡ asked_in (interpreter_of self.now) bytes.now) }
+    {
+        if self.has_open_frame() {
+            return Ok(None);
+        }
+        let said = said_in(self.alloc, self.schema(), bytes)?;
+        Ok(question_of(&said))
+    }
+
+    /// Asks the state, and ends the setup where it hasn't ended.
+    fn ask<P: Performer>(&mut self, performer: &P, asked: StateJson) -> Result<String, Halt>
+        ensures text { IfOk result (λ text. string_bytes text ≡ json_line (asked_json asked (whole_at (owner_of (interpreter_of self.old))))) }
+        ensures begun { IfOk result (λ _. interpreter_of self.new ≡ begun (interpreter_of self.old)) }
+        ensures halted { IfErr result (λ h. (next : State) → interpreter_of self.new ≡ halted h (interpreter_of self.old) next) }
+    {
+        match &mut self.stage {
+            Stage::Playing(state) => match ask_state(performer, self.alloc, state, asked) {
+                Ok(text) => Ok(text),
+                Err(AllocError) => Err(Halt::Before),
+            },
+            Stage::Setting(setup) => match begin_asked(performer, self.alloc, setup, asked) {
+                Err(halt) => Err(halt),
+                Ok((state, answered)) => {
+                    self.go_to(state);
+                    match answered {
+                        Ok(text) => Ok(text),
+                        Err(AllocError) => Err(Halt::Begun),
+                    }
+                }
+            },
+        }
+    }
+
+    /// Adds what the state is asked for.
+    fn show_json<P: Performer>(
+        &mut self,
+        performer: &P,
+        asked: StateJson,
+        out: &mut String,
+    ) -> Result<Option<BadLine>, Halt>
+        ensures bad { IfOk result (λ bad. bad ≡ None) }
+        ensures begun { IfOk result (λ _. interpreter_of self.new ≡ begun (interpreter_of self.old)) }
+        ensures text { OnOk result (string_bytes out.new ≡ string_bytes out.old
+            ++ json_line (asked_json asked (whole_at (owner_of (interpreter_of self.old))))) }
+        ensures halted { IfErr result (λ h. interpreter_of self.new ≡ halted h (interpreter_of self.old) (begun (interpreter_of self.old))) }
+    {
+        let text = self.ask(performer, asked)?;
+        match out.push_str(text.as_str()) {
+            Ok(()) => Ok(None),
+            Err(AllocError) => Err(Halt::After),
+        }
+    }
+
+    /// Plays a line, and adds its answer.
+    fn play_json<P: Performer>(
+        &mut self,
+        performer: &P,
+        bytes: &[u8],
+        out: &mut String,
+    ) -> Result<Option<BadLine>, Halt>
+        ensures bad { IfOk result (λ bad. bad ≡ (interpreter_reply (interpreter_of self.old) bytes.now).bad) }
+        ensures interpreter { OnOk result (interpreter_of self.new ≡ (interpreter_reply (interpreter_of self.old) bytes.now).interpreter) }
+        ensures text { OnOk result (AddsJson (string_bytes out.old) (string_bytes out.new) (interpreter_of self.old) (interpreter_of self.new) bytes.now None) }
+        ensures halted { IfErr result (λ h. interpreter_of self.new
+            ≡ halted h (interpreter_of self.old) (interpreter_reply (interpreter_of self.old) bytes.now).interpreter) }
+    {
+        let answer = self.play(performer, bytes)?;
+        match answer.write_json(self.alloc, self.schema(), out) {
+            Ok(()) => Ok(answer.into_bad_line()),
+            Err(AllocError) => Err(Halt::After),
+        }
+    }
+
+    /// Plays a line, and adds its answer as one line of JSON (docs/SHELL.md, "JSON"). It gives why the line is bad,
+    /// where it is. `show`, `get`, `dump` and `dumpall` add what they ask for by its parts, and any other line its
+    /// `Answer`. It costs what `line` costs, and outside a frame one more reading of the line.
+    ///
+    /// Halted only for want of memory, as `line` is. A part of the answer may be added then.
+    pub fn line_json<P: Performer>(
+        &mut self,
+        performer: &P,
+        bytes: &[u8],
+        out: &mut String,
+    ) -> Result<Option<BadLine>, Halt>
+        ensures answer { IfOk result (λ bad. IsAnsweredAsJson (string_bytes out.old) (string_bytes out.new)
+            (interpreter_of self.old) (interpreter_of self.new) bytes.now bad) }
+        ensures halted { IfErr result (λ h. interpreter_of self.new
+            ≡ halted h (interpreter_of self.old) (interpreter_reply (interpreter_of self.old) bytes.now).interpreter) }
+    {
+        let Ok(asked) = self.asked_in(bytes) else {
+            return Err(Halt::Before);
+        };
+        match asked {
+            Some(asked) => self.show_json(performer, asked, out),
+            None => self.play_json(performer, bytes, out),
+        }
+    }
+}

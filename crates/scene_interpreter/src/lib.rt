@@ -1,0 +1,34 @@
+//! The interpreter of a script's lines, one at a time.
+//!
+//! A `Interpreter` takes the bytes of a line and gives its `Answer`, which says itself as a script prints it; all else it keeps: the
+//! setup, the sessions of the state, the frame that is open, the systems and the cursor. What a line says is scene_script's; what
+//! it does and answers is here, exact against `interpreter_reply` in `specs/Interpreter.antt`, which speaks of the machine of saved worlds
+//! (docs/SCRIPTS.md explains the language).
+#![tactic(auto)]
+
+mod answer;
+mod changes;
+mod file_fault_text;
+mod frame_line;
+mod halt;
+mod interpreter;
+mod json_answer;
+mod json_line;
+mod json_question;
+mod laws;
+mod open_frame;
+mod phases;
+mod play_state;
+mod question;
+mod settings;
+mod setup;
+mod setup_line;
+mod state_line;
+mod systems_line;
+
+pub use answer::Answer;
+pub use file_fault_text::answer_file_fault;
+pub use halt::Halt;
+pub use interpreter::Interpreter;
+pub use laws::{a_line_that_changes_nothing_leaves_the_interpreter, a_lock_changes_no_answer};
+pub use settings::InterpreterSettings;

@@ -1,5 +1,0 @@
-use Rattle.scene_newest.proofs.Listed.{none_listed}
-use Rattle.scene_newest.proofs.newest.NewestCells.add.Goals as goal
-
-pub returns-in_default-clause-listed : goal.returns-in_default-clause-listed
-returns-in_default-clause-listed c = none_listed c.args.self.now c.args.tick c.args.spot c.in_default.ensures.none

@@ -1,7 +1,0 @@
-use Rattle.std.proofs.Common.{map, string_bytes}
-use Rattle.scene_newest.specs.Newest.{IsNameListed, IsWider}
-use Rattle.scene_newest.proofs.Listed.{UpTo}
-use Rattle.scene_newest.proofs.newest.NewestCells.add_names.Given as goal
-
-abbrev pub invariant-loop-number : goal.invariant-loop-number
-invariant-loop-number l = UpTo (IsNameListed l.self l.resources.cells) (map string_bytes l.names) l.number × IsWider l.initial.self l.self

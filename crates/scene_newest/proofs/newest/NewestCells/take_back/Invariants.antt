@@ -1,6 +1,0 @@
-use Rattle.scene_newest.specs.Newest.{IsWider, ListsBack}
-use Rattle.scene_newest.proofs.Listed.{UpTo}
-use Rattle.scene_newest.proofs.newest.NewestCells.take_back.Given as goal
-
-abbrev pub invariant-loop-delta : goal.invariant-loop-delta
-invariant-loop-delta l = UpTo (ListsBack l.self) l.deltas l.delta-index × IsWider l.initial.self l.self

@@ -1,6 +1,0 @@
-use Rattle.std.proofs.Common.{rules}
-use Rattle.scene_parts.proofs.Ascents.{fits_low}
-use Rattle.scene_parts.proofs.row_rules.is_row_of.Goals as goal
-
-pub mask-requires-clause-below : goal.mask-requires-clause-below
-mask-requires-clause-below c = fits_low c.args.schema.now c.args.row.now (search rules) (search rules) (search rules)

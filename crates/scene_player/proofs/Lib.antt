@@ -1,9 +1,0 @@
-pub mod ChangeLaws
-pub mod FileFaultLaws
-pub mod FrameLaws
-pub mod JsonLaws
-pub mod JsonLines
-pub mod LockLaws
-pub mod PhaseLaws
-pub mod PlayerLaws
-pub mod QueryLaws

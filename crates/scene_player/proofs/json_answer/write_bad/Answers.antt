@@ -1,7 +1,0 @@
-use Rattle.scene_forms.proofs.ListsWritten.{accepted}
-use Rattle.scene_player.proofs.JsonLaws.{bad_is, three}
-use Rattle.scene_player.proofs.json_answer.write_bad.Goals as goal
-
-pub returns : goal.returns
-returns c = accepted c.push_str-2.result _ _ _ c.push_str-2.ensures.bytes (λ last. three _ _ _ _ _ _ _ _
-    (bad_is c.args.words.now) c.in_ok-push_str.ensures.bytes c.in_ok-write_json_text.ensures last)

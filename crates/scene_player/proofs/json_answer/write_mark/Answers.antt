@@ -1,6 +1,0 @@
-use Rattle.std.proofs.Common.{ap, sym, ◌∙◌, ◌++◌, string_bytes}
-use Rattle.scene_player.proofs.JsonLaws.{mark_is}
-use Rattle.scene_player.proofs.json_answer.write_mark.Goals as goal
-
-pub returns : goal.returns
-returns c = c.in_ok-write.ensures.bytes ∙ ap (λ t. string_bytes c.args.out.now ++ t) (sym (mark_is c.args.cursor))

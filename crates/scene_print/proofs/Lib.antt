@@ -1,0 +1,5 @@
+pub mod JsonFound
+pub mod JsonObjects
+pub mod JsonWritten
+pub mod ResourceLaws
+pub mod ShowLaws

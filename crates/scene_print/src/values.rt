@@ -1,0 +1,118 @@
+//! The printed texts of values, cells, rows and refusals.
+ghost use Rattle.std.specs.Prelude.{◌≡◌, ◌++◌, OnOk, string_bytes};
+ghost use Rattle.scene_kinds.specs.Cells.{shown};
+ghost use Rattle.scene_print.specs.Printed.{vec3_text, value_text, assigned_text, cell_text, row_head, row_cell_text, refusal_line};
+
+use scene_json::write_json_text;
+use scene_kinds::{Cell, CellRef, Entity, Place, Refusal, Schema, Value};
+use std::alloc::{AllocError, Global};
+
+/// Adds three whole numbers with commas between them.
+fn write_vec3(out: &mut String, v: &[i64; 3]) -> Result<(), AllocError>
+    ensures { OnOk result (string_bytes out.new ≡ string_bytes out.old ++ vec3_text v.now) }
+{
+    let [x, y, z] = *v;
+    write!(out, "{x},{y},{z}")?;
+    Ok(())
+}
+
+/// Adds a value (docs/SCRIPTS.md, "Output"): whole numbers in decimal, the three of a `Vec3` with commas
+/// between them, a text as a JSON string, a link as an entity text. A tag has no value, and adds nothing.
+pub fn write_value(alloc: Global, out: &mut String, value: &Value) -> Result<(), AllocError>
+    ensures { OnOk result (string_bytes out.new ≡ string_bytes out.old ++ value_text value.now) }
+{
+    match value {
+        Value::Tag => Ok(()),
+        Value::Int(n) => Ok(write!(out, "{n}")?),
+        Value::Vec3(v) => write_vec3(out, v),
+        Value::Text(text) => write_json_text(alloc, out, text.as_str()),
+        Value::Link(entity) => Ok(write!(out, "{entity}")?),
+    }
+}
+
+/// Adds what stands behind a name: nothing for a tag, else `=` and the value.
+fn write_assigned(alloc: Global, out: &mut String, value: &Value) -> Result<(), AllocError>
+    ensures { OnOk result (string_bytes out.new ≡ string_bytes out.old ++ assigned_text value.now) }
+{
+    if let Value::Tag = value {
+        return Ok(());
+    }
+    out.push_str("=")?;
+    write_value(alloc, out, value)
+}
+
+/// Adds a cell that is lent, with its name: `NAME=VALUE@ADDED/CHANGED`, or `NAME@ADDED/CHANGED` for a tag.
+fn write_lent_cell(
+    alloc: Global,
+    out: &mut String,
+    name: &str,
+    cell: CellRef<'_>,
+) -> Result<(), AllocError>
+    ensures { OnOk result (string_bytes out.new ≡ string_bytes out.old ++ cell_text name.now (shown cell.entry)) }
+{
+    out.push_str(name)?;
+    write_assigned(alloc, out, cell.value)?;
+    write!(out, "@{}/{}", cell.added, cell.changed)?;
+    Ok(())
+}
+
+/// Adds a cell with its name: `NAME=VALUE@ADDED/CHANGED`, or `NAME@ADDED/CHANGED` for a tag (docs/SCRIPTS.md,
+/// "Output").
+pub fn write_cell(
+    alloc: Global,
+    out: &mut String,
+    name: &str,
+    cell: &Cell,
+) -> Result<(), AllocError>
+    ensures { OnOk result (string_bytes out.new ≡ string_bytes out.old ++ cell_text name.now cell.now) }
+{
+    let lent = CellRef {
+        value: &cell.value,
+        added: cell.added,
+        changed: cell.changed,
+    };
+    write_lent_cell(alloc, out, name, lent)
+}
+
+/// Adds what a row begins with: `row ENTITY` (docs/SCRIPTS.md, "Output"). Its cells follow, each by
+/// `write_row_cell`.
+pub fn write_row_head(out: &mut String, entity: Entity) -> Result<(), AllocError>
+    ensures { OnOk result (string_bytes out.new ≡ string_bytes out.old ++ row_head entity) }
+{
+    write!(out, "row {entity}")?;
+    Ok(())
+}
+
+/// Adds a cell of a row: a space, and the cell with the name that the schema has for its kind (docs/SCRIPTS.md,
+/// "Output").
+pub fn write_row_cell(
+    alloc: Global,
+    out: &mut String,
+    schema: &Schema,
+    kind: u8,
+    cell: CellRef<'_>,
+) -> Result<(), AllocError>
+    ensures { OnOk result (string_bytes out.new ≡ string_bytes out.old ++ row_cell_text schema.now kind (shown cell.entry)) }
+{
+    out.push(' ')?;
+    let name = schema.name_of(kind).unwrap_or("");
+    write_lent_cell(alloc, out, name, cell)
+}
+
+/// Adds a refusal: the fault by number and name with its fields, and ` at PHASE.QUEUE.COMMAND` where it has a place
+/// (docs/SCRIPTS.md, "Output").
+pub fn write_refusal(out: &mut String, refusal: Refusal) -> Result<(), AllocError>
+    ensures { OnOk result (string_bytes out.new ≡ string_bytes out.old ++ refusal_line refusal) }
+{
+    match refusal.place {
+        Some(
+            Place {
+                phase,
+                queue,
+                command,
+            },
+        ) => write!(out, "{} at {phase}.{queue}.{command}", refusal.fault)?,
+        None => write!(out, "{}", refusal.fault)?,
+    }
+    Ok(())
+}

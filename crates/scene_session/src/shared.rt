@@ -1,0 +1,190 @@
+//! A hand over a lock: the passes of all its sessions.
+ghost use Rattle.std.specs.Prelude.{◌≡◌, ◌≢◌, ◌≤◌, ◌<◌, ◌+◌, length, IfOk, IfErr, MatchResult, false};
+ghost use Rattle.scene_kinds.specs.Answers.{refusal_of};
+ghost use Rattle.scene_kinds.specs.declared.fault.Fault.TheVariants.{NoMemory};
+ghost use Rattle.scene_session.specs.Calls.{Refused, asked, queue_count, told};
+ghost use Rattle.scene_session.specs.State.{stopping_at};
+ghost use Rattle.scene_session.specs.Whole.{whole_of};
+ghost use Rattle.scene_session.specs.Owner.{opening_owner, performed, whole_at, with_session};
+ghost use Rattle.scene_session.specs.Passes.{AreOf};
+
+use crate::all_passes::{ask_with_all, perform_with_all};
+use crate::call::{Call, Reply, Stopped};
+use crate::query::EditorQuery;
+use crate::state::State;
+use scene_kinds::{Fault, Refusal};
+use scene_lock::{Pass, WordLock};
+use scene_undo::Editor;
+use std::alloc::{AllocError, Global};
+use std::marker::Model;
+use std::mem;
+use std::sync::Wait;
+use std::thread::Threads;
+
+/// How many sessions a hand has.
+const SESSIONS: u32 = 8;
+
+/// The passes of eight sessions with the lock over their state, and whose turn it is.
+#[derive(Drop)]
+pub(crate) struct Shared {
+    lock: WordLock<State>,
+    /// Each at the place that is its session.
+    passes: Vec<Pass<State>>,
+    session: u32,
+    /// How many calls there may be, and for how many more there is room. The state knows it too, but only who waits for the
+    /// lock sees it.
+    limit: u32,
+    room: u32,
+}
+
+impl Model for Shared {
+    ghost use Rattle.std.specs.Prelude.{◌≡◌, ◌<◌, ◌+◌, length};
+    ghost use Rattle.scene_session.specs.OwnerCodes.{owner_code};
+    ghost use Rattle.scene_session.specs.Owner.{OwnerState, owner_of};
+    ghost use Rattle.scene_session.specs.Passes.{AreEight, first_seen};
+
+    ghost Value = { OwnerState };
+
+    ghost coded = { owner_code };
+
+    ghost view = { λ h. owner_of (record { opening = h.lock.terms.opening; history = first_seen h.passes.items }) h.session };
+
+    ghost invariant = { λ h. AreEight h.lock (first_seen h.passes.items) h.passes.items × (h.session < 8)
+        × (h.limit ≡ h.lock.terms.opening.limit) × (h.room + length (first_seen h.passes.items) ≡ h.lock.terms.opening.limit) };
+}
+
+/// For how many calls more there is room after one that was tried.
+fn room_after(room: u32, reply: &Result<Reply, Stopped>) -> u32
+    requires { IfOk reply.now (λ _. 1 ≤ room) }
+    ensures { MatchResult reply.now (λ _. result + 1 ≡ room) (λ _. result ≡ room) }
+{
+    match reply {
+        Ok(_) => room - 1,
+        Err(_) => room,
+    }
+}
+
+impl Shared {
+    /// The lock over a state of this editor, with no calls yet; it is the turn of session 0. The editor is dropped where no
+    /// memory is found.
+    pub(crate) fn new(alloc: Global, editor: Editor, limit: u32) -> Result<Shared, AllocError>
+        requires { (1 ≤ limit) × (limit ≤ 1048576) }
+        ensures { IfOk result (λ hand. hand ≡ opening_owner (whole_of editor) limit false) }
+    {
+        let state = State::new(alloc, editor, limit);
+        let (lock, passes) = WordLock::new(alloc, state, SESSIONS)?;
+        Ok(Shared {
+            lock,
+            passes,
+            session: 0,
+            limit,
+            room: limit,
+        })
+    }
+
+    /// Gives the turn to a session.
+    pub(crate) fn turn_to(&mut self, session: u32)
+        requires { session < 8 }
+        ensures { self.new ≡ with_session self.old session }
+    {
+        self.session = session;
+    }
+
+    /// Performs a call of the session whose turn it is, through its pass.
+    pub(crate) fn perform<R: Threads + Wait + Sync>(
+        &mut self,
+        rt: &R,
+        alloc: Global,
+        call: Call,
+        workers: usize,
+    ) -> Result<Reply, Stopped>
+        requires { queue_count call ≤ 4294967295 }
+        ensures done { IfOk result (λ reply. performed self.old (asked call) ≡ (self.new, told reply)) }
+        ensures full { IfErr result (λ x. x.refusal ≢ refusal_of NoMemory → performed self.old (asked call) ≡ (self.new, Refused x.refusal)) }
+        ensures stopped { IfErr result (λ x. (self.new ≡ self.old) × (x.call ≡ call)
+            × (x.refusal ≡ stopping_at self.old.limit (length self.old.history))) }
+        ensures room { IfErr result (λ x. x.refusal.fault ≡ NoMemory → length self.old.history < self.old.limit) }
+    {
+        let place = self.session as usize;
+        let mut others = mem::replace(&mut self.passes, Vec::new(alloc));
+        let pass = others.swap_remove(place);
+        let (mut passes, reply) = perform_with_all(
+            rt, alloc, &self.lock, pass, others, call, workers,
+        );
+        passes.swap(place, 7);
+        self.passes = passes;
+        self.room = room_after(self.room, &reply);
+        reply
+    }
+
+    /// Hands a call back that doesn't come to the state: since the history is full, or else as if no memory were found.
+    pub(crate) fn turn_away(&self, call: Call) -> Stopped
+        ensures stopped { (result.call ≡ call) × (result.refusal ≡ stopping_at self.now.limit (length self.now.history)) }
+        ensures room { result.refusal.fault ≡ NoMemory → length self.now.history < self.now.limit }
+    {
+        let fault = if self.room == 0 {
+            Fault::HistoryFull(u64::from(self.limit))
+        } else {
+            Fault::NoMemory
+        };
+        Stopped {
+            refusal: Refusal::from(fault),
+            call,
+        }
+    }
+
+    /// Asks a question of the editor, through the pass of the session whose turn it is.
+    pub(crate) fn ask<Q: EditorQuery, R: Wait>(
+        &mut self,
+        rt: &R,
+        alloc: Global,
+        query: &Q,
+    ) -> Q::Found
+        ensures same { self.new ≡ self.old }
+        ensures answer { Q.finds query.now (whole_at self.old) result }
+    {
+        let place = self.session as usize;
+        let mut others = mem::replace(&mut self.passes, Vec::new(alloc));
+        let pass = others.swap_remove(place);
+        let (mut passes, answer) = ask_with_all(rt, alloc, &self.lock, pass, others, query);
+        passes.swap(place, 7);
+        self.passes = passes;
+        answer
+    }
+
+    /// Whose turn it is.
+    pub(crate) fn session(&self) -> u32
+        ensures { result ≡ self.now.session }
+    {
+        self.session
+    }
+
+    /// How many calls there may be.
+    pub(crate) fn limit(&self) -> u64
+        ensures { result ≡ self.now.limit }
+    {
+        u64::from(self.limit)
+    }
+
+    /// There is a lock, as clauses see it once a field is read.
+    pub(crate) fn has_lock(&self)
+        ensures { self.now.is_alone ≡ false }
+    {
+        let _session = self.session;
+    }
+
+    /// How many calls there were.
+    pub(crate) fn call_count(&self) -> u64
+        ensures { result ≡ length self.now.history }
+    {
+        u64::from(self.limit - self.room)
+    }
+
+    /// The lock, and the passes of its eight sessions, 0 first.
+    pub(crate) fn into_parts(self) -> (WordLock<State>, Vec<Pass<State>>)
+        ensures { AreOf result.0 result.1.items self }
+    {
+        let Shared { lock, passes, .. } = self;
+        (lock, passes)
+    }
+}

@@ -1,2 +1,0 @@
-pub mod ResourceLaws
-pub mod ShowLaws

@@ -1,9 +1,0 @@
-use Rattle.std.proofs.Common.{◌≡◌, ◌++◌, drop, string_bytes}
-use Rattle.std.specs.Prelude.{false}
-use Rattle.scene_forms.specs.Printing.{rest_text}
-use Rattle.scene_show_json.specs.Shown.{row_json}
-use Rattle.scene_show_json.proofs.rows.write_rows.Given as goal
-
-abbrev pub invariant-rows : goal.invariant-rows
-invariant-rows l = string_bytes l.out ++ rest_text l.later (row_json l.schema) (drop l.at l.table.rows)
-    ≡ string_bytes l.initial.out ++ rest_text false (row_json l.schema) l.table.rows

@@ -1,4 +1,0 @@
-pub mod Objects
-pub mod Shown
-pub mod Steps
-pub mod Told

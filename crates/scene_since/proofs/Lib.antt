@@ -1,3 +1,0 @@
-pub mod Advances
-pub mod Histories
-pub mod TwoWorlds
