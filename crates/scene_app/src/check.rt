@@ -1,6 +1,7 @@
 //! The commands over a scene text: one says whether it is good, one prints its world.
-ghost use Rattle.std.specs.Prelude.{◌≡◌, ◌≢◌, ◌++◌, ◌<◌, ◌≤◌, ◌⊎◌, ◌↔◌, true, false, length, Ok, Err, string_bytes, OnOk, OnErr, IfOk, IfErr, IfSome};
+ghost use Rattle.std.specs.Prelude.{◌≡◌, ◌≢◌, ◌<◌, ◌≤◌, ◌⊎◌, ◌↔◌, true, false, length, Ok, Err, string_bytes, OnOk, OnErr, IfOk, IfErr, IfSome};
 ghost use Rattle.std.specs.Io.KnownBytes.{Appends, IsAtEnd};
+ghost use Rattle.scene_json.specs.Texts.{Adds};
 ghost use Rattle.scene_streams.specs.Known.{AppendsPrefix};
 ghost use Rattle.scene_streams.specs.Source.{reader_of, turns_left, read_failed};
 ghost use Rattle.scene_streams.specs.Sink.{writer_of, write_failed};
@@ -22,7 +23,7 @@ use std::io::{Read, Write};
 
 /// Adds what a check says of a scene that it accepts.
 fn write_good(alloc: Global, out: &mut String, world: &World) -> Result<(), AllocError>
-    ensures { OnOk result (string_bytes out.new ≡ string_bytes out.old ++ good_text world.now.world) }
+    ensures { OnOk result (Adds out.old out.new (good_text world.now.world)) }
 {
     let live = matching(alloc, world, Filter::all())?;
     write!(out, "good {} {}\n", world.tick(), live.len())?;
@@ -32,7 +33,7 @@ fn write_good(alloc: Global, out: &mut String, world: &World) -> Result<(), Allo
 /// Adds what `scene check` prints for a text, and gives whether it is a scene.
 #[tactic(auto, using(scene_interpreter::proofs::FileFaultLaws::is_wanted))]
 fn write_checked(alloc: Global, out: &mut String, text: &[u8]) -> Result<bool, AllocError>
-    ensures text { OnOk result (string_bytes out.new ≡ string_bytes out.old ++ check_output text.now) }
+    ensures text { OnOk result (Adds out.old out.new (check_output text.now)) }
     ensures accepted { IfOk result (λ good. good ≡ is_scene text.now) }
 {
     match load_editor_text(alloc, text, MOST_FRAMES) {
@@ -55,7 +56,7 @@ fn checked(alloc: Global, text: &[u8]) -> Result<(String, bool), AppFault>
 /// Adds what `scene print` prints for a text, and gives whether it is a scene.
 #[tactic(auto, using(scene_interpreter::proofs::FileFaultLaws::is_wanted))]
 fn write_printed(alloc: Global, out: &mut String, text: &[u8]) -> Result<bool, AllocError>
-    ensures text { OnOk result (string_bytes out.new ≡ string_bytes out.old ++ print_output text.now) }
+    ensures text { OnOk result (Adds out.old out.new (print_output text.now)) }
     ensures accepted { IfOk result (λ good. good ≡ is_scene text.now) }
 {
     match load_editor_text(alloc, text, MOST_FRAMES) {

@@ -1,6 +1,7 @@
 //! A whole script, line after line through an interpreter.
-ghost use Rattle.std.specs.Prelude.{◌≡◌, ◌+◌, ◌<◌, ◌≤◌, ◌^◌, ◌++◌, OnOk, IfOk, length, string_bytes};
+ghost use Rattle.std.specs.Prelude.{◌≡◌, ◌+◌, ◌<◌, ◌≤◌, ◌^◌, OnOk, IfOk, length, string_bytes};
 ghost use Rattle.std.specs.Str.Lines.{lines};
+ghost use Rattle.scene_json.specs.Texts.{Adds};
 ghost use Rattle.scene_streams.specs.Limits.{most_bytes};
 ghost use Rattle.scene_interpreter.specs.Interpreter.{owner_of, interpreter_of, interpreter_reply};
 ghost use Rattle.scene_app.specs.Play.{printed, printed_from};
@@ -43,7 +44,7 @@ fn play_lines<P: Performer>(
 ) -> Result<(), AllocError>
     requires none { reports.old ≡ no_bad_lines }
     requires room { length script.now ≤ most_bytes }
-    ensures text { OnOk result (string_bytes out.new ≡ string_bytes out.old ++ (printed_from 1 (interpreter_of interpreter.old) (lines script.now)).text) }
+    ensures text { OnOk result (Adds out.old out.new ((printed_from 1 (interpreter_of interpreter.old) (lines script.now)).text)) }
     ensures bad { OnOk result (reports.new ≡ noted no_bad_lines (printed_from 1 (interpreter_of interpreter.old) (lines script.now)).bad) }
     ensures hand { OnOk result (owner_of (interpreter_of interpreter.new) ≡ (printed_from 1 (interpreter_of interpreter.old) (lines script.now)).hand) }
     ensures few { OnOk result (reports.new.count ≤ length script.now) }
@@ -70,7 +71,7 @@ pub(crate) fn play_script<P: Performer>(
     out: &mut String,
 ) -> Result<(SessionOwner, Reports), AllocError>
     requires { length script.now ≤ most_bytes }
-    ensures text { IfOk result (λ p. string_bytes out.new ≡ string_bytes out.old ++ (printed script.now).text) }
+    ensures text { IfOk result (λ p. Adds out.old out.new ((printed script.now).text)) }
     ensures bad { IfOk result (λ p. p.1 ≡ noted no_bad_lines (printed script.now).bad) }
     ensures hand { IfOk result (λ p. p.0 ≡ (printed script.now).hand) }
     ensures few { IfOk result (λ p. p.1.count ≤ length script.now) }

@@ -1,6 +1,7 @@
 //! A whole editor as JSON.
-ghost use Rattle.std.specs.Prelude.{◌≡◌, ◌++◌, OnOk, reverse, string_bytes};
+ghost use Rattle.std.specs.Prelude.{OnOk, reverse};
 ghost use Rattle.serde_json.specs.Written.{compact_text};
+ghost use Rattle.scene_json.specs.Texts.{Adds};
 ghost use Rattle.scene_file.specs.EditorText.{editor_text};
 
 use crate::write_world::{write_first_members, write_last_members};
@@ -15,8 +16,7 @@ pub(crate) fn write_editor(
     out: &mut String,
     editor: &Editor,
 ) -> Result<(), AllocError>
-    ensures { OnOk result (string_bytes out.new ≡ string_bytes out.old
-        ++ compact_text (editor_text editor.now.world (reverse editor.now.past) editor.now.future)) }
+    ensures { OnOk result (Adds out.old out.new (compact_text (editor_text editor.now.world (reverse editor.now.past) editor.now.future))) }
 {
     let (past, future) = editor.records();
     write_first_members(alloc, out, editor.world())?;

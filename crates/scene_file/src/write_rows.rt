@@ -1,6 +1,7 @@
 //! The tables of a world as JSON, row by row.
-ghost use Rattle.std.specs.Prelude.{◌≡◌, ◌++◌, ◌<◌, OnOk, Some, length, slice_get, string_bytes};
+ghost use Rattle.std.specs.Prelude.{◌≡◌, ◌<◌, OnOk, Some, length, slice_get};
 ghost use Rattle.serde_json.specs.Written.{compact_text};
+ghost use Rattle.scene_json.specs.Texts.{Adds};
 ghost use Rattle.scene_kinds.specs.declared.cells.Row.{Row};
 ghost use Rattle.scene_json_forms.specs.Text.{list_text, cell_text};
 ghost use Rattle.scene_file.specs.Text.{row_text};
@@ -15,7 +16,7 @@ use std::alloc::{AllocError, Global};
 fn write_cells(alloc: Global, out: &mut String, table: &Table, at: usize) -> Result<(), AllocError>
     requires { at < length table.now.rows }
     ensures { OnOk result ((row : Row) → slice_get table.now.rows at ≡ Some row
-        → string_bytes out.new ≡ string_bytes out.old ++ compact_text (list_text (λ c. cell_text c.1) row.cells)) }
+        → Adds out.old out.new (compact_text (list_text (λ c. cell_text c.1) row.cells))) }
 {
     let mut later = false;
     out.push_str("[")?;
@@ -32,7 +33,7 @@ fn write_cells(alloc: Global, out: &mut String, table: &Table, at: usize) -> Res
 fn write_row(alloc: Global, out: &mut String, table: &Table, at: usize) -> Result<(), AllocError>
     requires { at < length table.now.rows }
     ensures { OnOk result ((row : Row) → slice_get table.now.rows at ≡ Some row
-        → string_bytes out.new ≡ string_bytes out.old ++ compact_text (row_text row)) }
+        → Adds out.old out.new (compact_text (row_text row))) }
 {
     out.push_str("{\"cells\":")?;
     write_cells(alloc, out, table, at)?;
@@ -43,7 +44,7 @@ fn write_row(alloc: Global, out: &mut String, table: &Table, at: usize) -> Resul
 
 /// Adds the list of the rows of a table.
 fn write_rows(alloc: Global, out: &mut String, table: &Table) -> Result<(), AllocError>
-    ensures { OnOk result (string_bytes out.new ≡ string_bytes out.old ++ compact_text (list_text row_text table.now.rows)) }
+    ensures { OnOk result (Adds out.old out.new (compact_text (list_text row_text table.now.rows))) }
 {
     let mut later = false;
     out.push_str("[")?;
@@ -57,7 +58,7 @@ fn write_rows(alloc: Global, out: &mut String, table: &Table) -> Result<(), Allo
 
 /// Adds the list of the kinds of a set, ascending.
 fn write_kind_set(out: &mut String, mask: KindSet) -> Result<(), AllocError>
-    ensures { OnOk result (string_bytes out.new ≡ string_bytes out.old ++ compact_text (kinds_json mask)) }
+    ensures { OnOk result (Adds out.old out.new (compact_text (kinds_json mask))) }
 {
     let mut later = false;
     out.push_str("[")?;
@@ -71,7 +72,7 @@ fn write_kind_set(out: &mut String, mask: KindSet) -> Result<(), AllocError>
 
 /// Adds a table: its kind set and its rows.
 fn write_table(alloc: Global, out: &mut String, table: &Table) -> Result<(), AllocError>
-    ensures { OnOk result (string_bytes out.new ≡ string_bytes out.old ++ compact_text (table_json (table.now.mask, table.now.rows))) }
+    ensures { OnOk result (Adds out.old out.new (compact_text (table_json (table.now.mask, table.now.rows)))) }
 {
     out.push_str("{\"kinds\":")?;
     write_kind_set(out, table.mask())?;
@@ -86,8 +87,7 @@ pub(crate) fn write_tables(
     out: &mut String,
     tables: &[&Table],
 ) -> Result<(), AllocError>
-    ensures { OnOk result (string_bytes out.new ≡ string_bytes out.old
-        ++ compact_text (list_text (λ t. table_json (t.now.mask, t.now.rows)) tables.now)) }
+    ensures { OnOk result (Adds out.old out.new (compact_text (list_text (λ t. table_json (t.now.mask, t.now.rows)) tables.now))) }
 {
     let mut later = false;
     out.push_str("[")?;

@@ -1,6 +1,7 @@
 //! A whole world as JSON.
-ghost use Rattle.std.specs.Prelude.{◌≡◌, ◌++◌, ◌<◌, OnOk, Some, length, slice_get, string_bytes, map as each};
+ghost use Rattle.std.specs.Prelude.{◌≡◌, ◌<◌, OnOk, Some, length, slice_get, string_bytes, map as each};
 ghost use Rattle.serde_json.specs.Written.{compact_text};
+ghost use Rattle.scene_json.specs.Texts.{Adds};
 ghost use Rattle.scene_links.specs.Forest.{children_of};
 ghost use Rattle.scene_validate.specs.Parts.{lists_of};
 ghost use Rattle.scene_json_forms.specs.Text.{list_text};
@@ -31,7 +32,7 @@ fn kind_at(schema: &Schema, kind: u8) -> (&str, Shape)
 
 /// Adds a kind: its name and its shape.
 fn write_kind(alloc: Global, out: &mut String, name: &str, shape: Shape) -> Result<(), AllocError>
-    ensures { OnOk result (string_bytes out.new ≡ string_bytes out.old ++ compact_text (kind_text (name.now, shape))) }
+    ensures { OnOk result (Adds out.old out.new (compact_text (kind_text (name.now, shape)))) }
 {
     out.push_str("[")?;
     write_json_text(alloc, out, name)?;
@@ -42,7 +43,7 @@ fn write_kind(alloc: Global, out: &mut String, name: &str, shape: Shape) -> Resu
 
 /// Adds the list of the kinds, by number.
 fn write_kinds(alloc: Global, out: &mut String, schema: &Schema) -> Result<(), AllocError>
-    ensures { OnOk result (string_bytes out.new ≡ string_bytes out.old ++ compact_text (list_text kind_text schema.now)) }
+    ensures { OnOk result (Adds out.old out.new (compact_text (list_text kind_text schema.now))) }
 {
     let mut later = false;
     out.push_str("[")?;
@@ -57,8 +58,7 @@ fn write_kinds(alloc: Global, out: &mut String, schema: &Schema) -> Result<(), A
 
 /// Adds a parent with its list of children.
 fn write_children(out: &mut String, links: &Links, parent: Entity) -> Result<(), AllocError>
-    ensures { OnOk result (string_bytes out.new ≡ string_bytes out.old
-        ++ compact_text (children_text (parent, children_of links.now.forest parent))) }
+    ensures { OnOk result (Adds out.old out.new (compact_text (children_text (parent, children_of links.now.forest parent)))) }
 {
     out.push_str("{\"list\":")?;
     write_entities(out, links.children_of(parent))?;
@@ -69,8 +69,7 @@ fn write_children(out: &mut String, links: &Links, parent: Entity) -> Result<(),
 
 /// Adds the list of parents with their children.
 fn write_parents(out: &mut String, links: &Links, parents: &[Entity]) -> Result<(), AllocError>
-    ensures { OnOk result (string_bytes out.new ≡ string_bytes out.old
-        ++ compact_text (list_text (λ p. children_text (p, children_of links.now.forest p)) parents.now)) }
+    ensures { OnOk result (Adds out.old out.new (compact_text (list_text (λ p. children_text (p, children_of links.now.forest p)) parents.now))) }
 {
     let mut later = false;
     out.push_str("[")?;
@@ -84,7 +83,7 @@ fn write_parents(out: &mut String, links: &Links, parents: &[Entity]) -> Result<
 
 /// Adds the list of all parents with their children, by the indices of the parents.
 fn write_links(out: &mut String, links: &Links) -> Result<(), AllocError>
-    ensures { OnOk result (string_bytes out.new ≡ string_bytes out.old ++ compact_text (list_text children_text (lists_of links.now.forest))) }
+    ensures { OnOk result (Adds out.old out.new (compact_text (list_text children_text (lists_of links.now.forest)))) }
 {
     let parents = links.parents()?;
     write_parents(out, links, parents.as_slice())
@@ -97,7 +96,7 @@ fn write_resource(
     name: &str,
     cell: &Cell,
 ) -> Result<(), AllocError>
-    ensures { OnOk result (string_bytes out.new ≡ string_bytes out.old ++ compact_text (resource_text (name.now, cell.now))) }
+    ensures { OnOk result (Adds out.old out.new (compact_text (resource_text (name.now, cell.now)))) }
 {
     out.push_str("{\"cell\":")?;
     write_resource_cell(alloc, out, cell)?;
@@ -113,8 +112,7 @@ fn write_named(
     resources: &Resources,
     names: &[String],
 ) -> Result<(), AllocError>
-    ensures { OnOk result (string_bytes out.new ≡ string_bytes out.old
-        ++ compact_text (list_text resource_text (named_cells resources.now.cells (each string_bytes names.now)))) }
+    ensures { OnOk result (Adds out.old out.new (compact_text (list_text resource_text (named_cells resources.now.cells (each string_bytes names.now))))) }
 {
     let mut later = false;
     out.push_str("[")?;
@@ -131,7 +129,7 @@ fn write_named(
 /// Adds the list of all resources, by the bytes of their names.
 #[tactic(auto, using(crate::proofs::Found::named_whole))]
 fn write_resources(alloc: Global, out: &mut String, resources: &Resources) -> Result<(), AllocError>
-    ensures { OnOk result (string_bytes out.new ≡ string_bytes out.old ++ compact_text (list_text resource_text resources.now.cells.entries)) }
+    ensures { OnOk result (Adds out.old out.new (compact_text (list_text resource_text resources.now.cells.entries))) }
 {
     let names = resources.names()?;
     write_named(alloc, out, resources, names.as_slice())
@@ -139,7 +137,7 @@ fn write_resources(alloc: Global, out: &mut String, resources: &Resources) -> Re
 
 /// Adds the list of all tables, ascending by their kind sets.
 fn write_archetypes(alloc: Global, out: &mut String, world: &World) -> Result<(), AllocError>
-    ensures { OnOk result (string_bytes out.new ≡ string_bytes out.old ++ compact_text (list_text table_text (lists_of world.now.world.tables))) }
+    ensures { OnOk result (Adds out.old out.new (compact_text (list_text table_text (lists_of world.now.world.tables)))) }
 {
     let tables = world.tables_in_order()?;
     write_tables(alloc, out, tables.as_slice())
@@ -151,7 +149,7 @@ pub(crate) fn write_first_members(
     out: &mut String,
     world: &World,
 ) -> Result<(), AllocError>
-    ensures { OnOk result (string_bytes out.new ≡ string_bytes out.old ++ first_members world.now.world) }
+    ensures { OnOk result (Adds out.old out.new (first_members world.now.world)) }
 {
     out.push_str("{\"children\":")?;
     write_links(out, world.links())?;
@@ -172,7 +170,7 @@ pub(crate) fn write_last_members(
     world: &World,
     version: u32,
 ) -> Result<(), AllocError>
-    ensures { OnOk result (string_bytes out.new ≡ string_bytes out.old ++ last_members version world.now.world) }
+    ensures { OnOk result (Adds out.old out.new (last_members version world.now.world)) }
 {
     out.push_str(",\"resources\":")?;
     write_resources(alloc, out, world.resources())?;
@@ -185,7 +183,7 @@ pub(crate) fn write_last_members(
 /// Adds a world as JSON (docs/SCENE_FILES.md, "Version 1"). It costs a walk over the world, and a look for each parent
 /// and each resource.
 pub(crate) fn write_world(alloc: Global, out: &mut String, world: &World) -> Result<(), AllocError>
-    ensures { OnOk result (string_bytes out.new ≡ string_bytes out.old ++ compact_text (world_text world.now.world)) }
+    ensures { OnOk result (Adds out.old out.new (compact_text (world_text world.now.world))) }
 {
     write_first_members(alloc, out, world)?;
     write_last_members(alloc, out, world, 1)?;

@@ -1,6 +1,7 @@
 //! Deltas as JSON.
-ghost use Rattle.std.specs.Prelude.{◌≡◌, ◌++◌, OnOk, string_bytes};
+ghost use Rattle.std.specs.Prelude.{OnOk};
 ghost use Rattle.serde_json.specs.Written.{compact_text};
+ghost use Rattle.scene_json.specs.Texts.{Adds};
 ghost use Rattle.scene_file_records.specs.Text.{spawned_text, despawned_text, shifted_text, cell_set_text, linked_text, resource_set_text, delta_text};
 
 use crate::write_parts::{write_kcell, write_kcells, write_link, write_maybe_resource_cell};
@@ -18,7 +19,7 @@ fn write_spawned(
     cells: &Cells,
     fresh: bool,
 ) -> Result<(), AllocError>
-    ensures { OnOk result (string_bytes out.new ≡ string_bytes out.old ++ compact_text (spawned_text entity cells.now fresh)) }
+    ensures { OnOk result (Adds out.old out.new (compact_text (spawned_text entity cells.now fresh))) }
 {
     out.push_str("{\"cells\":")?;
     write_kcells(alloc, out, cells)?;
@@ -38,8 +39,7 @@ fn write_despawned(
     link: Option<(Entity, u32)>,
     retired: bool,
 ) -> Result<(), AllocError>
-    ensures { OnOk result (string_bytes out.new ≡ string_bytes out.old
-        ++ compact_text (despawned_text entity place cells.now link retired)) }
+    ensures { OnOk result (Adds out.old out.new (compact_text (despawned_text entity place cells.now link retired))) }
 {
     out.push_str("{\"cells\":")?;
     write_kcells(alloc, out, cells)?;
@@ -64,8 +64,7 @@ fn write_shifted(
     cell: &Cell,
     inward: bool,
 ) -> Result<(), AllocError>
-    ensures { OnOk result (string_bytes out.new ≡ string_bytes out.old
-        ++ compact_text (shifted_text entity place (kind, cell.now) inward)) }
+    ensures { OnOk result (Adds out.old out.new (compact_text (shifted_text entity place (kind, cell.now) inward))) }
 {
     out.push_str("{\"cell\":")?;
     write_kcell(alloc, out, kind, cell)?;
@@ -87,8 +86,7 @@ fn write_cell_set(
     before: &Cell,
     after: &Cell,
 ) -> Result<(), AllocError>
-    ensures { OnOk result (string_bytes out.new ≡ string_bytes out.old
-        ++ compact_text (cell_set_text entity (kind, before.now) (kind, after.now))) }
+    ensures { OnOk result (Adds out.old out.new (compact_text (cell_set_text entity (kind, before.now) (kind, after.now)))) }
 {
     out.push_str("{\"after\":")?;
     write_kcell(alloc, out, kind, after)?;
@@ -106,7 +104,7 @@ fn write_linked(
     before: Option<(Entity, u32)>,
     after: Option<(Entity, u32)>,
 ) -> Result<(), AllocError>
-    ensures { OnOk result (string_bytes out.new ≡ string_bytes out.old ++ compact_text (linked_text entity before after)) }
+    ensures { OnOk result (Adds out.old out.new (compact_text (linked_text entity before after))) }
 {
     out.push_str("{\"after\":")?;
     write_link(out, after)?;
@@ -125,8 +123,7 @@ fn write_resource_set(
     before: &ResourceCell,
     after: &ResourceCell,
 ) -> Result<(), AllocError>
-    ensures { OnOk result (string_bytes out.new ≡ string_bytes out.old
-        ++ compact_text (resource_set_text name.now before.now after.now)) }
+    ensures { OnOk result (Adds out.old out.new (compact_text (resource_set_text name.now before.now after.now))) }
 {
     out.push_str("{\"after\":")?;
     write_maybe_resource_cell(alloc, out, after)?;
@@ -139,7 +136,7 @@ fn write_resource_set(
 
 /// Adds a delta (docs/SCENE_FILES.md, "Version 2").
 pub(crate) fn write_delta(alloc: Global, out: &mut String, delta: &Delta) -> Result<(), AllocError>
-    ensures { OnOk result (string_bytes out.new ≡ string_bytes out.old ++ compact_text (delta_text delta.now)) }
+    ensures { OnOk result (Adds out.old out.new (compact_text (delta_text delta.now))) }
 {
     match delta {
         Delta::Spawned {

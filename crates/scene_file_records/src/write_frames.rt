@@ -1,6 +1,7 @@
 //! Records as JSON.
-ghost use Rattle.std.specs.Prelude.{◌≡◌, ◌++◌, OnOk, string_bytes};
+ghost use Rattle.std.specs.Prelude.{OnOk};
 ghost use Rattle.serde_json.specs.Written.{compact_text};
+ghost use Rattle.scene_json.specs.Texts.{Adds};
 ghost use Rattle.scene_json_forms.specs.Text.{list_text};
 ghost use Rattle.scene_file_records.specs.Text.{delta_text, record_text, records_text};
 
@@ -12,7 +13,7 @@ use std::alloc::{AllocError, Global};
 
 /// Adds a list of deltas.
 fn write_deltas(alloc: Global, out: &mut String, deltas: &[Delta]) -> Result<(), AllocError>
-    ensures { OnOk result (string_bytes out.new ≡ string_bytes out.old ++ compact_text (list_text delta_text deltas.now)) }
+    ensures { OnOk result (Adds out.old out.new (compact_text (list_text delta_text deltas.now))) }
 {
     let mut later = false;
     out.push_str("[")?;
@@ -26,7 +27,7 @@ fn write_deltas(alloc: Global, out: &mut String, deltas: &[Delta]) -> Result<(),
 
 /// Adds a record: its deltas and its tick.
 fn write_record(alloc: Global, out: &mut String, frame: &FrameRecord) -> Result<(), AllocError>
-    ensures { OnOk result (string_bytes out.new ≡ string_bytes out.old ++ compact_text (record_text frame.now)) }
+    ensures { OnOk result (Adds out.old out.new (compact_text (record_text frame.now))) }
 {
     out.push_str("{\"deltas\":")?;
     write_deltas(alloc, out, frame.deltas())?;
@@ -42,7 +43,7 @@ pub fn write_records(
     out: &mut String,
     records: &[FrameRecord],
 ) -> Result<(), AllocError>
-    ensures { OnOk result (string_bytes out.new ≡ string_bytes out.old ++ compact_text (records_text records.now)) }
+    ensures { OnOk result (Adds out.old out.new (compact_text (records_text records.now))) }
 {
     let mut later = false;
     out.push_str("[")?;

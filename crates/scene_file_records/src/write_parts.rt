@@ -1,6 +1,7 @@
 //! The parts of deltas as JSON.
-ghost use Rattle.std.specs.Prelude.{◌≡◌, ◌++◌, OnOk, string_bytes};
+ghost use Rattle.std.specs.Prelude.{OnOk};
 ghost use Rattle.serde_json.specs.Written.{compact_text};
+ghost use Rattle.scene_json.specs.Texts.{Adds};
 ghost use Rattle.scene_file_records.specs.Text.{kcell_text, kcells_text, link_text, maybe_resource_cell_text};
 
 use scene_deltas::ResourceCell;
@@ -15,7 +16,7 @@ pub(crate) fn write_kcell(
     kind: u8,
     cell: &Cell,
 ) -> Result<(), AllocError>
-    ensures { OnOk result (string_bytes out.new ≡ string_bytes out.old ++ compact_text (kcell_text (kind, cell.now))) }
+    ensures { OnOk result (Adds out.old out.new (compact_text (kcell_text (kind, cell.now)))) }
 {
     write!(out, "[{kind},")?;
     write_value(alloc, out, &cell.value)?;
@@ -25,7 +26,7 @@ pub(crate) fn write_kcell(
 
 /// Adds a list of cells with their kinds.
 pub(crate) fn write_kcells(alloc: Global, out: &mut String, cells: &Cells) -> Result<(), AllocError>
-    ensures { OnOk result (string_bytes out.new ≡ string_bytes out.old ++ compact_text (kcells_text cells.now)) }
+    ensures { OnOk result (Adds out.old out.new (compact_text (kcells_text cells.now))) }
 {
     let mut later = false;
     out.push_str("[")?;
@@ -39,7 +40,7 @@ pub(crate) fn write_kcells(alloc: Global, out: &mut String, cells: &Cells) -> Re
 
 /// Adds a link, or `null`.
 pub(crate) fn write_link(out: &mut String, link: Option<(Entity, u32)>) -> Result<(), AllocError>
-    ensures { OnOk result (string_bytes out.new ≡ string_bytes out.old ++ compact_text (link_text link)) }
+    ensures { OnOk result (Adds out.old out.new (compact_text (link_text link))) }
 {
     match link {
         None => out.push_str("null"),
@@ -58,7 +59,7 @@ pub(crate) fn write_maybe_resource_cell(
     out: &mut String,
     cell: &ResourceCell,
 ) -> Result<(), AllocError>
-    ensures { OnOk result (string_bytes out.new ≡ string_bytes out.old ++ compact_text (maybe_resource_cell_text cell.now)) }
+    ensures { OnOk result (Adds out.old out.new (compact_text (maybe_resource_cell_text cell.now))) }
 {
     match cell.get() {
         None => out.push_str("null"),

@@ -1,5 +1,6 @@
 //! What a line is answered with.
-ghost use Rattle.std.specs.Prelude.{◌≡◌, ◌≢◌, ◌++◌, OnOk, IfOk, string_bytes};
+ghost use Rattle.std.specs.Prelude.{◌≡◌, ◌≢◌, OnOk, IfOk};
+ghost use Rattle.scene_json.specs.Texts.{Adds};
 ghost use Rattle.scene_json_forms.specs.declared.fault.FileFault.TheVariants.{NoMemory as FileWantsMemory};
 ghost use Rattle.scene_kinds.specs.Answers.{refusal_of};
 ghost use Rattle.scene_kinds.specs.declared.fault.Fault.TheVariants.{NoMemory};
@@ -71,7 +72,7 @@ pub(crate) fn faulty(fault: FileFault) -> Result<Answer, AllocError>
 
 /// Adds a refusal.
 pub(crate) fn write_refused(out: &mut String, refusal: Refusal) -> Result<(), AllocError>
-    ensures { OnOk result (string_bytes out.new ≡ string_bytes out.old ++ refused_text refusal) }
+    ensures { OnOk result (Adds out.old out.new (refused_text refusal)) }
 {
     out.push_str("refused ")?;
     write_refusal(out, refusal)?;
@@ -80,7 +81,7 @@ pub(crate) fn write_refused(out: &mut String, refusal: Refusal) -> Result<(), Al
 
 /// Adds what a frame made: the entities that it spawned.
 fn write_made(out: &mut String, entities: &[Entity]) -> Result<(), AllocError>
-    ensures { OnOk result (string_bytes out.new ≡ string_bytes out.old ++ made_text entities.now) }
+    ensures { OnOk result (Adds out.old out.new (made_text entities.now)) }
 {
     out.push_str("done")?;
     write_entities(out, entities)?;
@@ -89,7 +90,7 @@ fn write_made(out: &mut String, entities: &[Entity]) -> Result<(), AllocError>
 
 /// Adds what a call came to.
 fn write_reply(out: &mut String, reply: &Reply) -> Result<(), AllocError>
-    ensures { OnOk result (string_bytes out.new ≡ string_bytes out.old ++ answer_text (told reply.now)) }
+    ensures { OnOk result (Adds out.old out.new (answer_text (told reply.now))) }
 {
     match reply {
         Reply::Done(entities) => write_made(out, entities.as_slice()),
@@ -108,7 +109,7 @@ impl Answer {
         schema: &Schema,
         out: &mut String,
     ) -> Result<(), AllocError>
-        ensures { OnOk result (string_bytes out.new ≡ string_bytes out.old ++ said_text schema.now (said_of self.now)) }
+        ensures { OnOk result (Adds out.old out.new (said_text schema.now (said_of self.now))) }
     {
         match self {
             Answer::Nothing => Ok(()),

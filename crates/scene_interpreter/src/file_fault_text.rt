@@ -1,5 +1,6 @@
 //! The line of a fault of a scene text.
-ghost use Rattle.std.specs.Prelude.{◌≡◌, ◌≢◌, ◌++◌, OnOk, string_bytes};
+ghost use Rattle.std.specs.Prelude.{◌≢◌, OnOk};
+ghost use Rattle.scene_json.specs.Texts.{Adds};
 ghost use Rattle.scene_json_forms.specs.declared.fault.FileFault.TheVariants.{NoMemory};
 ghost use Rattle.scene_interpreter.specs.FileFaultText.{file_fault_fields, file_fault_text};
 
@@ -9,7 +10,7 @@ use std::alloc::{AllocError, Global};
 
 /// Adds the fields of a fault, each after a space.
 fn write_fields(alloc: Global, out: &mut String, fault: &FileFault) -> Result<(), AllocError>
-    ensures { OnOk result (string_bytes out.new ≡ string_bytes out.old ++ file_fault_fields fault.now) }
+    ensures { OnOk result (Adds out.old out.new (file_fault_fields fault.now)) }
 {
     match fault {
         FileFault::UnknownKey(path) | FileFault::BadField(path) => {
@@ -29,7 +30,7 @@ pub(crate) fn write_file_fault(
     out: &mut String,
     fault: &FileFault,
 ) -> Result<(), AllocError>
-    ensures { OnOk result (string_bytes out.new ≡ string_bytes out.old ++ file_fault_text fault.now) }
+    ensures { OnOk result (Adds out.old out.new (file_fault_text fault.now)) }
 {
     write!(out, "fault {} {}", fault.number(), fault.name())?;
     write_fields(alloc, out, fault)?;
@@ -42,7 +43,7 @@ pub fn answer_file_fault(
     out: &mut String,
     fault: FileFault,
 ) -> Result<(), AllocError>
-    ensures text { OnOk result (string_bytes out.new ≡ string_bytes out.old ++ file_fault_text fault) }
+    ensures text { OnOk result (Adds out.old out.new (file_fault_text fault)) }
     ensures memory { OnOk result (fault ≢ NoMemory) }
 {
     match fault {

@@ -1,6 +1,7 @@
 //! The answers to lines as JSON.
-ghost use Rattle.std.specs.Prelude.{◌≡◌, ◌++◌, ℕ, List, OnOk, string_bytes};
+ghost use Rattle.std.specs.Prelude.{ℕ, List, OnOk};
 ghost use Rattle.serde_json.specs.Written.{compact_text};
+ghost use Rattle.scene_json.specs.Texts.{Adds};
 ghost use Rattle.scene_session.specs.Calls.{told};
 ghost use Rattle.scene_interpreter.specs.Answer.{said_of};
 ghost use Rattle.scene_interpreter.specs.JsonAnswer.{answer_json, bad_json, history_json, json_text, made_json, mark_json, plain_json, reply_json};
@@ -16,7 +17,7 @@ use std::alloc::{AllocError, Global};
 
 /// Adds what a frame made: the entities that it spawned.
 fn write_made(out: &mut String, entities: &[Entity]) -> Result<(), AllocError>
-    ensures { OnOk result (string_bytes out.new ≡ string_bytes out.old ++ compact_text (made_json entities.now)) }
+    ensures { OnOk result (Adds out.old out.new (compact_text (made_json entities.now))) }
 {
     out.push_str("{\"answer\":\"done\",\"entities\":")?;
     write_entities(out, entities)?;
@@ -26,7 +27,7 @@ fn write_made(out: &mut String, entities: &[Entity]) -> Result<(), AllocError>
 /// Adds what a call came to.
 #[tactic(auto, using(crate::proofs::JsonLaws::undone_is, crate::proofs::JsonLaws::redone_is))]
 fn write_reply(out: &mut String, reply: &Reply) -> Result<(), AllocError>
-    ensures { OnOk result (string_bytes out.new ≡ string_bytes out.old ++ compact_text (reply_json (told reply.now))) }
+    ensures { OnOk result (Adds out.old out.new (compact_text (reply_json (told reply.now)))) }
 {
     match reply {
         Reply::Done(entities) => write_made(out, entities.as_slice()),
@@ -38,7 +39,7 @@ fn write_reply(out: &mut String, reply: &Reply) -> Result<(), AllocError>
 
 /// Adds a cursor.
 fn write_mark(out: &mut String, cursor: Cursor) -> Result<(), AllocError>
-    ensures { OnOk result (string_bytes out.new ≡ string_bytes out.old ++ compact_text (mark_json cursor)) }
+    ensures { OnOk result (Adds out.old out.new (compact_text (mark_json cursor))) }
 {
     Ok(write!(
         out,
@@ -49,14 +50,14 @@ fn write_mark(out: &mut String, cursor: Cursor) -> Result<(), AllocError>
 
 /// Adds how many calls there were.
 fn write_history(out: &mut String, count: u64) -> Result<(), AllocError>
-    ensures { OnOk result (string_bytes out.new ≡ string_bytes out.old ++ compact_text (history_json count)) }
+    ensures { OnOk result (Adds out.old out.new (compact_text (history_json count))) }
 {
     Ok(write!(out, "{{\"answer\":\"history\",\"calls\":{count}}}")?)
 }
 
 /// Adds a text that is no JSON.
 fn write_plain(alloc: Global, out: &mut String, text: &str) -> Result<(), AllocError>
-    ensures { OnOk result (string_bytes out.new ≡ string_bytes out.old ++ compact_text (plain_json text.now)) }
+    ensures { OnOk result (Adds out.old out.new (compact_text (plain_json text.now))) }
 {
     out.push_str("{\"answer\":\"text\",\"text\":")?;
     write_json_text(alloc, out, text)?;
@@ -65,7 +66,7 @@ fn write_plain(alloc: Global, out: &mut String, text: &str) -> Result<(), AllocE
 
 /// Adds the words that say why a line is bad.
 fn write_bad(alloc: Global, out: &mut String, words: &str) -> Result<(), AllocError>
-    ensures { OnOk result (string_bytes out.new ≡ string_bytes out.old ++ compact_text (bad_json words.now)) }
+    ensures { OnOk result (Adds out.old out.new (compact_text (bad_json words.now))) }
 {
     out.push_str("{\"answer\":\"bad\",\"reason\":")?;
     write_json_text(alloc, out, words)?;
@@ -90,7 +91,7 @@ impl Answer {
         words: &str,
         out: &mut String,
     ) -> Result<(), AllocError>
-        ensures { OnOk result (string_bytes out.new ≡ string_bytes out.old ++ compact_text (answer_json schema.now words.now (said_of self.now))) }
+        ensures { OnOk result (Adds out.old out.new (compact_text (answer_json schema.now words.now (said_of self.now)))) }
     {
         match self {
             Answer::Nothing => out.push_str("{\"answer\":\"nothing\"}"),
@@ -126,7 +127,7 @@ impl Answer {
         out: &mut String,
     ) -> Result<(), AllocError>
         ensures { OnOk result ((words : List ℕ)
-            × (string_bytes out.new ≡ string_bytes out.old ++ json_text schema.now words (said_of self.now))) }
+            × (Adds out.old out.new (json_text schema.now words (said_of self.now)))) }
     {
         let words = self.bad_words(alloc)?;
         self.write_object(alloc, schema, words.as_str(), out)?;

@@ -1,5 +1,6 @@
 //! The lines of a script one at a time, each answered by one line of JSON.
-ghost use Rattle.std.specs.Prelude.{◌≡◌, ◌++◌, IfErr, IfOk, None, OnOk, string_bytes};
+ghost use Rattle.std.specs.Prelude.{◌≡◌, IfErr, IfOk, None, OnOk, string_bytes};
+ghost use Rattle.scene_json.specs.Texts.{Adds};
 ghost use Rattle.scene_session.specs.Owner.{whole_at};
 ghost use Rattle.scene_interpreter.specs.JsonAnswer.{json_line};
 ghost use Rattle.scene_interpreter.specs.JsonLine.{AddsJson, IsAnsweredAsJson, asked_in, question_of};
@@ -109,8 +110,7 @@ impl Interpreter {
     ) -> Result<Option<BadLine>, Halt>
         ensures bad { IfOk result (λ bad. bad ≡ None) }
         ensures begun { IfOk result (λ _. interpreter_of self.new ≡ begun (interpreter_of self.old)) }
-        ensures text { OnOk result (string_bytes out.new ≡ string_bytes out.old
-            ++ json_line (asked_json asked (whole_at (owner_of (interpreter_of self.old))))) }
+        ensures text { OnOk result (Adds out.old out.new (json_line (asked_json asked (whole_at (owner_of (interpreter_of self.old)))))) }
         ensures halted { IfErr result (λ h. interpreter_of self.new ≡ halted h (interpreter_of self.old) (begun (interpreter_of self.old))) }
     {
         let text = self.ask(performer, asked)?;

@@ -2,6 +2,7 @@
 ghost use Rattle.std.specs.Prelude.{◌≡◌, ◌≢◌, ◌++◌, ◌∷◌, [], ℕ, List, OnOk, string_bytes};
 ghost use Rattle.serde_json.specs.Data.{Data};
 ghost use Rattle.serde_json.specs.Written.{compact_text};
+ghost use Rattle.scene_json.specs.Texts.{Adds};
 ghost use Rattle.scene_json_forms.specs.declared.fault.FileFault.TheVariants.{NoMemory};
 ghost use Rattle.scene_session.specs.Whole.{whole_of};
 ghost use Rattle.scene_print.specs.JsonTold.{file_fault_json};
@@ -35,7 +36,7 @@ fn write_get(
     world: &World,
     entity: Entity,
 ) -> Result<(), AllocError>
-    ensures { OnOk result (string_bytes out.new ≡ string_bytes out.old ++ compact_text (get_json world.now.world entity)) }
+    ensures { OnOk result (Adds out.old out.new (compact_text (get_json world.now.world entity))) }
 {
     match world.row_of(entity) {
         None => write_json_refused(out, Refusal::from(Fault::NoSuchEntity)),
@@ -55,7 +56,7 @@ fn without_break(text: &str) -> &str
 fn write_scene(out: &mut String, text: &str) -> Result<(), AllocError>
     requires { (d : Data) × (text.now ≡ compact_text d ++ 10 ∷ []) }
     ensures { OnOk result ((d : Data) → text.now ≡ compact_text d ++ 10 ∷ []
-        → string_bytes out.new ≡ string_bytes out.old ++ compact_text (scene_json d)) }
+        → Adds out.old out.new (compact_text (scene_json d))) }
 {
     out.push_str("{\"answer\":\"scene\",\"text\":")?;
     out.push_str(without_break(text))?;
@@ -64,7 +65,7 @@ fn write_scene(out: &mut String, text: &str) -> Result<(), AllocError>
 
 /// Adds the fault of a save; want of memory is none.
 fn write_fault(alloc: Global, out: &mut String, fault: FileFault) -> Result<(), AllocError>
-    ensures text { OnOk result (string_bytes out.new ≡ string_bytes out.old ++ compact_text (file_fault_json fault)) }
+    ensures text { OnOk result (Adds out.old out.new (compact_text (file_fault_json fault))) }
     ensures memory { OnOk result (fault ≢ NoMemory) }
 {
     match fault {
@@ -76,7 +77,7 @@ fn write_fault(alloc: Global, out: &mut String, fault: FileFault) -> Result<(), 
 /// Adds the scene text of a world.
 #[tactic(auto, using(crate::proofs::FileFaultLaws::is_wanted))]
 fn write_dump(alloc: Global, out: &mut String, world: &World) -> Result<(), AllocError>
-    ensures { OnOk result (string_bytes out.new ≡ string_bytes out.old ++ compact_text (dump_json world.now.world)) }
+    ensures { OnOk result (Adds out.old out.new (compact_text (dump_json world.now.world))) }
 {
     match save_text(alloc, world) {
         Ok(text) => write_scene(out, text.as_str()),
@@ -87,7 +88,7 @@ fn write_dump(alloc: Global, out: &mut String, world: &World) -> Result<(), Allo
 /// Adds the scene text of all that an editor keeps.
 #[tactic(auto, using(crate::proofs::FileFaultLaws::is_wanted))]
 fn write_dumpall(alloc: Global, out: &mut String, editor: &Editor) -> Result<(), AllocError>
-    ensures { OnOk result (string_bytes out.new ≡ string_bytes out.old ++ compact_text (dumpall_json (whole_of editor.now))) }
+    ensures { OnOk result (Adds out.old out.new (compact_text (dumpall_json (whole_of editor.now)))) }
 {
     match save_editor_text(alloc, editor) {
         Ok(text) => write_scene(out, text.as_str()),
@@ -102,7 +103,7 @@ fn write_asked(
     editor: &Editor,
     asked: StateJson,
 ) -> Result<(), AllocError>
-    ensures { OnOk result (string_bytes out.new ≡ string_bytes out.old ++ compact_text (asked_json asked (whole_of editor.now))) }
+    ensures { OnOk result (Adds out.old out.new (compact_text (asked_json asked (whole_of editor.now)))) }
 {
     match asked {
         StateJson::Show => write_json_world(alloc, out, editor.world()),

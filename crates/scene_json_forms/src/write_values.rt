@@ -1,6 +1,7 @@
 //! Numbers, entities, values and cells as JSON.
-ghost use Rattle.std.specs.Prelude.{◌≡◌, ◌++◌, OnOk, string_bytes};
+ghost use Rattle.std.specs.Prelude.{OnOk};
 ghost use Rattle.serde_json.specs.Written.{compact_text, comma_if};
+ghost use Rattle.scene_json.specs.Texts.{Adds};
 ghost use Rattle.scene_kinds.specs.Cells.{shown};
 ghost use Rattle.scene_json_forms.specs.Text.{list_text, count_text, int_text, entity_json, value_text, cell_text, resource_cell_text};
 
@@ -11,7 +12,7 @@ use std::alloc::{AllocError, Global};
 /// Adds to a text the comma before an element that isn't the first of its list, or nothing. Of all printers only want of
 /// memory is an error, and then a part may have been added.
 pub fn write_comma(out: &mut String, later: bool) -> Result<(), AllocError>
-    ensures { OnOk result (string_bytes out.new ≡ string_bytes out.old ++ comma_if later) }
+    ensures { OnOk result (Adds out.old out.new (comma_if later)) }
 {
     if later {
         out.push_str(",")?;
@@ -21,7 +22,7 @@ pub fn write_comma(out: &mut String, later: bool) -> Result<(), AllocError>
 
 /// Adds the list of these numbers.
 pub fn write_counts(out: &mut String, numbers: &[u32]) -> Result<(), AllocError>
-    ensures { OnOk result (string_bytes out.new ≡ string_bytes out.old ++ compact_text (list_text count_text numbers.now)) }
+    ensures { OnOk result (Adds out.old out.new (compact_text (list_text count_text numbers.now))) }
 {
     let mut later = false;
     out.push_str("[")?;
@@ -36,7 +37,7 @@ pub fn write_counts(out: &mut String, numbers: &[u32]) -> Result<(), AllocError>
 /// Adds an entity, as a string of its text.
 #[tactic(auto, using(crate::proofs::Quoted::entity_quoted))]
 pub fn write_entity(out: &mut String, entity: Entity) -> Result<(), AllocError>
-    ensures { OnOk result (string_bytes out.new ≡ string_bytes out.old ++ compact_text (entity_json entity)) }
+    ensures { OnOk result (Adds out.old out.new (compact_text (entity_json entity))) }
 {
     write!(out, "\"{entity}\"")?;
     Ok(())
@@ -44,7 +45,7 @@ pub fn write_entity(out: &mut String, entity: Entity) -> Result<(), AllocError>
 
 /// Adds the list of these entities.
 pub fn write_entities(out: &mut String, entities: &[Entity]) -> Result<(), AllocError>
-    ensures { OnOk result (string_bytes out.new ≡ string_bytes out.old ++ compact_text (list_text entity_json entities.now)) }
+    ensures { OnOk result (Adds out.old out.new (compact_text (list_text entity_json entities.now))) }
 {
     let mut later = false;
     out.push_str("[")?;
@@ -59,7 +60,7 @@ pub fn write_entities(out: &mut String, entities: &[Entity]) -> Result<(), Alloc
 /// Adds a list of three whole numbers.
 #[tactic(auto, using(crate::proofs::Quoted::int_digits))]
 fn write_vec3(out: &mut String, parts: &[i64; 3]) -> Result<(), AllocError>
-    ensures { OnOk result (string_bytes out.new ≡ string_bytes out.old ++ compact_text (list_text int_text parts.now)) }
+    ensures { OnOk result (Adds out.old out.new (compact_text (list_text int_text parts.now))) }
 {
     let [x, y, z] = *parts;
     write!(out, "[{x},{y},{z}]")?;
@@ -69,7 +70,7 @@ fn write_vec3(out: &mut String, parts: &[i64; 3]) -> Result<(), AllocError>
 /// Adds a value, by its shape (docs/SCENE_FILES.md, "Version 1").
 #[tactic(auto, using(crate::proofs::Quoted::int_digits))]
 pub fn write_value(alloc: Global, out: &mut String, value: &Value) -> Result<(), AllocError>
-    ensures { OnOk result (string_bytes out.new ≡ string_bytes out.old ++ compact_text (value_text value.now)) }
+    ensures { OnOk result (Adds out.old out.new (compact_text (value_text value.now))) }
 {
     match value {
         Value::Tag => out.push_str("true"),
@@ -82,7 +83,7 @@ pub fn write_value(alloc: Global, out: &mut String, value: &Value) -> Result<(),
 
 /// Adds the cell of a component: the list of its value and its two ticks.
 pub fn write_cell(alloc: Global, out: &mut String, cell: CellRef<'_>) -> Result<(), AllocError>
-    ensures { OnOk result (string_bytes out.new ≡ string_bytes out.old ++ compact_text (cell_text (shown cell.entry))) }
+    ensures { OnOk result (Adds out.old out.new (compact_text (cell_text (shown cell.entry)))) }
 {
     out.push_str("[")?;
     write_value(alloc, out, cell.value)?;
@@ -92,7 +93,7 @@ pub fn write_cell(alloc: Global, out: &mut String, cell: CellRef<'_>) -> Result<
 
 /// Adds the cell of a resource: the list of its shape, its value and its two ticks.
 pub fn write_resource_cell(alloc: Global, out: &mut String, cell: &Cell) -> Result<(), AllocError>
-    ensures { OnOk result (string_bytes out.new ≡ string_bytes out.old ++ compact_text (resource_cell_text cell.now)) }
+    ensures { OnOk result (Adds out.old out.new (compact_text (resource_cell_text cell.now))) }
 {
     out.push_str("[")?;
     write_json_text(alloc, out, cell.value.shape().name())?;

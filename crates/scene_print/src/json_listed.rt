@@ -1,6 +1,7 @@
 //! Lists of cells as JSON.
-ghost use Rattle.std.specs.Prelude.{◌≡◌, ◌++◌, OnOk, string_bytes};
+ghost use Rattle.std.specs.Prelude.{OnOk};
 ghost use Rattle.serde_json.specs.Written.{compact_text};
+ghost use Rattle.scene_json.specs.Texts.{Adds};
 ghost use Rattle.scene_json_forms.specs.Text.{list_text};
 ghost use Rattle.scene_print.specs.JsonShown.{cell_name_json, listed_answer};
 
@@ -18,7 +19,7 @@ fn write_cell_name(
     schema: &Schema,
     cell: CellName,
 ) -> Result<(), AllocError>
-    ensures { OnOk result (string_bytes out.new ≡ string_bytes out.old ++ compact_text (cell_name_json schema.now cell)) }
+    ensures { OnOk result (Adds out.old out.new (compact_text (cell_name_json schema.now cell))) }
 {
     out.push_str("{\"entity\":")?;
     write_entity(out, cell.entity)?;
@@ -34,7 +35,7 @@ fn write_cell_names(
     schema: &Schema,
     cells: &[CellName],
 ) -> Result<(), AllocError>
-    ensures { OnOk result (string_bytes out.new ≡ string_bytes out.old ++ compact_text (list_text (cell_name_json schema.now) cells.now)) }
+    ensures { OnOk result (Adds out.old out.new (compact_text (list_text (cell_name_json schema.now) cells.now))) }
 {
     let mut later = false;
     out.push_str("[")?;
@@ -55,7 +56,7 @@ pub fn write_json_listed(
     schema: &Schema,
     cells: &[CellName],
 ) -> Result<(), AllocError>
-    ensures { OnOk result (string_bytes out.new ≡ string_bytes out.old ++ compact_text (listed_answer word.now schema.now cells.now)) }
+    ensures { OnOk result (Adds out.old out.new (compact_text (listed_answer word.now schema.now cells.now))) }
 {
     out.push_str("{\"answer\":")?;
     write_json_text(alloc, out, word)?;

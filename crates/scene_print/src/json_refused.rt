@@ -1,6 +1,7 @@
 //! Refusals, and the faults of scene texts, as JSON.
-ghost use Rattle.std.specs.Prelude.{◌≡◌, ◌++◌, OnOk, codes, string_bytes};
+ghost use Rattle.std.specs.Prelude.{OnOk, codes};
 ghost use Rattle.serde_json.specs.Written.{compact_text};
+ghost use Rattle.scene_json.specs.Texts.{Adds};
 ghost use Rattle.scene_kinds.specs.Fault.{fault_name, fault_number};
 ghost use Rattle.scene_json_forms.specs.Fault.{file_name, file_number};
 ghost use Rattle.scene_print.specs.JsonSteps.{fields_text, file_fields, head_text, place_text};
@@ -13,8 +14,7 @@ use std::alloc::{AllocError, Global};
 
 /// Adds the beginning of a refusal: the number and the name of its fault.
 fn write_head(out: &mut String, fault: Fault) -> Result<(), AllocError>
-    ensures { OnOk result (string_bytes out.new ≡ string_bytes out.old
-        ++ head_text (codes "refused") (fault_number fault) (fault_name fault)) }
+    ensures { OnOk result (Adds out.old out.new (head_text (codes "refused") (fault_number fault) (fault_name fault))) }
 {
     Ok(write!(
         out,
@@ -26,7 +26,7 @@ fn write_head(out: &mut String, fault: Fault) -> Result<(), AllocError>
 
 /// Adds the fields of a fault, each after a comma.
 fn write_fields(out: &mut String, fault: Fault) -> Result<(), AllocError>
-    ensures { OnOk result (string_bytes out.new ≡ string_bytes out.old ++ fields_text fault) }
+    ensures { OnOk result (Adds out.old out.new (fields_text fault)) }
 {
     match fault {
         Fault::Overflow(entity) => {
@@ -56,7 +56,7 @@ fn write_fields(out: &mut String, fault: Fault) -> Result<(), AllocError>
 
 /// Adds a place after a comma, where there is one.
 fn write_place(out: &mut String, place: Option<Place>) -> Result<(), AllocError>
-    ensures { OnOk result (string_bytes out.new ≡ string_bytes out.old ++ place_text place) }
+    ensures { OnOk result (Adds out.old out.new (place_text place)) }
 {
     match place {
         Some(
@@ -76,7 +76,7 @@ fn write_place(out: &mut String, place: Option<Place>) -> Result<(), AllocError>
 /// Adds a refusal as an answer: its fault by number and name with its fields, and its place where it has one
 /// (docs/SHELL.md, "JSON"). An error only where no memory was found; a part may be added then.
 pub fn write_json_refused(out: &mut String, refusal: Refusal) -> Result<(), AllocError>
-    ensures { OnOk result (string_bytes out.new ≡ string_bytes out.old ++ compact_text (refused_json refusal)) }
+    ensures { OnOk result (Adds out.old out.new (compact_text (refused_json refusal))) }
 {
     let Refusal { fault, place } = refusal;
     write_head(out, fault)?;
@@ -87,8 +87,7 @@ pub fn write_json_refused(out: &mut String, refusal: Refusal) -> Result<(), Allo
 
 /// Adds the beginning of the fault of a scene text: its number and its name.
 fn write_file_head(out: &mut String, fault: &FileFault) -> Result<(), AllocError>
-    ensures { OnOk result (string_bytes out.new ≡ string_bytes out.old
-        ++ head_text (codes "fault") (file_number fault.now) (file_name fault.now)) }
+    ensures { OnOk result (Adds out.old out.new (head_text (codes "fault") (file_number fault.now) (file_name fault.now))) }
 {
     Ok(write!(
         out,
@@ -100,7 +99,7 @@ fn write_file_head(out: &mut String, fault: &FileFault) -> Result<(), AllocError
 
 /// Adds the fields of the fault of a scene text, each after a comma.
 fn write_file_fields(alloc: Global, out: &mut String, fault: &FileFault) -> Result<(), AllocError>
-    ensures { OnOk result (string_bytes out.new ≡ string_bytes out.old ++ file_fields fault.now) }
+    ensures { OnOk result (Adds out.old out.new (file_fields fault.now)) }
 {
     match fault {
         FileFault::UnknownKey(path) | FileFault::BadField(path) => {
@@ -123,7 +122,7 @@ pub fn write_json_fault(
     out: &mut String,
     fault: &FileFault,
 ) -> Result<(), AllocError>
-    ensures { OnOk result (string_bytes out.new ≡ string_bytes out.old ++ compact_text (file_fault_json fault.now)) }
+    ensures { OnOk result (Adds out.old out.new (compact_text (file_fault_json fault.now))) }
 {
     write_file_head(out, fault)?;
     write_file_fields(alloc, out, fault)?;

@@ -1,6 +1,7 @@
 //! Rows and tables as JSON.
-ghost use Rattle.std.specs.Prelude.{◌≡◌, ◌++◌, ◌<◌, OnOk, Some, length, slice_get, string_bytes};
+ghost use Rattle.std.specs.Prelude.{◌≡◌, ◌<◌, OnOk, Some, length, slice_get};
 ghost use Rattle.serde_json.specs.Written.{compact_text};
+ghost use Rattle.scene_json.specs.Texts.{Adds};
 ghost use Rattle.scene_kinds.specs.Cells.{shown};
 ghost use Rattle.scene_kinds.specs.declared.cells.Row.{Row};
 ghost use Rattle.scene_json_forms.specs.Text.{list_text};
@@ -21,7 +22,7 @@ pub(crate) fn write_kind(
     schema: &Schema,
     kind: u8,
 ) -> Result<(), AllocError>
-    ensures { OnOk result (string_bytes out.new ≡ string_bytes out.old ++ compact_text (kind_json schema.now kind)) }
+    ensures { OnOk result (Adds out.old out.new (compact_text (kind_json schema.now kind))) }
 {
     write_json_text(alloc, out, schema.name_of(kind).unwrap_or(""))
 }
@@ -34,7 +35,7 @@ fn write_named_cell(
     kind: u8,
     cell: CellRef<'_>,
 ) -> Result<(), AllocError>
-    ensures { OnOk result (string_bytes out.new ≡ string_bytes out.old ++ member_text (cell_member schema.now (kind, shown cell.entry))) }
+    ensures { OnOk result (Adds out.old out.new (member_text (cell_member schema.now (kind, shown cell.entry)))) }
 {
     write_kind(alloc, out, schema, kind)?;
     out.push_str(":")?;
@@ -51,7 +52,7 @@ fn write_cells(
 ) -> Result<(), AllocError>
     requires { at < length table.now.rows }
     ensures { OnOk result ((row : Row) → slice_get table.now.rows at ≡ Some row
-        → string_bytes out.new ≡ string_bytes out.old ++ compact_text (object_by (cell_member schema.now) row.cells)) }
+        → Adds out.old out.new (compact_text (object_by (cell_member schema.now) row.cells))) }
 {
     let mut later = false;
     out.push_str("{")?;
@@ -74,7 +75,7 @@ fn write_members(
 ) -> Result<(), AllocError>
     requires { at < length table.now.rows }
     ensures { OnOk result ((row : Row) → slice_get table.now.rows at ≡ Some row
-        → string_bytes out.new ≡ string_bytes out.old ++ row_text schema.now row) }
+        → Adds out.old out.new (row_text schema.now row)) }
 {
     out.push_str("\"entity\":")?;
     write_entity(out, table.entity_at(at))?;
@@ -93,7 +94,7 @@ pub fn write_json_row(
 ) -> Result<(), AllocError>
     requires { at < length table.now.rows }
     ensures { OnOk result ((row : Row) → slice_get table.now.rows at ≡ Some row
-        → string_bytes out.new ≡ string_bytes out.old ++ compact_text (row_answer schema.now row)) }
+        → Adds out.old out.new (compact_text (row_answer schema.now row))) }
 {
     out.push_str("{\"answer\":\"row\",")?;
     write_members(alloc, out, schema, table, at)?;
@@ -110,7 +111,7 @@ fn write_row_alone(
 ) -> Result<(), AllocError>
     requires { at < length table.now.rows }
     ensures { OnOk result ((row : Row) → slice_get table.now.rows at ≡ Some row
-        → string_bytes out.new ≡ string_bytes out.old ++ compact_text (row_json schema.now row)) }
+        → Adds out.old out.new (compact_text (row_json schema.now row))) }
 {
     out.push_str("{")?;
     write_members(alloc, out, schema, table, at)?;
@@ -124,7 +125,7 @@ pub(crate) fn write_rows(
     schema: &Schema,
     table: &Table,
 ) -> Result<(), AllocError>
-    ensures { OnOk result (string_bytes out.new ≡ string_bytes out.old ++ compact_text (list_text (row_json schema.now) table.now.rows)) }
+    ensures { OnOk result (Adds out.old out.new (compact_text (list_text (row_json schema.now) table.now.rows))) }
 {
     let mut later = false;
     out.push_str("[")?;
@@ -143,7 +144,7 @@ pub(crate) fn write_kinds(
     schema: &Schema,
     mask: KindSet,
 ) -> Result<(), AllocError>
-    ensures { OnOk result (string_bytes out.new ≡ string_bytes out.old ++ compact_text (kinds_json schema.now mask)) }
+    ensures { OnOk result (Adds out.old out.new (compact_text (kinds_json schema.now mask))) }
 {
     let mut later = false;
     out.push_str("[")?;

@@ -1,6 +1,7 @@
 //! A whole world as JSON.
-ghost use Rattle.std.specs.Prelude.{◌≡◌, ◌++◌, OnOk, string_bytes, map as each};
+ghost use Rattle.std.specs.Prelude.{OnOk, string_bytes, map as each};
 ghost use Rattle.serde_json.specs.Written.{compact_text};
+ghost use Rattle.scene_json.specs.Texts.{Adds};
 ghost use Rattle.scene_links.specs.Forest.{parents};
 ghost use Rattle.scene_model.specs.World.{kind_sets};
 ghost use Rattle.scene_table.specs.Tables.{rows_at};
@@ -27,8 +28,7 @@ fn write_rows_of(
     world: &World,
     mask: KindSet,
 ) -> Result<(), AllocError>
-    ensures { OnOk result (string_bytes out.new ≡ string_bytes out.old
-        ++ compact_text (list_text (row_json world.now.world.schema) (rows_at world.now.world.tables mask))) }
+    ensures { OnOk result (Adds out.old out.new (compact_text (list_text (row_json world.now.world.schema) (rows_at world.now.world.tables mask)))) }
 {
     match world.rows_of(mask) {
         Some(table) => write_rows(alloc, out, world.schema(), table),
@@ -43,7 +43,7 @@ fn write_table(
     world: &World,
     mask: KindSet,
 ) -> Result<(), AllocError>
-    ensures { OnOk result (string_bytes out.new ≡ string_bytes out.old ++ compact_text (table_of world.now.world mask)) }
+    ensures { OnOk result (Adds out.old out.new (compact_text (table_of world.now.world mask))) }
 {
     out.push_str("{\"kinds\":")?;
     write_kinds(alloc, out, world.schema(), mask)?;
@@ -59,7 +59,7 @@ fn write_tables(
     world: &World,
     masks: &[KindSet],
 ) -> Result<(), AllocError>
-    ensures { OnOk result (string_bytes out.new ≡ string_bytes out.old ++ compact_text (list_text (table_of world.now.world) masks.now)) }
+    ensures { OnOk result (Adds out.old out.new (compact_text (list_text (table_of world.now.world) masks.now))) }
 {
     let mut later = false;
     out.push_str("[")?;
@@ -73,8 +73,7 @@ fn write_tables(
 
 /// Adds the list of all tables, ascending by their kind sets.
 fn write_archetypes(alloc: Global, out: &mut String, world: &World) -> Result<(), AllocError>
-    ensures { OnOk result (string_bytes out.new ≡ string_bytes out.old
-        ++ compact_text (list_text (table_of world.now.world) (kind_sets world.now.world))) }
+    ensures { OnOk result (Adds out.old out.new (compact_text (list_text (table_of world.now.world) (kind_sets world.now.world)))) }
 {
     let masks = world.tables()?;
     write_tables(alloc, out, world, masks.as_slice())
@@ -82,7 +81,7 @@ fn write_archetypes(alloc: Global, out: &mut String, world: &World) -> Result<()
 
 /// Adds the children of an entity under its text.
 fn write_children(out: &mut String, links: &Links, parent: Entity) -> Result<(), AllocError>
-    ensures { OnOk result (string_bytes out.new ≡ string_bytes out.old ++ member_text (children_member links.now.forest parent)) }
+    ensures { OnOk result (Adds out.old out.new (member_text (children_member links.now.forest parent))) }
 {
     write_entity(out, parent)?;
     out.push_str(":")?;
@@ -91,8 +90,7 @@ fn write_children(out: &mut String, links: &Links, parent: Entity) -> Result<(),
 
 /// Adds the object of the children of parents.
 fn write_parents(out: &mut String, links: &Links, parents: &[Entity]) -> Result<(), AllocError>
-    ensures { OnOk result (string_bytes out.new ≡ string_bytes out.old
-        ++ compact_text (object_by (children_member links.now.forest) parents.now)) }
+    ensures { OnOk result (Adds out.old out.new (compact_text (object_by (children_member links.now.forest) parents.now))) }
 {
     let mut later = false;
     out.push_str("{")?;
@@ -106,8 +104,7 @@ fn write_parents(out: &mut String, links: &Links, parents: &[Entity]) -> Result<
 
 /// Adds the object of the children of all entities that have some, by the indices of the parents.
 fn write_links(out: &mut String, links: &Links) -> Result<(), AllocError>
-    ensures { OnOk result (string_bytes out.new ≡ string_bytes out.old
-        ++ compact_text (object_by (children_member links.now.forest) (parents links.now.forest))) }
+    ensures { OnOk result (Adds out.old out.new (compact_text (object_by (children_member links.now.forest) (parents links.now.forest)))) }
 {
     let parents = links.parents()?;
     write_parents(out, links, parents.as_slice())
@@ -120,7 +117,7 @@ fn write_resource(
     name: &str,
     cell: &Cell,
 ) -> Result<(), AllocError>
-    ensures { OnOk result (string_bytes out.new ≡ string_bytes out.old ++ member_text (resource_member (name.now, cell.now))) }
+    ensures { OnOk result (Adds out.old out.new (member_text (resource_member (name.now, cell.now)))) }
 {
     write_json_text(alloc, out, name)?;
     out.push_str(":")?;
@@ -134,8 +131,7 @@ fn write_named(
     resources: &Resources,
     names: &[String],
 ) -> Result<(), AllocError>
-    ensures { OnOk result (string_bytes out.new ≡ string_bytes out.old
-        ++ compact_text (object_by resource_member (named_cells resources.now.cells (each string_bytes names.now)))) }
+    ensures { OnOk result (Adds out.old out.new (compact_text (object_by resource_member (named_cells resources.now.cells (each string_bytes names.now))))) }
 {
     let mut later = false;
     out.push_str("{")?;
@@ -152,7 +148,7 @@ fn write_named(
 /// Adds the object of all resources, by the bytes of their names.
 #[tactic(auto, using(crate::proofs::JsonFound::named_whole))]
 fn write_resources(alloc: Global, out: &mut String, resources: &Resources) -> Result<(), AllocError>
-    ensures { OnOk result (string_bytes out.new ≡ string_bytes out.old ++ compact_text (object_by resource_member resources.now.cells.entries)) }
+    ensures { OnOk result (Adds out.old out.new (compact_text (object_by resource_member resources.now.cells.entries))) }
 {
     let names = resources.names()?;
     write_named(alloc, out, resources, names.as_slice())
@@ -160,7 +156,7 @@ fn write_resources(alloc: Global, out: &mut String, resources: &Resources) -> Re
 
 /// Adds the members of a world up to its free list.
 fn write_first_members(out: &mut String, world: &World) -> Result<(), AllocError>
-    ensures { OnOk result (string_bytes out.new ≡ string_bytes out.old ++ first_members world.now.world) }
+    ensures { OnOk result (Adds out.old out.new (first_members world.now.world)) }
 {
     write!(
         out,
@@ -174,7 +170,7 @@ fn write_first_members(out: &mut String, world: &World) -> Result<(), AllocError
 
 /// Adds its members from its tables on.
 fn write_last_members(alloc: Global, out: &mut String, world: &World) -> Result<(), AllocError>
-    ensures { OnOk result (string_bytes out.new ≡ string_bytes out.old ++ last_members world.now.world) }
+    ensures { OnOk result (Adds out.old out.new (last_members world.now.world)) }
 {
     out.push_str(",\"tables\":")?;
     write_archetypes(alloc, out, world)?;
@@ -188,7 +184,7 @@ fn write_last_members(alloc: Global, out: &mut String, world: &World) -> Result<
 /// ascending by kind set, its children by parent, and its resources by name. It costs a walk over the world, and a
 /// look for each kind set, parent and resource. An error only where no memory was found; a part may be added then.
 pub fn write_json_world(alloc: Global, out: &mut String, world: &World) -> Result<(), AllocError>
-    ensures { OnOk result (string_bytes out.new ≡ string_bytes out.old ++ compact_text (world_answer world.now.world)) }
+    ensures { OnOk result (Adds out.old out.new (compact_text (world_answer world.now.world))) }
 {
     write_first_members(out, world)?;
     write_last_members(alloc, out, world)?;

@@ -1,5 +1,6 @@
 //! The printed text of a list of cells.
-ghost use Rattle.std.specs.Prelude.{◌≡◌, ◌++◌, OnOk, string_bytes};
+ghost use Rattle.std.specs.Prelude.{OnOk};
+ghost use Rattle.scene_json.specs.Texts.{Adds};
 ghost use Rattle.scene_print.specs.Listed.{cell_names_text, listed_text};
 
 use scene_kinds::Schema;
@@ -8,7 +9,7 @@ use std::alloc::AllocError;
 
 /// Adds the names of cells, a line each.
 fn write_cell_names(out: &mut String, schema: &Schema, cells: &[CellName]) -> Result<(), AllocError>
-    ensures { OnOk result (string_bytes out.new ≡ string_bytes out.old ++ cell_names_text schema.now cells.now) }
+    ensures { OnOk result (Adds out.old out.new (cell_names_text schema.now cells.now)) }
 {
     'cells: for cell in cells {
         let kind = schema.name_of(cell.kind).unwrap_or("");
@@ -25,7 +26,7 @@ pub fn write_listed(
     schema: &Schema,
     cells: &[CellName],
 ) -> Result<(), AllocError>
-    ensures { OnOk result (string_bytes out.new ≡ string_bytes out.old ++ listed_text word.now schema.now cells.now) }
+    ensures { OnOk result (Adds out.old out.new (listed_text word.now schema.now cells.now)) }
 {
     write!(out, "{word} {}\n", cells.len())?;
     write_cell_names(out, schema, cells)

@@ -1,5 +1,6 @@
 //! The printed text of a whole world.
 ghost use Rattle.std.specs.Prelude.{◌≡◌, ◌++◌, ◌<◌, OnOk, IfOk, Some, length, map, slice_get, string_bytes, option_map};
+ghost use Rattle.scene_json.specs.Texts.{Adds};
 ghost use Rattle.scene_kinds.specs.declared.cells.Row.{Row};
 ghost use Rattle.scene_model.specs.World.{kind_sets};
 ghost use Rattle.scene_table.specs.Tables.{rows_at};
@@ -19,7 +20,7 @@ use std::alloc::{AllocError, Global};
 
 /// Adds numbers, each after a space.
 fn write_numbers(out: &mut String, numbers: &[u32]) -> Result<(), AllocError>
-    ensures { OnOk result (string_bytes out.new ≡ string_bytes out.old ++ numbers_text numbers.now) }
+    ensures { OnOk result (Adds out.old out.new (numbers_text numbers.now)) }
 {
     'numbers: for n in numbers {
         write!(out, " {n}")?;
@@ -68,7 +69,7 @@ fn names_of<'s>(
 
 /// Adds names, each after a comma.
 fn write_more_names(out: &mut String, names: &[&str]) -> Result<(), AllocError>
-    ensures { OnOk result (string_bytes out.new ≡ string_bytes out.old ++ more_names (map (λ n. n.now) names.now)) }
+    ensures { OnOk result (Adds out.old out.new (more_names (map (λ n. n.now) names.now))) }
 {
     'names: for name in names {
         out.push(',')?;
@@ -79,7 +80,7 @@ fn write_more_names(out: &mut String, names: &[&str]) -> Result<(), AllocError>
 
 /// Adds names with commas between them, or `-` where there are none.
 fn write_names(out: &mut String, names: &[&str]) -> Result<(), AllocError>
-    ensures { OnOk result (string_bytes out.new ≡ string_bytes out.old ++ names_text (map (λ n. n.now) names.now)) }
+    ensures { OnOk result (Adds out.old out.new (names_text (map (λ n. n.now) names.now))) }
 {
     match names {
         [] => out.push_str("-"),
@@ -100,7 +101,7 @@ fn write_row_cells(
 ) -> Result<(), AllocError>
     requires { at < length table.now.rows }
     ensures { OnOk result ((row : Row) → slice_get table.now.rows at ≡ Some row
-        → string_bytes out.new ≡ string_bytes out.old ++ cells_text schema.now row.cells) }
+        → Adds out.old out.new (cells_text schema.now row.cells)) }
 {
     'cells: for number in 0..table.cell_count(at) {
         let (kind, cell) = table.nth_cell(at, number);
@@ -120,7 +121,7 @@ pub fn write_row(
 ) -> Result<(), AllocError>
     requires { at < length table.now.rows }
     ensures { OnOk result ((row : Row) → slice_get table.now.rows at ≡ Some row
-        → string_bytes out.new ≡ string_bytes out.old ++ row_text schema.now row) }
+        → Adds out.old out.new (row_text schema.now row)) }
 {
     write_row_head(out, table.entity_at(at))?;
     write_row_cells(alloc, out, schema, table, at)
@@ -133,7 +134,7 @@ fn write_rows(
     schema: &Schema,
     table: &Table,
 ) -> Result<(), AllocError>
-    ensures { OnOk result (string_bytes out.new ≡ string_bytes out.old ++ rows_text schema.now table.now.rows) }
+    ensures { OnOk result (Adds out.old out.new (rows_text schema.now table.now.rows)) }
 {
     'rows: for at in 0..table.len() {
         write_row(alloc, out, schema, table, at)?;
@@ -149,7 +150,7 @@ fn write_rows_of(
     world: &World,
     mask: KindSet,
 ) -> Result<(), AllocError>
-    ensures { OnOk result (string_bytes out.new ≡ string_bytes out.old ++ rows_text world.now.world.schema (rows_at world.now.world.tables mask)) }
+    ensures { OnOk result (Adds out.old out.new (rows_text world.now.world.schema (rows_at world.now.world.tables mask))) }
 {
     match world.rows_of(mask) {
         Some(table) => write_rows(alloc, out, world.schema(), table),
@@ -164,8 +165,8 @@ fn write_table(
     world: &World,
     mask: KindSet,
 ) -> Result<(), AllocError>
-    ensures { OnOk result (string_bytes out.new ≡ string_bytes out.old ++ table_text world.now.world.schema mask
-        (rows_at world.now.world.tables mask)) }
+    ensures { OnOk result (Adds out.old out.new (table_text world.now.world.schema mask
+        (rows_at world.now.world.tables mask))) }
 {
     let names = names_of(alloc, world.schema(), mask)?;
     out.push_str("table ")?;
@@ -181,7 +182,7 @@ fn write_tables(
     world: &World,
     masks: &[KindSet],
 ) -> Result<(), AllocError>
-    ensures { OnOk result (string_bytes out.new ≡ string_bytes out.old ++ tables_text world.now.world masks.now) }
+    ensures { OnOk result (Adds out.old out.new (tables_text world.now.world masks.now)) }
 {
     'masks: for mask in masks {
         write_table(alloc, out, world, *mask)?;
@@ -191,7 +192,7 @@ fn write_tables(
 
 /// Adds entities, each after a space. An error only where no memory was found; some may be added then.
 pub fn write_entities(out: &mut String, entities: &[Entity]) -> Result<(), AllocError>
-    ensures { OnOk result (string_bytes out.new ≡ string_bytes out.old ++ entities_text entities.now) }
+    ensures { OnOk result (Adds out.old out.new (entities_text entities.now)) }
 {
     'entities: for entity in entities {
         write!(out, " {entity}")?;
@@ -201,7 +202,7 @@ pub fn write_entities(out: &mut String, entities: &[Entity]) -> Result<(), Alloc
 
 /// Adds a parent and its children.
 fn write_link(out: &mut String, links: &Links, parent: Entity) -> Result<(), AllocError>
-    ensures { OnOk result (string_bytes out.new ≡ string_bytes out.old ++ link_text links.now.forest parent) }
+    ensures { OnOk result (Adds out.old out.new (link_text links.now.forest parent)) }
 {
     write!(out, "link {parent}")?;
     write_entities(out, links.children_of(parent))?;
@@ -210,7 +211,7 @@ fn write_link(out: &mut String, links: &Links, parent: Entity) -> Result<(), All
 
 /// Adds the links of parents, a line each.
 fn write_links(out: &mut String, links: &Links, parents: &[Entity]) -> Result<(), AllocError>
-    ensures { OnOk result (string_bytes out.new ≡ string_bytes out.old ++ links_text links.now.forest parents.now) }
+    ensures { OnOk result (Adds out.old out.new (links_text links.now.forest parents.now)) }
 {
     'parents: for parent in parents {
         write_link(out, links, *parent)?;
@@ -220,7 +221,7 @@ fn write_links(out: &mut String, links: &Links, parents: &[Entity]) -> Result<()
 
 /// Adds the tick, the generations by index and the free list.
 fn write_head(out: &mut String, world: &World) -> Result<(), AllocError>
-    ensures { OnOk result (string_bytes out.new ≡ string_bytes out.old ++ head_text world.now.world) }
+    ensures { OnOk result (Adds out.old out.new (head_text world.now.world)) }
 {
     write!(out, "tick {}\ngens", world.tick())?;
     write_numbers(out, world.slots().generations())?;
@@ -231,7 +232,7 @@ fn write_head(out: &mut String, world: &World) -> Result<(), AllocError>
 
 /// Adds all tables, ascending by their kind sets.
 fn write_archetypes(alloc: Global, out: &mut String, world: &World) -> Result<(), AllocError>
-    ensures { OnOk result (string_bytes out.new ≡ string_bytes out.old ++ tables_text world.now.world (kind_sets world.now.world)) }
+    ensures { OnOk result (Adds out.old out.new (tables_text world.now.world (kind_sets world.now.world))) }
 {
     let masks = world.tables()?;
     write_tables(alloc, out, world, masks.as_slice())
@@ -239,7 +240,7 @@ fn write_archetypes(alloc: Global, out: &mut String, world: &World) -> Result<()
 
 /// Adds all links, by the indices of the parents.
 fn write_forest(out: &mut String, links: &Links) -> Result<(), AllocError>
-    ensures { OnOk result (string_bytes out.new ≡ string_bytes out.old ++ links_text links.now.forest (parents links.now.forest)) }
+    ensures { OnOk result (Adds out.old out.new (links_text links.now.forest (parents links.now.forest))) }
 {
     let parents = links.parents()?;
     write_links(out, links, parents.as_slice())
@@ -252,7 +253,7 @@ fn write_resource(
     name: &str,
     cell: &Cell,
 ) -> Result<(), AllocError>
-    ensures { OnOk result (string_bytes out.new ≡ string_bytes out.old ++ resource_text name.now cell.now) }
+    ensures { OnOk result (Adds out.old out.new (resource_text name.now cell.now)) }
 {
     write!(out, "resource {name} ")?;
     write_cell(alloc, out, cell.value.shape().name(), cell)?;
@@ -266,7 +267,7 @@ fn write_named(
     resources: &Resources,
     name: &str,
 ) -> Result<(), AllocError>
-    ensures { OnOk result (string_bytes out.new ≡ string_bytes out.old ++ one_resource name.now (cell_of resources.now.cells name.now)) }
+    ensures { OnOk result (Adds out.old out.new (one_resource name.now (cell_of resources.now.cells name.now))) }
 {
     match resources.get(name) {
         None => Ok(()),
@@ -281,7 +282,7 @@ fn write_each_named(
     resources: &Resources,
     names: &[String],
 ) -> Result<(), AllocError>
-    ensures { OnOk result (string_bytes out.new ≡ string_bytes out.old ++ named_text resources.now.cells (map string_bytes names.now)) }
+    ensures { OnOk result (Adds out.old out.new (named_text resources.now.cells (map string_bytes names.now))) }
 {
     'names: for name in names {
         write_named(alloc, out, resources, name.as_str())?;
@@ -292,7 +293,7 @@ fn write_each_named(
 /// Adds all resources, by the bytes of their names.
 #[tactic(auto, using(crate::proofs::ResourceLaws::named_whole))]
 fn write_resources(alloc: Global, out: &mut String, resources: &Resources) -> Result<(), AllocError>
-    ensures { OnOk result (string_bytes out.new ≡ string_bytes out.old ++ resources_text resources.now.cells.entries) }
+    ensures { OnOk result (Adds out.old out.new (resources_text resources.now.cells.entries)) }
 {
     let names = resources.names()?;
     write_each_named(alloc, out, resources, names.as_slice())
@@ -303,7 +304,7 @@ fn write_resources(alloc: Global, out: &mut String, resources: &Resources) -> Re
 /// name. It costs a walk over the world, and a look for each name. An error only where no memory was found; a part may
 /// be added then.
 pub fn write_show(alloc: Global, out: &mut String, world: &World) -> Result<(), AllocError>
-    ensures { OnOk result (string_bytes out.new ≡ string_bytes out.old ++ show_text world.now.world) }
+    ensures { OnOk result (Adds out.old out.new (show_text world.now.world)) }
 {
     write_head(out, world)?;
     write_archetypes(alloc, out, world)?;

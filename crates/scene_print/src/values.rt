@@ -1,5 +1,6 @@
 //! The printed texts of values, cells, rows and refusals.
-ghost use Rattle.std.specs.Prelude.{◌≡◌, ◌++◌, OnOk, string_bytes};
+ghost use Rattle.std.specs.Prelude.{OnOk};
+ghost use Rattle.scene_json.specs.Texts.{Adds};
 ghost use Rattle.scene_kinds.specs.Cells.{shown};
 ghost use Rattle.scene_print.specs.Printed.{vec3_text, value_text, assigned_text, cell_text, row_head, row_cell_text, refusal_line};
 
@@ -9,7 +10,7 @@ use std::alloc::{AllocError, Global};
 
 /// Adds three whole numbers with commas between them.
 fn write_vec3(out: &mut String, v: &[i64; 3]) -> Result<(), AllocError>
-    ensures { OnOk result (string_bytes out.new ≡ string_bytes out.old ++ vec3_text v.now) }
+    ensures { OnOk result (Adds out.old out.new (vec3_text v.now)) }
 {
     let [x, y, z] = *v;
     write!(out, "{x},{y},{z}")?;
@@ -19,7 +20,7 @@ fn write_vec3(out: &mut String, v: &[i64; 3]) -> Result<(), AllocError>
 /// Adds a value (docs/SCRIPTS.md, "Output"): whole numbers in decimal, the three of a `Vec3` with commas
 /// between them, a text as a JSON string, a link as an entity text. A tag has no value, and adds nothing.
 pub fn write_value(alloc: Global, out: &mut String, value: &Value) -> Result<(), AllocError>
-    ensures { OnOk result (string_bytes out.new ≡ string_bytes out.old ++ value_text value.now) }
+    ensures { OnOk result (Adds out.old out.new (value_text value.now)) }
 {
     match value {
         Value::Tag => Ok(()),
@@ -32,7 +33,7 @@ pub fn write_value(alloc: Global, out: &mut String, value: &Value) -> Result<(),
 
 /// Adds what stands behind a name: nothing for a tag, else `=` and the value.
 fn write_assigned(alloc: Global, out: &mut String, value: &Value) -> Result<(), AllocError>
-    ensures { OnOk result (string_bytes out.new ≡ string_bytes out.old ++ assigned_text value.now) }
+    ensures { OnOk result (Adds out.old out.new (assigned_text value.now)) }
 {
     if let Value::Tag = value {
         return Ok(());
@@ -48,7 +49,7 @@ fn write_lent_cell(
     name: &str,
     cell: CellRef<'_>,
 ) -> Result<(), AllocError>
-    ensures { OnOk result (string_bytes out.new ≡ string_bytes out.old ++ cell_text name.now (shown cell.entry)) }
+    ensures { OnOk result (Adds out.old out.new (cell_text name.now (shown cell.entry))) }
 {
     out.push_str(name)?;
     write_assigned(alloc, out, cell.value)?;
@@ -64,7 +65,7 @@ pub fn write_cell(
     name: &str,
     cell: &Cell,
 ) -> Result<(), AllocError>
-    ensures { OnOk result (string_bytes out.new ≡ string_bytes out.old ++ cell_text name.now cell.now) }
+    ensures { OnOk result (Adds out.old out.new (cell_text name.now cell.now)) }
 {
     let lent = CellRef {
         value: &cell.value,
@@ -77,7 +78,7 @@ pub fn write_cell(
 /// Adds what a row begins with: `row ENTITY` (docs/SCRIPTS.md, "Output"). Its cells follow, each by
 /// `write_row_cell`.
 pub fn write_row_head(out: &mut String, entity: Entity) -> Result<(), AllocError>
-    ensures { OnOk result (string_bytes out.new ≡ string_bytes out.old ++ row_head entity) }
+    ensures { OnOk result (Adds out.old out.new (row_head entity)) }
 {
     write!(out, "row {entity}")?;
     Ok(())
@@ -92,7 +93,7 @@ pub fn write_row_cell(
     kind: u8,
     cell: CellRef<'_>,
 ) -> Result<(), AllocError>
-    ensures { OnOk result (string_bytes out.new ≡ string_bytes out.old ++ row_cell_text schema.now kind (shown cell.entry)) }
+    ensures { OnOk result (Adds out.old out.new (row_cell_text schema.now kind (shown cell.entry))) }
 {
     out.push(' ')?;
     let name = schema.name_of(kind).unwrap_or("");
@@ -102,7 +103,7 @@ pub fn write_row_cell(
 /// Adds a refusal: the fault by number and name with its fields, and ` at PHASE.QUEUE.COMMAND` where it has a place
 /// (docs/SCRIPTS.md, "Output").
 pub fn write_refusal(out: &mut String, refusal: Refusal) -> Result<(), AllocError>
-    ensures { OnOk result (string_bytes out.new ≡ string_bytes out.old ++ refusal_line refusal) }
+    ensures { OnOk result (Adds out.old out.new (refusal_line refusal)) }
 {
     match refusal.place {
         Some(
