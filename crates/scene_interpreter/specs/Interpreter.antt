@@ -48,7 +48,7 @@ interpreter_kinds (Playing s) = s.schema
 -- the hand that the lines so far leave
 abbrev pub owner_of : Interpreter → OwnerState
 owner_of (Setting s) = first_owner s
-owner_of (Playing s) = s.hand
+owner_of (Playing s) = s.owner
 
 -- the systems that the lines so far have given, phase by phase; in the setup there are none
 abbrev pub systems_of : Interpreter → List (List SystemRule)
@@ -63,7 +63,7 @@ without_frame (Playing s) = Playing (with_frame s None)
 -- there is no editor that can be lent: the setup isn't over, or a lock is over the editor
 abbrev pub HasNoEditor : Interpreter → Type 0
 HasNoEditor (Setting s) = ⊤
-HasNoEditor (Playing s) = s.hand.is_alone ≡ false
+HasNoEditor (Playing s) = s.owner.is_alone ≡ false
 
 -- what a line is answered with, the text of it, why the line is bad where it is, and the interpreter after it
 pub record LineReply : Type 0 where

@@ -39,15 +39,15 @@ use Rattle.scene_print.specs.Shown.{show_text}
 
 -- the hand at first, the kinds, the cursor from before the first mark, no frame and no phases
 abbrev pub opening_state : OwnerState → Kinds → PlayState
-opening_state h kinds = record { hand = h; schema = kinds; cursor = record { rewinds = 0; tick = 0 }; frame = None; phases = [] }
+opening_state h kinds = record { owner = h; schema = kinds; cursor = record { rewinds = 0; tick = 0 }; frame = None; phases = [] }
 
 -- the state with another hand
 abbrev pub with_owner : PlayState → OwnerState → PlayState
-with_owner s h = record s { hand = h }
+with_owner s h = record s { owner = h }
 
 -- the world now
 abbrev pub now : PlayState → World
-now s = (machine_at s.hand).now
+now s = (machine_at s.owner).now
 
 -- the state with another cursor
 abbrev pub with_cursor : PlayState → Cursor → PlayState
@@ -83,11 +83,11 @@ since_said list cells (Err r) = refused r
 
 -- what `changed` lists
 abbrev pub changed_said : PlayState → Said
-changed_said s = since_said ChangedCells (changed_since (now s) no_filter) (since s.cursor (machine_at s.hand))
+changed_said s = since_said ChangedCells (changed_since (now s) no_filter) (since s.cursor (machine_at s.owner))
 
 -- what `added` lists
 abbrev pub added_said : PlayState → Said
-added_said s = since_said AddedCells (added_since (now s) no_filter) (since s.cursor (machine_at s.hand))
+added_said s = since_said AddedCells (added_since (now s) no_filter) (since s.cursor (machine_at s.owner))
 
 -- a scene text as it is written, with its newline, or the fault of its save
 abbrev pub saved_said : Result (List ℕ) FileFault → Said
@@ -113,7 +113,7 @@ answer_reply s p = record { said = Called p.1; state = with_owner s p.0 }
 
 -- the reply to a call of the session whose turn it is
 abbrev pub call_reply : PlayState → Asked → Reply
-call_reply s a = answer_reply s (performed s.hand a)
+call_reply s a = answer_reply s (performed s.owner a)
 
 -- the reply to a bad line, which changes nothing
 abbrev pub bad_reply : PlayState → BadLine → Reply
@@ -152,17 +152,17 @@ lone_reply s Undo = call_reply s UndoCall
 lone_reply s Redo = call_reply s RedoCall
 lone_reply s Show = query_reply s (Text (show_text (now s)))
 lone_reply s (Get e) = query_reply s (get_said (now s) e)
-lone_reply s Mark = query_reply (with_cursor s (cursor_of (machine_at s.hand))) (Marked (cursor_of (machine_at s.hand)))
+lone_reply s Mark = query_reply (with_cursor s (cursor_of (machine_at s.owner))) (Marked (cursor_of (machine_at s.owner)))
 lone_reply s Changed = query_reply s (changed_said s)
 lone_reply s Added = query_reply s (added_said s)
 lone_reply s Phase = query_reply (with_phases s (with_phase s.phases)) Taken
 lone_reply s (System rule) = query_reply (with_phases s (with_system s.phases rule)) Taken
 lone_reply s Clear = query_reply (with_phases s []) Taken
 lone_reply s Advance = advance_reply s
-lone_reply s (As n) = query_reply (with_owner s (with_session s.hand n)) Taken
-lone_reply s History = query_reply s (Counted (length s.hand.history))
+lone_reply s (As n) = query_reply (with_owner s (with_session s.owner n)) Taken
+lone_reply s History = query_reply s (Counted (length s.owner.history))
 lone_reply s Dump = query_reply s (dump_said (now s))
-lone_reply s DumpAll = query_reply s (dumpall_said (whole_at s.hand))
+lone_reply s DumpAll = query_reply s (dumpall_said (whole_at s.owner))
 
 -- the reply to a command in a frame: it is queued, or else refused and the frame is as it was
 abbrev pub queued_reply : PlayState → Opened → Outcome (Unit {0}) Opened → Reply

@@ -92,15 +92,15 @@ fn leave(stage: Stage) {
 
 /// The sessions of a state, of which all else is dropped.
 fn owner_of_state(state: PlayState) -> SessionOwner
-    ensures { result ≡ state.hand }
+    ensures { result ≡ state.owner }
 {
-    let PlayState { hand, .. } = state;
-    hand
+    let PlayState { owner, .. } = state;
+    owner
 }
 
 /// The sessions in which a setup ends, of which all else is dropped.
 fn owner_of_setup(alloc: Global, setup: Setup) -> Result<SessionOwner, AllocError>
-    ensures { IfOk result (λ hand. hand ≡ first_owner (setup_of setup)) }
+    ensures { IfOk result (λ owner. owner ≡ first_owner (setup_of setup)) }
 {
     let mut setup = setup;
     setup.take_owner(alloc)
@@ -180,7 +180,7 @@ impl Interpreter {
     {
         match &self.stage {
             Stage::Setting(_) => 0,
-            Stage::Playing(state) => state.hand.session(),
+            Stage::Playing(state) => state.owner.session(),
         }
     }
 
@@ -190,7 +190,7 @@ impl Interpreter {
     {
         match &self.stage {
             Stage::Setting(setup) => setup.calls.limit(),
-            Stage::Playing(state) => state.hand.limit(),
+            Stage::Playing(state) => state.owner.limit(),
         }
     }
 
@@ -348,7 +348,7 @@ impl Interpreter {
     {
         match &self.stage {
             Stage::Setting(_) => None,
-            Stage::Playing(state) => state.hand.editor(),
+            Stage::Playing(state) => state.owner.editor(),
         }
     }
 
@@ -363,7 +363,7 @@ impl Interpreter {
     ///
     /// `AllocError` where no memory was found, which only an interpreter in its setup needs.
     pub fn into_owner(self) -> Result<SessionOwner, AllocError>
-        ensures { IfOk result (λ hand. hand ≡ owner_of (interpreter_of self)) }
+        ensures { IfOk result (λ owner. owner ≡ owner_of (interpreter_of self)) }
     {
         let Interpreter { alloc, stage, .. } = self;
         match stage {

@@ -38,10 +38,10 @@ fn ask_state<P: Performer>(
     state: &mut PlayState,
     asked: StateJson,
 ) -> Result<String, AllocError>
-    ensures text { IfOk result (λ text. string_bytes text ≡ json_line (asked_json asked (whole_at state.old.hand))) }
+    ensures text { IfOk result (λ text. string_bytes text ≡ json_line (asked_json asked (whole_at state.old.owner))) }
     ensures same { state.new ≡ state.old }
 {
-    match performer.ask(alloc, &mut state.hand, &asked) {
+    match performer.ask(alloc, &mut state.owner, &asked) {
         Some(text) => text,
         None => Err(AllocError),
     }
@@ -57,7 +57,7 @@ fn begin_asked<P: Performer>(
 ) -> Result<(PlayState, Result<String, AllocError>), Halt>
     ensures begun { IfOk result (λ p. p.0 ≡ first_state (setup_of setup.old)) }
     ensures text { IfOk result (λ p. IfOk p.1 (λ text. string_bytes text
-        ≡ json_line (asked_json asked (whole_at (first_state (setup_of setup.old)).hand)))) }
+        ≡ json_line (asked_json asked (whole_at (first_state (setup_of setup.old)).owner)))) }
     ensures halted { IfErr result (λ h. HaltsSetup h (setup_of setup.old) (setup_of setup.new)) }
 {
     let mut state = setup.begin(alloc)?;
