@@ -11,8 +11,8 @@ use Rattle.scene_interpreter.specs.declared.halt.Halt.{Halt}
 use Rattle.scene_interpreter.specs.declared.halt.Halt.TheVariants.{Before, Begun, After, Lost}
 use Rattle.scene_interpreter.specs.declared.play_state.PlayState.{PlayState}
 use Rattle.scene_interpreter.specs.declared.interpreter.Interpreter.{Interpreter as Code}
-use Rattle.scene_interpreter.specs.declared.interpreter.Stage.{Stage}
-use Rattle.scene_interpreter.specs.declared.interpreter.Stage.TheVariants as code
+use Rattle.scene_interpreter.specs.declared.interpreter.Mode.{Mode}
+use Rattle.scene_interpreter.specs.declared.interpreter.Mode.TheVariants as code
 use Rattle.scene_interpreter.specs.Answer.{said_of}
 use Rattle.scene_interpreter.specs.Play.{Reply, SetupReply, SetupState, first_owner, first_setup, first_state, said_reply, setup_kinds, setup_said, with_frame}
 use Rattle.scene_interpreter.specs.Said.{Said, bad_in, said_text}
@@ -23,14 +23,14 @@ pub data Interpreter : Type 0 where
   Setting : SetupState → Interpreter
   Playing : PlayState → Interpreter
 
--- the stage of the code, and the interpreter
-abbrev pub stage_of : Stage → Interpreter
-stage_of (code.Setting s) = Setting (setup_of s)
-stage_of (code.Playing s) = Playing s
+-- the mode of the code, and the interpreter
+abbrev pub mode_of : Mode → Interpreter
+mode_of (code.Setting s) = Setting (setup_of s)
+mode_of (code.Playing s) = Playing s
 
 -- an interpreter, as contracts see it
 abbrev pub interpreter_of : Code → Interpreter
-interpreter_of p = stage_of p.stage
+interpreter_of p = mode_of p.mode
 
 -- the interpreter before the first line, with a lock
 abbrev pub first_interpreter : Interpreter

@@ -10,7 +10,7 @@ ghost use Rattle.scene_interpreter.specs.Interpreter.{HaltsSetup, Interpreter as
 ghost use Rattle.scene_interpreter.specs.Setup.{setup_of};
 
 use crate::halt::Halt;
-use crate::interpreter::{Interpreter, Stage, said_in};
+use crate::interpreter::{Interpreter, Mode, said_in};
 use crate::json_question::StateJson;
 use crate::play_state::PlayState;
 use crate::setup::Setup;
@@ -83,12 +83,12 @@ impl Interpreter {
         ensures begun { IfOk result (λ _. interpreter_of self.new ≡ begun (interpreter_of self.old)) }
         ensures halted { IfErr result (λ h. (next : State) → interpreter_of self.new ≡ halted h (interpreter_of self.old) next) }
     {
-        match &mut self.stage {
-            Stage::Playing(state) => match ask_state(performer, self.alloc, state, asked) {
+        match &mut self.mode {
+            Mode::Playing(state) => match ask_state(performer, self.alloc, state, asked) {
                 Ok(text) => Ok(text),
                 Err(AllocError) => Err(Halt::Before),
             },
-            Stage::Setting(setup) => match begin_asked(performer, self.alloc, setup, asked) {
+            Mode::Setting(setup) => match begin_asked(performer, self.alloc, setup, asked) {
                 Err(halt) => Err(halt),
                 Ok((state, answered)) => {
                     self.go_to(state);
