@@ -21,14 +21,14 @@ use Rattle.scene_undo.specs.Editor.{EditorState}
 use Rattle.scene_interpreter.specs.declared.play_state.PlayState.{PlayState}
 use Rattle.scene_interpreter.specs.LockAlike.{AnswersAlike, alone_as, owner_alone, setup_alone, state_alone}
 use Rattle.scene_interpreter.specs.OpenFrame.{Opened, alone, queues_of, with_command}
-use Rattle.scene_interpreter.specs.Play.{Base, Declared, Loaded, Reply, SetupReply, SetupState, advance_by, advance_reply, answer_reply, call_reply, declared_reply, first_state, frame_reply, kind_reply, load_reply, lone_reply, queued_reply, reply_within, said_reply, setup_kinds, setup_said, slots_reply, with_frame}
+use Rattle.scene_interpreter.specs.Play.{Base, Declared, Loaded, StateReply, SetupReply, SetupState, advance_by, advance_reply, answer_reply, call_reply, declared_reply, first_state, frame_reply, kind_reply, load_reply, lone_reply, queued_reply, reply_within, said_reply, setup_kinds, setup_said, slots_reply, with_frame}
 use Rattle.scene_interpreter.specs.Interpreter.{Interpreter, LineReply, Setting, Playing, owner_of, played, interpreter_reply, interpreter_said, set_or_begun}
 use Rattle.scene_interpreter.specs.Said.{bad_in, said_text}
 
 -- ---- behind the setup
 
 -- two replies of the same meaning, whose states are alike
-abbrev Alike : Reply → Reply → Type 0
+abbrev Alike : StateReply → StateReply → Type 0
 Alike r a = (a.said ≡ r.said) × (a.state ≡ state_alone r.state)
 
 -- a call, by whether there is room for it
@@ -110,7 +110,7 @@ setup_alike s (Ok line) = refl
 abbrev BothAlike : LineReply → LineReply → Type 0
 BothAlike r a = (a.said ≡ r.said) × (a.text ≡ r.text) × (a.bad ≡ r.bad) × (a.interpreter ≡ alone_as r.interpreter)
 
-played_alike : (r a : Reply) → Alike r a → BothAlike (played r) (played a)
+played_alike : (r a : StateReply) → Alike r a → BothAlike (played r) (played a)
 played_alike r a h = (
   h.0,
   ap (λ (s : PlayState). said_text s.schema a.said) h.1 ∙ ap (said_text r.state.schema) h.0,

@@ -14,7 +14,7 @@ use Rattle.scene_interpreter.specs.declared.interpreter.Interpreter.{Interpreter
 use Rattle.scene_interpreter.specs.declared.interpreter.Mode.{Mode}
 use Rattle.scene_interpreter.specs.declared.interpreter.Mode.TheVariants as code
 use Rattle.scene_interpreter.specs.Answer.{said_of}
-use Rattle.scene_interpreter.specs.Play.{Reply, SetupReply, SetupState, first_owner, first_setup, first_state, said_reply, setup_kinds, setup_said, with_frame}
+use Rattle.scene_interpreter.specs.Play.{StateReply, SetupReply, SetupState, first_owner, first_setup, first_state, said_reply, setup_kinds, setup_said, with_frame}
 use Rattle.scene_interpreter.specs.Said.{Said, bad_in, said_text}
 use Rattle.scene_interpreter.specs.Setup.{setup_of, without_base}
 
@@ -77,7 +77,7 @@ abbrev pub reply_of : Kinds → Said → Interpreter → LineReply
 reply_of kinds said interpreter = record { said = said; text = said_text kinds said; bad = bad_in said; interpreter = interpreter }
 
 -- the reply to a line after the setup
-abbrev pub played : Reply → LineReply
+abbrev pub played : StateReply → LineReply
 played r = reply_of r.state.schema r.said (Playing r.state)
 
 -- the reply of the setup, or else of what follows it, which the line begins
