@@ -12,7 +12,7 @@ pub line_played : (before after : Interpreter) (number : ℕ) (line : List ℕ) 
     → LinePlayed old new r s after number (interpreter_reply before line)
     → (new ++ (printed_from (number + 1) after others).text ≡ old ++ (printed_from number before (line ∷ others)).text)
     × (noted s (printed_from (number + 1) after others).bad ≡ noted r (printed_from number before (line ∷ others)).bad)
-    × ((printed_from (number + 1) after others).hand ≡ (printed_from number before (line ∷ others)).hand)
+    × ((printed_from (number + 1) after others).owner ≡ (printed_from number before (line ∷ others)).owner)
 line_played before after number line others old new r s h =
     let reply = interpreter_reply before line in
     let rest : Interpreter → Printed = λ p. printed_from (number + 1) p others in
@@ -20,5 +20,5 @@ line_played before after number line others old new r s h =
     let bad : (rest after).bad ≡ (rest reply.interpreter).bad = ap (λ p. (rest p).bad) h.2 in (
       cc (append_assoc old reply.text (rest reply.interpreter).text, h.0, text),
       cc (noted-append r (reports_at number reply.bad) (rest reply.interpreter).bad, h.1, bad),
-      ap (λ p. (rest p).hand) h.2,
+      ap (λ p. (rest p).owner) h.2,
     )

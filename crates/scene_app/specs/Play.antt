@@ -10,7 +10,7 @@ use Rattle.scene_app.specs.declared.report.BadLineReport.{BadLineReport}
 pub record Printed : Type 0 where
   pub text : List ℕ
   pub bad : List BadLineReport
-  pub hand : OwnerState
+  pub owner : OwnerState
 
 -- the report of a line of this number, where it is bad
 abbrev pub reports_at : ℕ → Option BadLine → List BadLineReport
@@ -22,12 +22,12 @@ abbrev pub then_rest : ℕ → LineReply → (Interpreter → Printed) → Print
 then_rest number r rest = record {
   text = r.text ++ (rest r.interpreter).text;
   bad = reports_at number r.bad ++ (rest r.interpreter).bad;
-  hand = (rest r.interpreter).hand;
+  owner = (rest r.interpreter).owner;
 }
 
 -- the lines one after another, the first of this number
 abbrev pub printed_from : ℕ → Interpreter → List (List ℕ) → Printed
-printed_from number p [] = record { text = []; bad = []; hand = owner_of p }
+printed_from number p [] = record { text = []; bad = []; owner = owner_of p }
 printed_from number p (l ∷ ls) = then_rest number (interpreter_reply p l) (λ q. printed_from (number + 1) q ls)
 
 -- all of a script, from its first line
@@ -44,4 +44,4 @@ bad_lines script = (printed script).bad
 
 -- the owner that it leaves: the calls of all its sessions, with their answers
 abbrev pub owner_after : List ℕ → OwnerState
-owner_after script = (printed script).hand
+owner_after script = (printed script).owner

@@ -46,7 +46,7 @@ fn play_lines<P: Performer>(
     requires room { length script.now ≤ most_bytes }
     ensures text { OnOk result (Adds out.old out.new ((printed_from 1 (interpreter_of interpreter.old) (lines script.now)).text)) }
     ensures bad { OnOk result (reports.new ≡ noted no_bad_lines (printed_from 1 (interpreter_of interpreter.old) (lines script.now)).bad) }
-    ensures hand { OnOk result (owner_of (interpreter_of interpreter.new) ≡ (printed_from 1 (interpreter_of interpreter.old) (lines script.now)).hand) }
+    ensures owner { OnOk result (owner_of (interpreter_of interpreter.new) ≡ (printed_from 1 (interpreter_of interpreter.old) (lines script.now)).owner) }
     ensures few { OnOk result (reports.new.count ≤ length script.now) }
 {
     let mut rest = script;
@@ -73,7 +73,7 @@ pub(crate) fn play_script<P: Performer>(
     requires { length script.now ≤ most_bytes }
     ensures text { IfOk result (λ p. Adds out.old out.new ((printed script.now).text)) }
     ensures bad { IfOk result (λ p. p.1 ≡ noted no_bad_lines (printed script.now).bad) }
-    ensures hand { IfOk result (λ p. p.0 ≡ (printed script.now).hand) }
+    ensures owner { IfOk result (λ p. p.0 ≡ (printed script.now).owner) }
     ensures few { IfOk result (λ p. p.1.count ≤ length script.now) }
 {
     let mut reports = Reports::new(alloc);

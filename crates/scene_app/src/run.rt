@@ -49,9 +49,9 @@ fn played<P: Performer>(
     ensures memory { IfErr result (λ f. f ≡ NoMemory) }
 {
     let mut out = String::new(alloc);
-    let (hand, reports) = play_script(performer, alloc, script, &mut out)?;
+    let (owner, reports) = play_script(performer, alloc, script, &mut out)?;
     // The owner of a script has a lock.
-    let Some((lock, passes)) = hand.into_parts() else {
+    let Some((lock, passes)) = owner.into_parts() else {
         unreachable!()
     };
     let end = RunEnd {
@@ -86,7 +86,7 @@ pub fn run_script<T: Threads + Wait + Sync, R: Read, W: Write>(
     ensures reports { IfOk result (λ end. IfSome (R.remaining (reader_of source.old)) (λ script. end.reports.items ≡ take 10 (bad_lines script))) }
     ensures passes { IfOk result (λ end. IfSome (R.remaining (reader_of source.old))
         (λ script. AreOf end.lock end.passes.items (owner_after script))) }
-    ensures eight { IfOk result (λ end. (hand : OwnerState) × AreOf end.lock end.passes.items hand) }
+    ensures eight { IfOk result (λ end. (owner : OwnerState) × AreOf end.lock end.passes.items owner) }
     ensures within { OnOk result (IfSome (R.remaining (reader_of source.old)) (λ script. length script ≤ most_bytes)) }
     ensures end { OnOk result (IsAtEnd (R.remaining (reader_of source.new))) }
     ensures prefix { OnErr result (IfSome (R.remaining (reader_of source.old))

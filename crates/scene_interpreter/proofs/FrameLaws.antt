@@ -27,4 +27,4 @@ frame_taken s f line = refl
 
 -- and where it is put back, the state is as it was
 pub frame_put_back : (s : PlayState) (f : Opened) (g : Option Opened) → s.frame ≡ Some f → with_frame (with_frame s g) (Some f) ≡ s
-frame_put_back s f g some = (λ i. record { hand = s.hand; schema = s.schema; cursor = s.cursor; frame = sym some i; phases = s.phases })
+frame_put_back s f g some = (λ i. record { owner = s.owner; schema = s.schema; cursor = s.cursor; frame = sym some i; phases = s.phases })

@@ -9,13 +9,13 @@ use Rattle.scene_interpreter.specs.declared.halt.Halt.TheVariants.{Begun}
 use Rattle.scene_interpreter.specs.declared.play_state.PlayState.{PlayState}
 use Rattle.scene_interpreter.specs.declared.setup_line.SetupAnswer.TheVariants.{Given, Ends}
 use Rattle.scene_interpreter.specs.Answer.{Says, said_of}
-use Rattle.scene_interpreter.specs.Play.{Reply, SetupReply, SetupState, first_state, said_reply, setup_kinds, setup_said}
+use Rattle.scene_interpreter.specs.Play.{StateReply, SetupReply, SetupState, first_state, said_reply, setup_kinds, setup_said}
 use Rattle.scene_interpreter.specs.Interpreter.{HaltsSetup, Interpreter, Setting, Playing, Tells, halted, played, interpreter_said, set_or_begun}
 use Rattle.scene_interpreter.specs.Said.{bad_in, said_text}
 use Rattle.scene_interpreter.specs.Setup.{AnswersSetup}
 
 -- an answer behind the setup
-pub told : (answer : Answer) (state : PlayState) (r : Reply) → Says answer state r → Tells answer (Playing state) (played r)
+pub told : (answer : Answer) (state : PlayState) (r : StateReply) → Says answer state r → Tells answer (Playing state) (played r)
 told answer state r says = (
   says.0,
   ap Playing says.1,

@@ -47,7 +47,7 @@ asking s (Ok (Get e)) q is none =
     asking_alone s (Get e) none (row_good (now s).schema (option_map (λ p. p.1) (row_of (now s) e))) refl
 asking s (Ok Dump) q is none = asking_alone s Dump none (saved_good (save_of (now s))) refl
 asking s (Ok DumpAll) q is none =
-    let w = whole_at s.hand in
+    let w = whole_at s.owner in
     asking_alone s DumpAll none (saved_good (save_editor_of w.machine.now (reverse w.past) w.future)) refl
 asking s said q is none = absurd (cc is)
 

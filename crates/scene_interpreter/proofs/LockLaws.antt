@@ -21,23 +21,23 @@ use Rattle.scene_undo.specs.Editor.{EditorState}
 use Rattle.scene_interpreter.specs.declared.play_state.PlayState.{PlayState}
 use Rattle.scene_interpreter.specs.LockAlike.{AnswersAlike, alone_as, owner_alone, setup_alone, state_alone}
 use Rattle.scene_interpreter.specs.OpenFrame.{Opened, alone, queues_of, with_command}
-use Rattle.scene_interpreter.specs.Play.{Base, Declared, Loaded, Reply, SetupReply, SetupState, advance_by, advance_reply, answer_reply, call_reply, declared_reply, first_state, frame_reply, kind_reply, load_reply, lone_reply, queued_reply, reply_within, said_reply, setup_kinds, setup_said, slots_reply, with_frame}
+use Rattle.scene_interpreter.specs.Play.{Base, Declared, Loaded, StateReply, SetupReply, SetupState, advance_by, advance_reply, answer_reply, call_reply, declared_reply, first_state, frame_reply, kind_reply, load_reply, lone_reply, queued_reply, reply_within, said_reply, setup_kinds, setup_said, slots_reply, with_frame}
 use Rattle.scene_interpreter.specs.Interpreter.{Interpreter, LineReply, Setting, Playing, owner_of, played, interpreter_reply, interpreter_said, set_or_begun}
 use Rattle.scene_interpreter.specs.Said.{bad_in, said_text}
 
 -- ---- behind the setup
 
 -- two replies of the same meaning, whose states are alike
-abbrev Alike : Reply → Reply → Type 0
+abbrev Alike : StateReply → StateReply → Type 0
 Alike r a = (a.said ≡ r.said) × (a.state ≡ state_alone r.state)
 
 -- a call, by whether there is room for it
 call_alike : (s : PlayState) (a : Asked) → Alike (call_reply s a) (call_reply (state_alone s) a)
-call_alike s a = by_room (nat_lt (length s.hand.history) s.hand.limit)
+call_alike s a = by_room (nat_lt (length s.owner.history) s.owner.limit)
   where
     by_room : (b : Bool)
-        → Alike (answer_reply s (if b then (entered s.hand a, (step (whole_at s.hand) a).1) else (s.hand, Refused (refusal_of (HistoryFull s.hand.limit)))))
-        (answer_reply (state_alone s) (if b then (entered (owner_alone s.hand) a, (step (whole_at s.hand) a).1) else (owner_alone s.hand, Refused (refusal_of (HistoryFull s.hand.limit)))))
+        → Alike (answer_reply s (if b then (entered s.owner a, (step (whole_at s.owner) a).1) else (s.owner, Refused (refusal_of (HistoryFull s.owner.limit)))))
+        (answer_reply (state_alone s) (if b then (entered (owner_alone s.owner) a, (step (whole_at s.owner) a).1) else (owner_alone s.owner, Refused (refusal_of (HistoryFull s.owner.limit)))))
     by_room true = (refl, refl)
     by_room false = (refl, refl)
 
@@ -110,7 +110,7 @@ setup_alike s (Ok line) = refl
 abbrev BothAlike : LineReply → LineReply → Type 0
 BothAlike r a = (a.said ≡ r.said) × (a.text ≡ r.text) × (a.bad ≡ r.bad) × (a.interpreter ≡ alone_as r.interpreter)
 
-played_alike : (r a : Reply) → Alike r a → BothAlike (played r) (played a)
+played_alike : (r a : StateReply) → Alike r a → BothAlike (played r) (played a)
 played_alike r a h = (
   h.0,
   ap (λ (s : PlayState). said_text s.schema a.said) h.1 ∙ ap (said_text r.state.schema) h.0,
@@ -147,43 +147,43 @@ interpreter_alike p bytes = (answers_alike p bytes).3
 
 -- ---- and no line takes it away, or gives one
 
-call_stays : (s : PlayState) (a : Asked) → (call_reply s a).state.hand.is_alone ≡ s.hand.is_alone
-call_stays s a = by_room (nat_lt (length s.hand.history) s.hand.limit)
+call_stays : (s : PlayState) (a : Asked) → (call_reply s a).state.owner.is_alone ≡ s.owner.is_alone
+call_stays s a = by_room (nat_lt (length s.owner.history) s.owner.limit)
   where
     by_room : (b : Bool)
-        → (answer_reply s (if b then (entered s.hand a, (step (whole_at s.hand) a).1) else (s.hand, Refused (refusal_of (HistoryFull s.hand.limit))))).state.hand.is_alone
-        ≡ s.hand.is_alone
+        → (answer_reply s (if b then (entered s.owner a, (step (whole_at s.owner) a).1) else (s.owner, Refused (refusal_of (HistoryFull s.owner.limit))))).state.owner.is_alone
+        ≡ s.owner.is_alone
     by_room true = refl
     by_room false = refl
 
-advance_stays : (s : PlayState) → (advance_reply s).state.hand.is_alone ≡ s.hand.is_alone
+advance_stays : (s : PlayState) → (advance_reply s).state.owner.is_alone ≡ s.owner.is_alone
 advance_stays s = by_fault (schedule_fault s.schema s.phases)
   where
-    by_fault : (o : Option Fault) → (advance_by s o).state.hand.is_alone ≡ s.hand.is_alone
+    by_fault : (o : Option Fault) → (advance_by s o).state.owner.is_alone ≡ s.owner.is_alone
     by_fault None = call_stays s (AdvanceCall (record { schema = s.schema; phases = s.phases }))
     by_fault (Some fault) = refl
 
-lone_stays : (s : PlayState) (line : Line) → (lone_reply s line).state.hand.is_alone ≡ s.hand.is_alone
+lone_stays : (s : PlayState) (line : Line) → (lone_reply s line).state.owner.is_alone ≡ s.owner.is_alone
 lone_stays s (Do command) = call_stays s (Submit (alone command))
 lone_stays s Undo = call_stays s UndoCall
 lone_stays s Redo = call_stays s RedoCall
 lone_stays s Advance = advance_stays s
 lone_stays s line = refl
 
-frame_stays : (s : PlayState) (f : Opened) (line : Line) → (frame_reply s f line).state.hand.is_alone ≡ s.hand.is_alone
+frame_stays : (s : PlayState) (f : Opened) (line : Line) → (frame_reply s f line).state.owner.is_alone ≡ s.owner.is_alone
 frame_stays s f (Do command) = by_push (with_command f command)
   where
-    by_push : (o : Outcome (Unit {0}) Opened) → (queued_reply s f o).state.hand.is_alone ≡ s.hand.is_alone
+    by_push : (o : Outcome (Unit {0}) Opened) → (queued_reply s f o).state.owner.is_alone ≡ s.owner.is_alone
     by_push (Ok p) = refl
     by_push (Err r) = refl
 frame_stays s f Commit = call_stays (with_frame s None) (Submit (queues_of f))
 frame_stays s f line = refl
 
-within_stays : (s : PlayState) (line : Line) (o : Option Opened) → (reply_within s line o).state.hand.is_alone ≡ s.hand.is_alone
+within_stays : (s : PlayState) (line : Line) (o : Option Opened) → (reply_within s line o).state.owner.is_alone ≡ s.owner.is_alone
 within_stays s line None = lone_stays s line
 within_stays s line (Some f) = frame_stays s f line
 
-said_stays : (s : PlayState) (said : Result Line BadLine) → (said_reply s said).state.hand.is_alone ≡ s.hand.is_alone
+said_stays : (s : PlayState) (said : Result Line BadLine) → (said_reply s said).state.owner.is_alone ≡ s.owner.is_alone
 said_stays s (Ok line) = within_stays s line s.frame
 said_stays s (Err reason) = refl
 

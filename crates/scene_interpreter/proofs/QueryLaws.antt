@@ -36,19 +36,19 @@ told_both (Ok a) x Q f is p = subst Q (sym is) (f p)
 told_both (Err e) x Q f is p = tt
 
 -- a state whose owner is as it was is as it was
-pub owner_kept : (s : PlayState) (h : OwnerState) → h ≡ s.hand → with_owner s h ≡ s
+pub owner_kept : (s : PlayState) (h : OwnerState) → h ≡ s.owner → with_owner s h ≡ s
 owner_kept s h same =
-    (λ i. record { hand = same i; schema = s.schema; cursor = s.cursor; frame = s.frame; phases = s.phases })
+    (λ i. record { owner = same i; schema = s.schema; cursor = s.cursor; frame = s.frame; phases = s.phases })
 
 -- cells since a cursor that were refused, with a filter that every kind set matches
 pub since_refused : {E : Type 0} (said : List CellName → Said) (list : World → Filter → ℕ → List CellName) (s : PlayState)
     (f : Filter) (h : OwnerState) (r : Refusal) (result : Result Answer E) → f.need ≡ 0 → f.without ≡ 0
-    → ListsSince list s.cursor f (machine_at s.hand) (Err r) → h ≡ s.hand
+    → ListsSince list s.cursor f (machine_at s.owner) (Err r) → h ≡ s.owner
     → IfOk result (λ answer. answer ≡ Replied (Refused r)) → OnOk result (r ≢ refusal_of NoMemory)
     → IfOk result (λ answer. Says answer (with_owner s h)
-    (query_reply s (since_said said (list (now s) no_filter) (since s.cursor (machine_at s.hand)))))
+    (query_reply s (since_said said (list (now s) no_filter) (since s.cursor (machine_at s.owner)))))
 since_refused said list s f h r result need without t same is memory =
-    let tick = since s.cursor (machine_at s.hand) in
+    let tick = since s.cursor (machine_at s.owner) in
     let cells : Filter → ℕ → List CellName = list (now s) in
     let every : f ≡ no_filter = (λ i. record { need = need i; without = without i }) in
     let is_said : r ≢ refusal_of NoMemory → refused r ≡ since_said said (cells no_filter) tick = λ other.

@@ -11,10 +11,10 @@ use Rattle.scene_interpreter.specs.declared.halt.Halt.{Halt}
 use Rattle.scene_interpreter.specs.declared.halt.Halt.TheVariants.{Before, Begun, After, Lost}
 use Rattle.scene_interpreter.specs.declared.play_state.PlayState.{PlayState}
 use Rattle.scene_interpreter.specs.declared.interpreter.Interpreter.{Interpreter as Code}
-use Rattle.scene_interpreter.specs.declared.interpreter.Stage.{Stage}
-use Rattle.scene_interpreter.specs.declared.interpreter.Stage.TheVariants as code
+use Rattle.scene_interpreter.specs.declared.interpreter.Mode.{Mode}
+use Rattle.scene_interpreter.specs.declared.interpreter.Mode.TheVariants as code
 use Rattle.scene_interpreter.specs.Answer.{said_of}
-use Rattle.scene_interpreter.specs.Play.{Reply, SetupReply, SetupState, first_owner, first_setup, first_state, said_reply, setup_kinds, setup_said, with_frame}
+use Rattle.scene_interpreter.specs.Play.{StateReply, SetupReply, SetupState, first_owner, first_setup, first_state, said_reply, setup_kinds, setup_said, with_frame}
 use Rattle.scene_interpreter.specs.Said.{Said, bad_in, said_text}
 use Rattle.scene_interpreter.specs.Setup.{setup_of, without_base}
 
@@ -23,14 +23,14 @@ pub data Interpreter : Type 0 where
   Setting : SetupState → Interpreter
   Playing : PlayState → Interpreter
 
--- the stage of the code, and the interpreter
-abbrev pub stage_of : Stage → Interpreter
-stage_of (code.Setting s) = Setting (setup_of s)
-stage_of (code.Playing s) = Playing s
+-- the mode of the code, and the interpreter
+abbrev pub mode_of : Mode → Interpreter
+mode_of (code.Setting s) = Setting (setup_of s)
+mode_of (code.Playing s) = Playing s
 
 -- an interpreter, as contracts see it
 abbrev pub interpreter_of : Code → Interpreter
-interpreter_of p = stage_of p.stage
+interpreter_of p = mode_of p.mode
 
 -- the interpreter before the first line, with a lock
 abbrev pub first_interpreter : Interpreter
@@ -48,7 +48,7 @@ interpreter_kinds (Playing s) = s.schema
 -- the owner that the lines so far leave
 abbrev pub owner_of : Interpreter → OwnerState
 owner_of (Setting s) = first_owner s
-owner_of (Playing s) = s.hand
+owner_of (Playing s) = s.owner
 
 -- the systems that the lines so far have given, phase by phase; in the setup there are none
 abbrev pub systems_of : Interpreter → List (List SystemRule)
@@ -63,7 +63,7 @@ without_frame (Playing s) = Playing (with_frame s None)
 -- there is no editor that can be lent: the setup isn't over, or a lock is over the editor
 abbrev pub HasNoEditor : Interpreter → Type 0
 HasNoEditor (Setting s) = ⊤
-HasNoEditor (Playing s) = s.hand.is_alone ≡ false
+HasNoEditor (Playing s) = s.owner.is_alone ≡ false
 
 -- what a line is answered with, the text of it, why the line is bad where it is, and the interpreter after it
 pub record LineReply : Type 0 where
@@ -77,7 +77,7 @@ abbrev pub reply_of : Kinds → Said → Interpreter → LineReply
 reply_of kinds said interpreter = record { said = said; text = said_text kinds said; bad = bad_in said; interpreter = interpreter }
 
 -- the reply to a line after the setup
-abbrev pub played : Reply → LineReply
+abbrev pub played : StateReply → LineReply
 played r = reply_of r.state.schema r.said (Playing r.state)
 
 -- the reply of the setup, or else of what follows it, which the line begins

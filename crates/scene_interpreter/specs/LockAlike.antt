@@ -15,7 +15,7 @@ setup_alone s = record s { is_alone = true }
 
 -- the same state without a lock
 abbrev pub state_alone : PlayState → PlayState
-state_alone s = with_owner s (owner_alone s.hand)
+state_alone s = with_owner s (owner_alone s.owner)
 
 -- the same interpreter without a lock
 abbrev pub alone_as : Interpreter → Interpreter

@@ -39,15 +39,15 @@ use Rattle.scene_print.specs.Shown.{show_text}
 
 -- the owner at first, the kinds, the cursor from before the first mark, no frame and no phases
 abbrev pub opening_state : OwnerState → Kinds → PlayState
-opening_state h kinds = record { hand = h; schema = kinds; cursor = record { rewinds = 0; tick = 0 }; frame = None; phases = [] }
+opening_state h kinds = record { owner = h; schema = kinds; cursor = record { rewinds = 0; tick = 0 }; frame = None; phases = [] }
 
 -- the state with another owner
 abbrev pub with_owner : PlayState → OwnerState → PlayState
-with_owner s h = record s { hand = h }
+with_owner s h = record s { owner = h }
 
 -- the world now
 abbrev pub now : PlayState → World
-now s = (machine_at s.hand).now
+now s = (machine_at s.owner).now
 
 -- the state with another cursor
 abbrev pub with_cursor : PlayState → Cursor → PlayState
@@ -83,11 +83,11 @@ since_said list cells (Err r) = refused r
 
 -- what `changed` lists
 abbrev pub changed_said : PlayState → Said
-changed_said s = since_said ChangedCells (changed_since (now s) no_filter) (since s.cursor (machine_at s.hand))
+changed_said s = since_said ChangedCells (changed_since (now s) no_filter) (since s.cursor (machine_at s.owner))
 
 -- what `added` lists
 abbrev pub added_said : PlayState → Said
-added_said s = since_said AddedCells (added_since (now s) no_filter) (since s.cursor (machine_at s.hand))
+added_said s = since_said AddedCells (added_since (now s) no_filter) (since s.cursor (machine_at s.owner))
 
 -- a scene text as it is written, with its newline, or the fault of its save
 abbrev pub saved_said : Result (List ℕ) FileFault → Said
@@ -103,24 +103,24 @@ abbrev pub dumpall_said : Whole → Said
 dumpall_said w = saved_said (save_editor_of w.machine.now (reverse w.past) w.future)
 
 -- what a line is answered with, and the state after it
-pub record Reply : Type 0 where
+pub record StateReply : Type 0 where
   pub said : Said
   pub state : PlayState
 
 -- the reply to a call, by what it came to
-abbrev pub answer_reply : PlayState → OwnerState × Answer → Reply
+abbrev pub answer_reply : PlayState → OwnerState × Answer → StateReply
 answer_reply s p = record { said = Called p.1; state = with_owner s p.0 }
 
 -- the reply to a call of the session whose turn it is
-abbrev pub call_reply : PlayState → Asked → Reply
-call_reply s a = answer_reply s (performed s.hand a)
+abbrev pub call_reply : PlayState → Asked → StateReply
+call_reply s a = answer_reply s (performed s.owner a)
 
 -- the reply to a bad line, which changes nothing
-abbrev pub bad_reply : PlayState → BadLine → Reply
+abbrev pub bad_reply : PlayState → BadLine → StateReply
 bad_reply s reason = record { said = Bad reason; state = s }
 
 -- the reply of a meaning, and the state after it
-abbrev pub query_reply : PlayState → Said → Reply
+abbrev pub query_reply : PlayState → Said → StateReply
 query_reply s said = record { said = said; state = s }
 
 -- the schedule that a script's phases make for its kinds
@@ -128,16 +128,16 @@ abbrev pub schedule_of : PlayState → ScheduleState
 schedule_of s = record { schema = s.schema; phases = s.phases }
 
 -- the reply to `advance` by the fault of its schedule, if there is one; then no call is made
-abbrev pub advance_by : PlayState → Option Fault → Reply
+abbrev pub advance_by : PlayState → Option Fault → StateReply
 advance_by s None = call_reply s (AdvanceCall (schedule_of s))
 advance_by s (Some fault) = query_reply s (refused (refusal_of fault))
 
 -- the reply to `advance`; the phases stay
-abbrev pub advance_reply : PlayState → Reply
+abbrev pub advance_reply : PlayState → StateReply
 advance_reply s = advance_by s (schedule_fault s.schema s.phases)
 
 -- the reply where no frame is open; a command is a frame by itself
-abbrev pub lone_reply : PlayState → Line → Reply
+abbrev pub lone_reply : PlayState → Line → StateReply
 lone_reply s Empty = query_reply s Nothing
 lone_reply s (Kind name shape) = bad_reply s SetupEnded
 lone_reply s (Slots n) = bad_reply s SetupEnded
@@ -152,25 +152,25 @@ lone_reply s Undo = call_reply s UndoCall
 lone_reply s Redo = call_reply s RedoCall
 lone_reply s Show = query_reply s (Text (show_text (now s)))
 lone_reply s (Get e) = query_reply s (get_said (now s) e)
-lone_reply s Mark = query_reply (with_cursor s (cursor_of (machine_at s.hand))) (Marked (cursor_of (machine_at s.hand)))
+lone_reply s Mark = query_reply (with_cursor s (cursor_of (machine_at s.owner))) (Marked (cursor_of (machine_at s.owner)))
 lone_reply s Changed = query_reply s (changed_said s)
 lone_reply s Added = query_reply s (added_said s)
 lone_reply s Phase = query_reply (with_phases s (with_phase s.phases)) Taken
 lone_reply s (System rule) = query_reply (with_phases s (with_system s.phases rule)) Taken
 lone_reply s Clear = query_reply (with_phases s []) Taken
 lone_reply s Advance = advance_reply s
-lone_reply s (As n) = query_reply (with_owner s (with_session s.hand n)) Taken
-lone_reply s History = query_reply s (Counted (length s.hand.history))
+lone_reply s (As n) = query_reply (with_owner s (with_session s.owner n)) Taken
+lone_reply s History = query_reply s (Counted (length s.owner.history))
 lone_reply s Dump = query_reply s (dump_said (now s))
-lone_reply s DumpAll = query_reply s (dumpall_said (whole_at s.hand))
+lone_reply s DumpAll = query_reply s (dumpall_said (whole_at s.owner))
 
 -- the reply to a command in a frame: it is queued, or else refused and the frame is as it was
-abbrev pub queued_reply : PlayState → Opened → Outcome (Unit {0}) Opened → Reply
+abbrev pub queued_reply : PlayState → Opened → Outcome (Unit {0}) Opened → StateReply
 queued_reply s f (Ok p) = query_reply (with_frame s (Some p.1)) Queued
 queued_reply s f (Err r) = query_reply (with_frame s (Some f)) (refused r)
 
 -- the reply in an open frame: commands, further queues and the commit, which ends it; nothing else may come there
-abbrev pub frame_reply : PlayState → Opened → Line → Reply
+abbrev pub frame_reply : PlayState → Opened → Line → StateReply
 frame_reply s f Empty = query_reply (with_frame s (Some f)) Nothing
 frame_reply s f (Do command) = queued_reply s f (with_command f command)
 frame_reply s f Queue = query_reply (with_frame s (Some (with_queue f))) Taken
@@ -183,16 +183,16 @@ frame_reply s f (Depth n) = bad_reply (with_frame s (Some f)) SetupEnded
 frame_reply s f line = bad_reply (with_frame s (Some f)) FrameOpen
 
 -- the reply to a line after the setup, by the frame that is open, if one is
-abbrev pub reply_within : PlayState → Line → Option Opened → Reply
+abbrev pub reply_within : PlayState → Line → Option Opened → StateReply
 reply_within s line None = lone_reply s line
 reply_within s line (Some f) = frame_reply s f line
 
 -- the reply to a line after the setup
-abbrev pub line_reply : PlayState → Line → Reply
+abbrev pub line_reply : PlayState → Line → StateReply
 line_reply s line = reply_within s line s.frame
 
 -- a line by what it says, or why it is bad
-abbrev pub said_reply : PlayState → Result Line BadLine → Reply
+abbrev pub said_reply : PlayState → Result Line BadLine → StateReply
 said_reply s (Ok line) = line_reply s line
 said_reply s (Err reason) = bad_reply s reason
 

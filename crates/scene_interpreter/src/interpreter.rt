@@ -28,7 +28,7 @@ use std::mem;
 
 /// Where an interpreter is.
 #[derive(Drop)]
-pub(crate) enum Stage {
+pub(crate) enum Mode {
     /// In the setup.
     Setting(Setup),
     /// Behind the setup.
@@ -40,7 +40,7 @@ pub(crate) enum Stage {
 #[derive(Drop)]
 pub struct Interpreter {
     pub(crate) alloc: Global,
-    pub(crate) stage: Stage,
+    pub(crate) mode: Mode,
 }
 
 /// What a line says, or why it is bad.
@@ -81,26 +81,26 @@ fn leave_setup(_setup: Setup) {}
 /// Drops the sessions of a state.
 fn leave_owner(_owner: SessionOwner) {}
 
-/// Drops what a stage has. Only here: a drop of a whole scene is dear to check wherever it is, two in one function are
+/// Drops what a mode has. Only here: a drop of a whole scene is dear to check wherever it is, two in one function are
 /// dearer still, and a move isn't.
-fn leave(stage: Stage) {
-    match stage {
-        Stage::Setting(setup) => leave_setup(setup),
-        Stage::Playing(state) => leave_owner(owner_of_state(state)),
+fn leave(mode: Mode) {
+    match mode {
+        Mode::Setting(setup) => leave_setup(setup),
+        Mode::Playing(state) => leave_owner(owner_of_state(state)),
     }
 }
 
 /// The sessions of a state, of which all else is dropped.
 fn owner_of_state(state: PlayState) -> SessionOwner
-    ensures { result ≡ state.hand }
+    ensures { result ≡ state.owner }
 {
-    let PlayState { hand, .. } = state;
-    hand
+    let PlayState { owner, .. } = state;
+    owner
 }
 
 /// The sessions in which a setup ends, of which all else is dropped.
 fn owner_of_setup(alloc: Global, setup: Setup) -> Result<SessionOwner, AllocError>
-    ensures { IfOk result (λ hand. hand ≡ first_owner (setup_of setup)) }
+    ensures { IfOk result (λ owner. owner ≡ first_owner (setup_of setup)) }
 {
     let mut setup = setup;
     setup.take_owner(alloc)
@@ -124,7 +124,7 @@ impl Interpreter {
     {
         Interpreter {
             alloc,
-            stage: Stage::Setting(Setup::new(alloc)),
+            mode: Mode::Setting(Setup::new(alloc)),
         }
     }
 
@@ -140,7 +140,7 @@ impl Interpreter {
         setup.calls = Calls::Counted(calls);
         Interpreter {
             alloc,
-            stage: Stage::Setting(setup),
+            mode: Mode::Setting(setup),
         }
     }
 
@@ -148,9 +148,9 @@ impl Interpreter {
     pub fn schema(&self) -> &Schema
         ensures { result.now ≡ interpreter_kinds (interpreter_of self.now) }
     {
-        match &self.stage {
-            Stage::Setting(setup) => setup.schema(),
-            Stage::Playing(state) => &state.schema,
+        match &self.mode {
+            Mode::Setting(setup) => setup.schema(),
+            Mode::Playing(state) => &state.schema,
         }
     }
 
@@ -158,9 +158,9 @@ impl Interpreter {
     pub fn has_open_frame(&self) -> bool
         ensures { result ≡ frame_is_open (interpreter_of self.now) }
     {
-        match &self.stage {
-            Stage::Setting(_) => false,
-            Stage::Playing(state) => state.frame.is_some(),
+        match &self.mode {
+            Mode::Setting(_) => false,
+            Mode::Playing(state) => state.frame.is_some(),
         }
     }
 
@@ -169,9 +169,9 @@ impl Interpreter {
     pub fn systems(&self) -> &[Phase]
         ensures { result.now ≡ systems_of (interpreter_of self.now) }
     {
-        match &self.stage {
-            Stage::Setting(_) => &[],
-            Stage::Playing(state) => state.phases.as_slice(),
+        match &self.mode {
+            Mode::Setting(_) => &[],
+            Mode::Playing(state) => state.phases.as_slice(),
         }
     }
 
@@ -179,9 +179,9 @@ impl Interpreter {
     pub fn session(&self) -> u32
         ensures { result ≡ (owner_of (interpreter_of self.now)).session }
     {
-        match &self.stage {
-            Stage::Setting(_) => 0,
-            Stage::Playing(state) => state.hand.session(),
+        match &self.mode {
+            Mode::Setting(_) => 0,
+            Mode::Playing(state) => state.owner.session(),
         }
     }
 
@@ -189,9 +189,9 @@ impl Interpreter {
     pub fn call_limit(&self) -> u64
         ensures { result ≡ (owner_of (interpreter_of self.now)).limit }
     {
-        match &self.stage {
-            Stage::Setting(setup) => setup.calls.limit(),
-            Stage::Playing(state) => state.hand.limit(),
+        match &self.mode {
+            Mode::Setting(setup) => setup.calls.limit(),
+            Mode::Playing(state) => state.owner.limit(),
         }
     }
 
@@ -201,9 +201,9 @@ impl Interpreter {
         ensures open { result ≡ frame_is_open (interpreter_of self.old) }
         ensures dropped { interpreter_of self.new ≡ without_frame (interpreter_of self.old) }
     {
-        match &mut self.stage {
-            Stage::Setting(_) => false,
-            Stage::Playing(state) => state.frame.take().is_some(),
+        match &mut self.mode {
+            Mode::Setting(_) => false,
+            Mode::Playing(state) => state.frame.take().is_some(),
         }
     }
 
@@ -217,9 +217,9 @@ impl Interpreter {
         ensures { IfOk result (λ b. b ≡ changes (interpreter_of self.now) bytes.now) }
     {
         let said = said_in(self.alloc, self.schema(), bytes)?;
-        match &self.stage {
-            Stage::Setting(setup) => Ok(changes_setup(&setup.base, &said)),
-            Stage::Playing(state) => Ok(changes_state(&state.frame, &said)),
+        match &self.mode {
+            Mode::Setting(setup) => Ok(changes_setup(&setup.base, &said)),
+            Mode::Playing(state) => Ok(changes_state(&state.frame, &said)),
         }
     }
 
@@ -236,7 +236,7 @@ impl Interpreter {
             ≡ halted h (interpreter_of self.old) (interpreter_said (interpreter_of self.old) said).interpreter) }
         ensures undone { IfErr result (λ h. h ≢ After) }
     {
-        let Stage::Setting(setup) = &mut self.stage else {
+        let Mode::Setting(setup) = &mut self.mode else {
             return Err(Halt::Before);
         };
         match answer_setup(self.alloc, setup, said) {
@@ -268,12 +268,12 @@ impl Interpreter {
             ≡ halted h (interpreter_of self.old) (interpreter_said (interpreter_of self.old) said).interpreter) }
         ensures undone { IfErr result (λ h. h ≢ After) }
     {
-        match &mut self.stage {
-            Stage::Playing(state) => match answer(performer, self.alloc, state, said) {
+        match &mut self.mode {
+            Mode::Playing(state) => match answer(performer, self.alloc, state, said) {
                 Ok(answer) => Ok(answer),
                 Err(AllocError) => Err(Halt::Before),
             },
-            Stage::Setting(_) => self.set_said(performer, said),
+            Mode::Setting(_) => self.set_said(performer, said),
         }
     }
 
@@ -321,7 +321,7 @@ impl Interpreter {
     pub(crate) fn go_to(&mut self, state: PlayState)
         ensures { interpreter_of self.new ≡ Playing state }
     {
-        leave(mem::replace(&mut self.stage, Stage::Playing(state)));
+        leave(mem::replace(&mut self.mode, Mode::Playing(state)));
     }
 
     /// Ends the setup, where it isn't over: what follows is as behind a line that ends it. It costs what that line
@@ -332,9 +332,9 @@ impl Interpreter {
         ensures begun { OnOk result (interpreter_of self.new ≡ begun (interpreter_of self.old)) }
         ensures halted { IfErr result (λ h. (next : Reached) → interpreter_of self.new ≡ halted h (interpreter_of self.old) next) }
     {
-        match &mut self.stage {
-            Stage::Playing(_) => Ok(()),
-            Stage::Setting(setup) => match setup.begin(self.alloc) {
+        match &mut self.mode {
+            Mode::Playing(_) => Ok(()),
+            Mode::Setting(setup) => match setup.begin(self.alloc) {
                 Err(halt) => Err(halt),
                 Ok(state) => {
                     self.go_to(state);
@@ -350,29 +350,29 @@ impl Interpreter {
         ensures editor { IfSome result (λ editor. whole_of editor.now ≡ whole_at (owner_of (interpreter_of self.now))) }
         ensures missing { IfNone result (HasNoEditor (interpreter_of self.now)) }
     {
-        match &self.stage {
-            Stage::Setting(_) => None,
-            Stage::Playing(state) => state.hand.editor(),
+        match &self.mode {
+            Mode::Setting(_) => None,
+            Mode::Playing(state) => state.owner.editor(),
         }
     }
 
     /// Drops the interpreter, as the end of its owner would. Who says it has the drop checked here, where it is dear,
     /// and not once more in a crate of its own.
     pub fn close(self) {
-        let Interpreter { stage, .. } = self;
-        leave(stage);
+        let Interpreter { mode, .. } = self;
+        leave(mode);
     }
 
     /// The sessions as the lines so far leave them. A frame that is still open is dropped.
     ///
     /// `AllocError` where no memory was found, which only an interpreter in its setup needs.
     pub fn into_owner(self) -> Result<SessionOwner, AllocError>
-        ensures { IfOk result (λ hand. hand ≡ owner_of (interpreter_of self)) }
+        ensures { IfOk result (λ owner. owner ≡ owner_of (interpreter_of self)) }
     {
-        let Interpreter { alloc, stage, .. } = self;
-        match stage {
-            Stage::Playing(state) => Ok(owner_of_state(state)),
-            Stage::Setting(setup) => owner_of_setup(alloc, setup),
+        let Interpreter { alloc, mode, .. } = self;
+        match mode {
+            Mode::Playing(state) => Ok(owner_of_state(state)),
+            Mode::Setting(setup) => owner_of_setup(alloc, setup),
         }
     }
 }

@@ -10,7 +10,7 @@ ghost use Rattle.scene_interpreter.specs.Interpreter.{HaltsSetup, Interpreter as
 ghost use Rattle.scene_interpreter.specs.Setup.{setup_of};
 
 use crate::halt::Halt;
-use crate::interpreter::{Interpreter, Stage, said_in};
+use crate::interpreter::{Interpreter, Mode, said_in};
 use crate::json_question::StateJson;
 use crate::play_state::PlayState;
 use crate::setup::Setup;
@@ -38,10 +38,10 @@ fn ask_state<P: Performer>(
     state: &mut PlayState,
     asked: StateJson,
 ) -> Result<String, AllocError>
-    ensures text { IfOk result (λ text. string_bytes text ≡ json_line (asked_json asked (whole_at state.old.hand))) }
+    ensures text { IfOk result (λ text. string_bytes text ≡ json_line (asked_json asked (whole_at state.old.owner))) }
     ensures same { state.new ≡ state.old }
 {
-    match performer.ask(alloc, &mut state.hand, &asked) {
+    match performer.ask(alloc, &mut state.owner, &asked) {
         Some(text) => text,
         None => Err(AllocError),
     }
@@ -57,7 +57,7 @@ fn begin_asked<P: Performer>(
 ) -> Result<(PlayState, Result<String, AllocError>), Halt>
     ensures begun { IfOk result (λ p. p.0 ≡ first_state (setup_of setup.old)) }
     ensures text { IfOk result (λ p. IfOk p.1 (λ text. string_bytes text
-        ≡ json_line (asked_json asked (whole_at (first_state (setup_of setup.old)).hand)))) }
+        ≡ json_line (asked_json asked (whole_at (first_state (setup_of setup.old)).owner)))) }
     ensures halted { IfErr result (λ h. HaltsSetup h (setup_of setup.old) (setup_of setup.new)) }
 {
     let mut state = setup.begin(alloc)?;
@@ -83,12 +83,12 @@ impl Interpreter {
         ensures begun { IfOk result (λ _. interpreter_of self.new ≡ begun (interpreter_of self.old)) }
         ensures halted { IfErr result (λ h. (next : State) → interpreter_of self.new ≡ halted h (interpreter_of self.old) next) }
     {
-        match &mut self.stage {
-            Stage::Playing(state) => match ask_state(performer, self.alloc, state, asked) {
+        match &mut self.mode {
+            Mode::Playing(state) => match ask_state(performer, self.alloc, state, asked) {
                 Ok(text) => Ok(text),
                 Err(AllocError) => Err(Halt::Before),
             },
-            Stage::Setting(setup) => match begin_asked(performer, self.alloc, setup, asked) {
+            Mode::Setting(setup) => match begin_asked(performer, self.alloc, setup, asked) {
                 Err(halt) => Err(halt),
                 Ok((state, answered)) => {
                     self.go_to(state);

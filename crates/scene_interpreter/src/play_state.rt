@@ -13,7 +13,7 @@ use std::alloc::Global;
 /// the phases of systems.
 #[derive(Drop)]
 pub(crate) struct PlayState {
-    pub(crate) hand: SessionOwner,
+    pub(crate) owner: SessionOwner,
     pub(crate) schema: Schema,
     pub(crate) cursor: Cursor,
     pub(crate) frame: Option<OpenFrame>,
@@ -23,11 +23,11 @@ pub(crate) struct PlayState {
 impl PlayState {
     /// The state in which a run begins: no frame, no phases, and the cursor from before the first mark. It takes no
     /// memory.
-    pub(crate) fn new(alloc: Global, hand: SessionOwner, schema: Schema) -> Self
-        ensures { result ≡ opening_state hand schema }
+    pub(crate) fn new(alloc: Global, owner: SessionOwner, schema: Schema) -> Self
+        ensures { result ≡ opening_state owner schema }
     {
         PlayState {
-            hand,
+            owner,
             schema,
             cursor: Cursor {
                 rewinds: 0,

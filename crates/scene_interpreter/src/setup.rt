@@ -109,7 +109,7 @@ impl Setup {
 
     /// The owner with which the run begins. It leaves a setup without kinds, also where no memory is found.
     pub(crate) fn take_owner(&mut self, alloc: Global) -> Result<SessionOwner, AllocError>
-        ensures hand { IfOk result (λ hand. hand ≡ first_owner (setup_of self.old)) }
+        ensures owner { IfOk result (λ owner. owner ≡ first_owner (setup_of self.old)) }
         ensures left { setup_of self.new ≡ without_base (setup_of self.old) }
     {
         let base = mem::replace(
@@ -132,7 +132,7 @@ impl Setup {
             return Err(Halt::Before);
         };
         match self.take_owner(alloc) {
-            Ok(hand) => Ok(PlayState::new(alloc, hand, schema)),
+            Ok(owner) => Ok(PlayState::new(alloc, owner, schema)),
             Err(AllocError) => Err(Halt::Lost),
         }
     }

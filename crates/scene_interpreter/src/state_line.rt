@@ -32,7 +32,7 @@ pub(crate) fn answer_call_or_back<P: Performer>(
     ensures back { IfErr result (λ back. back ≡ call) }
     ensures same { OnErr result (state.new ≡ state.old) }
 {
-    let reply = performer.perform(alloc, &mut state.hand, call)?;
+    let reply = performer.perform(alloc, &mut state.owner, call)?;
     Ok(Answer::Replied(reply))
 }
 
@@ -48,7 +48,7 @@ pub(crate) fn answer_call<P: Performer>(
     ensures answer { IfOk result (λ answer. Says answer state.new (call_reply state.old (asked call))) }
     ensures same { OnErr result (state.new ≡ state.old) }
 {
-    match performer.perform(alloc, &mut state.hand, call) {
+    match performer.perform(alloc, &mut state.owner, call) {
         Ok(reply) => Ok(Answer::Replied(reply)),
         Err(_) => Err(AllocError),
     }
@@ -93,7 +93,7 @@ fn answer_begin(alloc: Global, state: &mut PlayState) -> Answer
 fn answer_as(state: &mut PlayState, session: SessionNumber) -> Answer
     ensures { Says result state.new (lone_reply state.old (As session)) }
 {
-    state.hand.turn_to(session.get());
+    state.owner.turn_to(session.get());
     Answer::Taken
 }
 
@@ -107,7 +107,7 @@ fn answer_world<P: Performer>(
     ensures answer { IfOk result (λ answer. Says answer state.new (query_reply state.old (asked_said asked (now state.old)))) }
     ensures same { OnErr result (state.new ≡ state.old) }
 {
-    match performer.ask(alloc, &mut state.hand, &asked) {
+    match performer.ask(alloc, &mut state.owner, &asked) {
         Some(answer) => answer,
         None => Err(AllocError),
     }
@@ -122,7 +122,7 @@ fn answer_dumpall<P: Performer>(
     ensures answer { IfOk result (λ answer. Says answer state.new (lone_reply state.old DumpAll)) }
     ensures same { OnErr result (state.new ≡ state.old) }
 {
-    match performer.ask(alloc, &mut state.hand, &EditorText) {
+    match performer.ask(alloc, &mut state.owner, &EditorText) {
         Some(answer) => answer,
         None => Err(AllocError),
     }
@@ -132,7 +132,7 @@ fn answer_dumpall<P: Performer>(
 fn answer_history(state: &PlayState) -> Answer
     ensures { Says result state.now (lone_reply state.now History) }
 {
-    Answer::Counted(state.hand.call_count())
+    Answer::Counted(state.owner.call_count())
 }
 
 /// `mark`.
@@ -144,7 +144,7 @@ fn answer_mark<P: Performer>(
     ensures answer { IfOk result (λ answer. Says answer state.new (lone_reply state.old Mark)) }
     ensures same { OnErr result (state.new ≡ state.old) }
 {
-    match performer.ask(alloc, &mut state.hand, &CursorNow) {
+    match performer.ask(alloc, &mut state.owner, &CursorNow) {
         Some(cursor) => {
             state.cursor = cursor;
             Ok(Answer::Marked(cursor))
@@ -163,7 +163,7 @@ fn answer_changed<P: Performer>(
     ensures same { OnErr result (state.new ≡ state.old) }
 {
     let query = ChangedSince(state.cursor, Filter::all());
-    match performer.ask(alloc, &mut state.hand, &query) {
+    match performer.ask(alloc, &mut state.owner, &query) {
         Some(Ok(cells)) => Ok(Answer::Changed(cells)),
         Some(Err(refusal)) => refused(refusal),
         None => Err(AllocError),
@@ -180,7 +180,7 @@ fn answer_added<P: Performer>(
     ensures same { OnErr result (state.new ≡ state.old) }
 {
     let query = AddedSince(state.cursor, Filter::all());
-    match performer.ask(alloc, &mut state.hand, &query) {
+    match performer.ask(alloc, &mut state.owner, &query) {
         Some(Ok(cells)) => Ok(Answer::Added(cells)),
         Some(Err(refusal)) => refused(refusal),
         None => Err(AllocError),

@@ -11,15 +11,15 @@ use Rattle.scene_kinds.specs.declared.fault.Fault.TheVariants.{NoMemory}
 use Rattle.scene_model.specs.World.{World}
 use Rattle.scene_systems.specs.declared.system_rule.SystemRule.{SystemRule}
 use Rattle.scene_schedule.specs.AtOnce.{IsMadeOf, Overflows}
-use Rattle.scene_schedule.specs.Turns.{Made, Passed, IsMade, IsTurn, AreTurns, AreLeft, turn_in, emptied}
+use Rattle.scene_schedule.specs.Turns.{SystemMade, Passed, IsMade, IsTurn, AreTurns, AreLeft, turn_in, emptied}
 
 -- later turns are turns
-later_turns : (passed : Passed) (workers worker : ℕ) (w : World) (at : ℕ) (rules : List SystemRule) (turns : List (Option Made)) → AreTurns passed workers worker w at rules turns
+later_turns : (passed : Passed) (workers worker : ℕ) (w : World) (at : ℕ) (rules : List SystemRule) (turns : List (Option SystemMade)) → AreTurns passed workers worker w at rules turns
     → AreTurns passed workers worker w (at + 1) rules turns
 later_turns passed workers worker w at rules turns h i rule less there = h i rule (omega (arith, less)) there
 
 -- one that is taken out is none of the later ones
-emptied_turns : {E : Type 0} (passed : Passed) (workers worker : ℕ) (w : World) (at : ℕ) (rules : List SystemRule) (slot : Result (List (Option Made)) E)
+emptied_turns : {E : Type 0} (passed : Passed) (workers worker : ℕ) (w : World) (at : ℕ) (rules : List SystemRule) (slot : Result (List (Option SystemMade)) E)
     → IfOk slot (AreTurns passed workers worker w at rules) → IfOk (emptied at slot) (AreTurns passed workers worker w (at + 1) rules)
 emptied_turns passed workers worker w at rules (Ok turns) h = λ i rule less there.
     subst (IsTurn passed workers worker w i rule) (sym (get_or-set_other turns at i None None (apart i less))) (h i rule (omega (arith, less)) there)
@@ -28,7 +28,7 @@ emptied_turns passed workers worker w at rules (Ok turns) h = λ i rule less the
     apart i less e = omega (arith, less, e)
 emptied_turns passed workers worker w at rules (Err e) h = tt
 
-later_slot : {E : Type 0} (passed : Passed) (workers worker : ℕ) (w : World) (at : ℕ) (rules : List SystemRule) (slot : Result (List (Option Made)) E)
+later_slot : {E : Type 0} (passed : Passed) (workers worker : ℕ) (w : World) (at : ℕ) (rules : List SystemRule) (slot : Result (List (Option SystemMade)) E)
     → IfOk slot (AreTurns passed workers worker w at rules) → IfOk slot (AreTurns passed workers worker w (at + 1) rules)
 later_slot passed workers worker w at rules (Ok turns) h = later_turns passed workers worker w at rules turns h
 later_slot passed workers worker w at rules (Err e) h = tt
@@ -37,7 +37,7 @@ later_slot passed workers worker w at rules (Err e) h = tt
 
 module _ {E : Type 0} (passed : Passed) (w : World) (at : ℕ) (rules : List SystemRule) where
   -- once the turn of a place is taken out, those behind it are left
-  pub left_taken : (left : List (Result (List (Option Made)) E)) (k : ℕ) (slot : Result (List (Option Made)) E) → k < length left → slot ≡ get_or left k slot
+  pub left_taken : (left : List (Result (List (Option SystemMade)) E)) (k : ℕ) (slot : Result (List (Option SystemMade)) E) → k < length left → slot ≡ get_or left k slot
       → AreLeft passed w at rules left → AreLeft passed w (at + 1) rules (set left k (emptied at slot))
   left_taken left k slot below here h worker s less there =
       subst (λ n. IfOk s (AreTurns passed n worker w (at + 1) rules)) (sym (length-set left k (emptied at slot))) (from (nat_eq worker k) refl)
@@ -56,24 +56,24 @@ module _ {E : Type 0} (passed : Passed) (w : World) (at : ℕ) (rules : List Sys
           later_slot passed (length left) worker w at rules s (h worker s within is)
 
   -- the turn of a place, which just one worker has
-  pub turn_made : (workers worker : ℕ) (rule : SystemRule) (slot : Result (List (Option Made)) E) (made : Made) → IfOk slot (AreTurns passed workers worker w at rules)
+  pub turn_made : (workers worker : ℕ) (rule : SystemRule) (slot : Result (List (Option SystemMade)) E) (made : SystemMade) → IfOk slot (AreTurns passed workers worker w at rules)
       → slice_get rules at ≡ Some rule → turn_in slot at ≡ Some made → (at % workers ≡ worker) × passed worker at × IsMade w at rule made
   turn_made workers worker rule (Ok turns) made h there is = subst (IsTurn passed workers worker w at rule) is (h at rule (omega arith) there)
   turn_made workers worker rule (Err e) made h there is = absurd (cc)
 
 -- ---- what was made
 
-pub made_ok : (w : World) (at : ℕ) (rule : SystemRule) (made : Made) → IsMade w at rule made → IfOk made (λ m. IsMadeOf w rule m.0 m.1.commands)
+pub made_ok : (w : World) (at : ℕ) (rule : SystemRule) (made : SystemMade) → IsMade w at rule made → IfOk made (λ m. IsMadeOf w rule m.0 m.1.commands)
 made_ok w at rule (Ok m) h = h
 made_ok w at rule (Err r) h = tt
 
-pub made_err : (w : World) (at : ℕ) (rule : SystemRule) (made : Made) → IsMade w at rule made → IfErr made (λ r. r ≢ refusal_of NoMemory → Overflows w at rule r)
+pub made_err : (w : World) (at : ℕ) (rule : SystemRule) (made : SystemMade) → IsMade w at rule made → IfErr made (λ r. r ≢ refusal_of NoMemory → Overflows w at rule r)
 made_err w at rule (Ok m) h = tt
 made_err w at rule (Err r) h = h
 
 -- ---- turns that are pushed
 
-pub turn_pushed : (passed : Passed) (workers worker : ℕ) (w : World) (at : ℕ) (rules : List SystemRule) (turns : List (Option Made)) (rule : SystemRule) (turn : Option Made)
+pub turn_pushed : (passed : Passed) (workers worker : ℕ) (w : World) (at : ℕ) (rules : List SystemRule) (turns : List (Option SystemMade)) (rule : SystemRule) (turn : Option SystemMade)
     → length turns ≡ at → at < length rules → rule ≡ get_or rules at rule → IsTurn passed workers worker w at rule turn
     → ((i : ℕ) (r : SystemRule) → i < at → slice_get rules i ≡ Some r → IsTurn passed workers worker w i r (get_or turns i None))
     → (i : ℕ) (r : SystemRule) → i < at + 1 → slice_get rules i ≡ Some r → IsTurn passed workers worker w i r (get_or (turns ++ turn ∷ []) i None)

@@ -11,7 +11,7 @@ use Rattle.scene_session.specs.declared.entry.Entry.{Entry}
 use Rattle.scene_session.specs.declared.state.Beginning.{Beginning}
 use Rattle.scene_session.specs.Calls.{asked, told}
 use Rattle.scene_session.specs.Whole.{whole_of, next, step, IsTrue}
-use Rattle.scene_session.specs.State.{HasEntered, IsKept, answer_after, replayed, stopping_at}
+use Rattle.scene_session.specs.State.{HasEntered, IsReplayOf, answer_after, replayed, stopping_at}
 use Rattle.scene_session.proofs.Replays.{replay_entered, true_entered}
 
 -- a full history stops a call, whatever memory there is
@@ -23,8 +23,8 @@ pub stopping_short : (limit count : ℕ) → count < limit → stopping_at limit
 stopping_short limit count few = ap (λ b. if b then refusal_of NoMemory else refusal_of (HistoryFull limit)) (lt-ltb count limit few)
 
 -- an entry with the answer of the editor's call keeps the state
-entered : (o : Beginning) (h : List Entry) (e : Entry) (old new : EditorState) → IsKept o h old → length h < o.limit
-    → step (whole_of old) (asked e.call) ≡ (whole_of new, told e.reply) → IsKept o (h ++ e ∷ []) new
+entered : (o : Beginning) (h : List Entry) (e : Entry) (old new : EditorState) → IsReplayOf o h old → length h < o.limit
+    → step (whole_of old) (asked e.call) ≡ (whole_of new, told e.reply) → IsReplayOf o (h ++ e ∷ []) new
 entered o h e old new k few is =
     let there : step (replayed o h) (asked e.call) ≡ (whole_of new, told e.reply) = ap (λ w. step w (asked e.call)) (sym k.0) ∙ is in
     let long : length (h ++ e ∷ []) ≡ length h + 1 = length-append h (e ∷ []) in (
@@ -36,7 +36,7 @@ entered o h e old new k few is =
 
 -- Once there is room, a call is done on the editor, and entered where its replies were made
 module _ (o : Beginning) (h roomy after : List Entry) (same : roomy ≡ h) (old new : EditorState) (session : ℕ) (c : Call) (replies : Option (Reply × Reply))
-    (before : IsKept o h old) (few : length h < o.limit)
+    (before : IsReplayOf o h old) (few : length h < o.limit)
     (done : IfSome replies (λ p. step (whole_of old) (asked c) ≡ (whole_of new, told p.0))) (none : IfNone replies (new ≡ old)) where
   abbrev Has : Result Reply Stopped → Type 0
   Has result = IfOk result (λ r. HasEntered roomy session c r after)
@@ -54,10 +54,10 @@ module _ (o : Beginning) (h roomy after : List Entry) (same : roomy ≡ h) (old 
   none_of is = subst (λ q. IfNone q (new ≡ old)) is none
 
   -- the state is kept
-  pub kept_after : (result : Result Reply Stopped) → Has result → Gives result → Stops result → IsKept o after new
-  kept_after (Ok r) t u s = subst (λ l. IsKept o l new) (sym (t.1 ∙ ap (λ l. l ++ t.0 ∷ []) same)) (entered o h t.0 old new before few
+  pub kept_after : (result : Result Reply Stopped) → Has result → Gives result → Stops result → IsReplayOf o after new
+  kept_after (Ok r) t u s = subst (λ l. IsReplayOf o l new) (sym (t.1 ∙ ap (λ l. l ++ t.0 ∷ []) same)) (entered o h t.0 old new before few
       (ap (step (whole_of old)) t.3 ∙ done_of u.0 u.1 ∙ (λ i. (whole_of new, sym (t.4 ∙ u.2) i))))
-  kept_after (Err x) t u s = subst (λ l. IsKept o l new) (sym (s.1 ∙ same)) (subst (IsKept o h) (sym (none_of s.0)) before)
+  kept_after (Err x) t u s = subst (λ l. IsReplayOf o l new) (sym (s.1 ∙ same)) (subst (IsReplayOf o h) (sym (none_of s.0)) before)
 
   -- the reply is the machine's
   pub reply_after : (result : Result Reply Stopped) → Gives result → IfOk result (λ r. told r ≡ answer_after o h (asked c))

@@ -12,7 +12,7 @@ use Rattle.scene_session.specs.State.{StateView}
 use Rattle.scene_session.specs.Whole.{Whole, step, whole_of}
 
 -- a call that was made: of which session, and its answer
-pub record Made : Type 0 where
+pub record MadeCall : Type 0 where
   pub session : ℕ
   pub call : Asked
   pub answer : Answer
@@ -23,11 +23,11 @@ pub record OwnerState : Type 0 where
   pub is_alone : Bool
   pub opening : Whole
   pub limit : ℕ
-  pub history : List Made
+  pub history : List MadeCall
   pub session : ℕ
 
 -- the machine with its records after a call that was made
-abbrev pub next : Whole → Made → Whole
+abbrev pub next : Whole → MadeCall → Whole
 next w c = (step w c.call).0
 
 -- the machine with its records now: what the calls make of the opening
@@ -57,7 +57,7 @@ performed h a = if nat_lt (length h.history) h.limit then (entered h a, (step (w
 -- ---- the state
 
 -- an entry of the state as a call that was made
-abbrev pub made : Entry → Made
+abbrev pub made : Entry → MadeCall
 made e = record { session = e.session; call = asked e.call; answer = told e.reply }
 
 -- the owner over a lock with this state, where it is the turn of this session

@@ -14,7 +14,7 @@ use Rattle.scene_schedule.specs.Schedule.{ScheduleState}
 use Rattle.scene_session.specs.Calls.{Answer, Asked, Submit, Advance, Undo, Redo, Done, Undone, Redone, Refused}
 use Rattle.scene_session.specs.Codes.{whole_code}
 use Rattle.scene_session.specs.Whole.{Whole}
-use Rattle.scene_session.specs.Owner.{OwnerState, Made}
+use Rattle.scene_session.specs.Owner.{OwnerState, MadeCall}
 
 -- what a call asks
 abbrev Question : Type 0
@@ -71,13 +71,13 @@ answer_code = code_by Told (coded⊎ (coded_list entity.the_row.coded) (coded⊎
     of_answer to_answer answer_back
 
 -- a call that was made
-abbrev pub made_code : Coded Made
+abbrev pub made_code : Coded MadeCall
 made_code = code_by (ℕ × (Asked × Answer)) (coded× coded_ℕ (coded× asked_code answer_code))
     (λ c. (c.session, (c.call, c.answer))) (λ p. record { session = p.0; call = p.1.0; answer = p.1.1 }) (λ _. refl)
 
 -- an owner by its parts
 abbrev pub owner_code : Coded OwnerState
-owner_code = code_by (Bool × (Whole × (ℕ × (List Made × ℕ))))
+owner_code = code_by (Bool × (Whole × (ℕ × (List MadeCall × ℕ))))
     (coded× coded_bool (coded× whole_code (coded× coded_ℕ (coded× (coded_list made_code) coded_ℕ))))
     (λ h. (h.is_alone, (h.opening, (h.limit, (h.history, h.session)))))
     (λ p. record { is_alone = p.0; opening = p.1.0; limit = p.1.1.0; history = p.1.1.1.0; session = p.1.1.1.1 }) (λ _. refl)

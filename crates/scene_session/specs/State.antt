@@ -47,5 +47,5 @@ abbrev pub IsStopped : Beginning → List Entry → Call → Stopped → Type 0
 IsStopped o history c x = (x.call ≡ c) × (x.refusal ≡ stopping o history)
 
 -- the editor is what the calls make of the opening, and they have the machine's answers
-abbrev pub IsKept : Beginning → List Entry → EditorState → Type 0
-IsKept o history editor = (whole_of editor ≡ replayed o history) × IsLegal o history
+abbrev pub IsReplayOf : Beginning → List Entry → EditorState → Type 0
+IsReplayOf o history editor = (whole_of editor ≡ replayed o history) × IsLegal o history

@@ -2,7 +2,7 @@
 ghost use Rattle.std.specs.Prelude.{◌≡◌, ◌++◌, ◌∷◌, [], List};
 ghost use Rattle.std.specs.Coded.{coded_list};
 ghost use Rattle.scene_session.specs.OwnerCodes.{made_code};
-ghost use Rattle.scene_session.specs.Owner.{Made, made};
+ghost use Rattle.scene_session.specs.Owner.{MadeCall, made};
 ghost use base.Fml.{ftrue};
 
 use crate::entry::Entry;
@@ -12,7 +12,7 @@ use std::marker::Model;
 /// when they run.
 #[derive(Drop)]
 pub(crate) struct Log {
-    pub(crate) ghost calls: { List Made } by { coded_list made_code },
+    pub(crate) ghost calls: { List MadeCall } by { coded_list made_code },
 }
 
 impl Model for Log {

@@ -50,7 +50,7 @@ impl SessionOwner {
     /// `AllocError` where no memory was found: the editor is dropped then.
     pub fn new(alloc: Global, editor: Editor, limit: u32) -> Result<SessionOwner, AllocError>
         requires { (1 ≤ limit) × (limit ≤ 1048576) }
-        ensures { IfOk result (λ hand. hand ≡ opening_owner (whole_of editor) limit false) }
+        ensures { IfOk result (λ owner. owner ≡ opening_owner (whole_of editor) limit false) }
     {
         let shared = Shared::new(alloc, editor, limit)?;
         Ok(SessionOwner {

@@ -34,11 +34,11 @@ pub trait Performer {
     ///
     /// Where no memory is found, nothing is entered and the call is handed back. It comes back only where there was
     /// room for it.
-    fn perform(&self, alloc: Global, hand: &mut SessionOwner, call: Call) -> Result<Reply, Call>
+    fn perform(&self, alloc: Global, owner: &mut SessionOwner, call: Call) -> Result<Reply, Call>
         requires few { queue_count call ≤ 4294967295 }
         requires sync { IsSync Self.Runtime.row }
-        ensures done { IfOk result (λ reply. performed hand.old (asked call) ≡ (hand.new, told reply)) }
-        ensures back { IfErr result (λ back. (back ≡ call) × (hand.new ≡ hand.old) × (length hand.old.history < hand.old.limit)) };
+        ensures done { IfOk result (λ reply. performed owner.old (asked call) ≡ (owner.new, told reply)) }
+        ensures back { IfErr result (λ back. (back ≡ call) × (owner.new ≡ owner.old) × (length owner.old.history < owner.old.limit)) };
 
     /// Asks a question of the editor, for the session whose turn it is: what is found is of the editor after just these
     /// calls. It costs what the question costs, and over a lock some thirty loads of a word; it takes no memory but
@@ -48,12 +48,12 @@ pub trait Performer {
     fn ask<Q: EditorQuery>(
         &self,
         alloc: Global,
-        hand: &mut SessionOwner,
+        owner: &mut SessionOwner,
         query: &Q,
     ) -> Option<Q::Found>
-        ensures same { hand.new ≡ hand.old }
-        ensures answer { IfSome result (λ a. Q.finds query.now (whole_at hand.old) a) }
-        ensures missed { IfNone result (Self.misses hand.old) };
+        ensures same { owner.new ≡ owner.old }
+        ensures answer { IfSome result (λ a. Q.finds query.now (whole_at owner.old) a) }
+        ensures missed { IfNone result (Self.misses owner.old) };
 }
 
 /// Performs calls on this thread, and the systems of an advance on as many threads as there are workers, 1 to 16. A
@@ -97,8 +97,8 @@ impl<R: Threads + Wait + Sync> Performer for OnThreads<R> {
 
     ghost misses = { λ _. ⊥ };
 
-    fn perform(&self, alloc: Global, hand: &mut SessionOwner, call: Call) -> Result<Reply, Call> {
-        let done = match &mut hand.ownership {
+    fn perform(&self, alloc: Global, owner: &mut SessionOwner, call: Call) -> Result<Reply, Call> {
+        let done = match &mut owner.ownership {
             Ownership::Shared(shared) => shared.perform(&self.rt, alloc, call, self.workers),
             Ownership::Alone(alone) => alone.perform_with(&self.rt, call, self.workers),
         };
@@ -108,10 +108,10 @@ impl<R: Threads + Wait + Sync> Performer for OnThreads<R> {
     fn ask<Q: EditorQuery>(
         &self,
         alloc: Global,
-        hand: &mut SessionOwner,
+        owner: &mut SessionOwner,
         query: &Q,
     ) -> Option<Q::Found> {
-        match &mut hand.ownership {
+        match &mut owner.ownership {
             Ownership::Shared(shared) => Some(shared.ask(&self.rt, alloc, query)),
             Ownership::Alone(alone) => Some(alone.ask(alloc, query)),
         }
@@ -124,10 +124,10 @@ impl Performer for ThisThread {
 
     ghost use Rattle.std.specs.Prelude.{◌≡◌, false};
 
-    ghost misses = { λ hand. hand.is_alone ≡ false };
+    ghost misses = { λ owner. owner.is_alone ≡ false };
 
-    fn perform(&self, _alloc: Global, hand: &mut SessionOwner, call: Call) -> Result<Reply, Call> {
-        let done = match &mut hand.ownership {
+    fn perform(&self, _alloc: Global, owner: &mut SessionOwner, call: Call) -> Result<Reply, Call> {
+        let done = match &mut owner.ownership {
             Ownership::Shared(shared) => Err(shared.turn_away(call)),
             Ownership::Alone(alone) => alone.perform(call),
         };
@@ -137,10 +137,10 @@ impl Performer for ThisThread {
     fn ask<Q: EditorQuery>(
         &self,
         alloc: Global,
-        hand: &mut SessionOwner,
+        owner: &mut SessionOwner,
         query: &Q,
     ) -> Option<Q::Found> {
-        match &hand.ownership {
+        match &owner.ownership {
             Ownership::Shared(shared) => {
                 shared.has_lock();
                 None

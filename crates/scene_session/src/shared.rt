@@ -69,7 +69,7 @@ impl Shared {
     /// where no memory is found.
     pub(crate) fn new(alloc: Global, editor: Editor, limit: u32) -> Result<Shared, AllocError>
         requires { (1 ≤ limit) × (limit ≤ 1048576) }
-        ensures { IfOk result (λ hand. hand ≡ opening_owner (whole_of editor) limit false) }
+        ensures { IfOk result (λ owner. owner ≡ opening_owner (whole_of editor) limit false) }
     {
         let state = State::new(alloc, editor, limit);
         let (lock, passes) = WordLock::new(alloc, state, SESSIONS)?;

@@ -7,7 +7,7 @@ use scene_session::State;
 
 /// The state behind the lock of a run, by the pass of session 0.
 pub fn state_left(end: RunEnd) -> Option<State>
-    requires { (hand : OwnerState) × AreOf end.lock end.passes.items hand }
+    requires { (owner : OwnerState) × AreOf end.lock end.passes.items owner }
 {
     let RunEnd {
         lock,

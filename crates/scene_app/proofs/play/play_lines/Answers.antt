@@ -16,7 +16,7 @@ lines-preserved g c =
     record {
       text = more.0 ∙ ap (λ ls. old ++ (printed_from c.lines.number before ls).text) whole ∙ c.lines.invariant.text;
       bad = more.1 ∙ ap (λ ls. noted c.lines.reports (printed_from c.lines.number before ls).bad) whole ∙ c.lines.invariant.bad;
-      hand = more.2 ∙ ap (λ ls. (printed_from c.lines.number before ls).hand) whole ∙ c.lines.invariant.hand;
+      owner = more.2 ∙ ap (λ ls. (printed_from c.lines.number before ls).owner) whole ∙ c.lines.invariant.owner;
       few = omega (arith, c.in_ok-play_line.ensures.few);
       room = omega arith;
     }

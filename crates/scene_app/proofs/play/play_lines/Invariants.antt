@@ -11,7 +11,7 @@ abbrev pub invariant-lines : goal.invariant-lines
 invariant-lines g l = record {
   text : string_bytes l.out ++ (printed_from l.number (interpreter_of l.interpreter) (lines l.rest)).text ≡ string_bytes l.initial.out ++ (printed_from 1 (interpreter_of l.initial.interpreter) (lines l.script)).text;
   bad : noted l.reports (printed_from l.number (interpreter_of l.interpreter) (lines l.rest)).bad ≡ noted no_bad_lines (printed_from 1 (interpreter_of l.initial.interpreter) (lines l.script)).bad;
-  hand : (printed_from l.number (interpreter_of l.interpreter) (lines l.rest)).hand ≡ (printed_from 1 (interpreter_of l.initial.interpreter) (lines l.script)).hand;
+  owner : (printed_from l.number (interpreter_of l.interpreter) (lines l.rest)).owner ≡ (printed_from 1 (interpreter_of l.initial.interpreter) (lines l.script)).owner;
   few : l.reports.count < l.number;
   room : l.number + length l.rest ≤ 1 + length l.script;
 }

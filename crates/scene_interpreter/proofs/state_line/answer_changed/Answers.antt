@@ -12,8 +12,8 @@ use Rattle.scene_interpreter.proofs.state_line.answer_changed.Goals as goal
 pub returns-in-Some-Err-clause-answer : goal.returns-in-Some-Err-clause-answer
 returns-in-Some-Err-clause-answer g c =
     let s = c.args.state.now in
-    since_refused Changed changed_since s c.all.result c.ask.new.hand c.in-Some-Err.refusal
+    since_refused Changed changed_since s c.all.result c.ask.new.owner c.in-Some-Err.refusal
     c.refused.result c.all.ensures.need c.all.ensures.without
-    (subst (λ (a : Result (Vec CellName) Refusal). ListsSince changed_since s.cursor c.all.result (machine_at s.hand) a)
+    (subst (λ (a : Result (Vec CellName) Refusal). ListsSince changed_since s.cursor c.all.result (machine_at s.owner) a)
     c.in-Some-Err.field-0-is c.in-Some-Err.ensures.answer)
     c.in-Some-Err.ensures.same c.refused.ensures.answer c.refused.ensures.memory

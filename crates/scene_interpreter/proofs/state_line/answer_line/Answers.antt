@@ -1,10 +1,10 @@
 use Rattle.std.proofs.Common.{IfOk, subst}
 use Rattle.scene_interpreter.specs.Answer.{Says}
-use Rattle.scene_interpreter.specs.Play.{Reply}
+use Rattle.scene_interpreter.specs.Play.{StateReply}
 use Rattle.scene_interpreter.proofs.FrameLaws.{alone_within}
 use Rattle.scene_interpreter.proofs.state_line.answer_line.Goals as goal
 
 pub returns-then-is_none-clause-answer : goal.returns-then-is_none-clause-answer
 returns-then-is_none-clause-answer g c =
-    subst (λ (r : Reply). IfOk c.answer_alone.result (λ answer. Says answer c.answer_alone.new.state r))
+    subst (λ (r : StateReply). IfOk c.answer_alone.result (λ answer. Says answer c.answer_alone.new.state r))
     (alone_within c.args.state.now c.args.line c.if-is_none.ensures) c.answer_alone.ensures.answer

@@ -1,7 +1,7 @@
 use Rattle.std.proofs.Common.{◌≡◌, sym, subst, IfOk}
 use Rattle.scene_session.specs.declared.state.Beginning.{Beginning}
 use Rattle.scene_session.specs.Calls.{asked, told}
-use Rattle.scene_session.specs.State.{StateView, IsKept, IsLegal, answer_after}
+use Rattle.scene_session.specs.State.{StateView, IsReplayOf, IsLegal, answer_after}
 use Rattle.scene_session.proofs.Entered.{kept_after, reply_after}
 use Rattle.scene_session.proofs.Props.{kept}
 use Rattle.scene_session.proofs.state.State.perform_with.Goals as goal
@@ -9,7 +9,7 @@ use Rattle.scene_session.proofs.state.State.perform_with.Goals as goal
 pub invariant_of-self : goal.invariant_of-self
 invariant_of-self g c =
     let o : Beginning = record { editor = c.self.inside.opening.value; limit = c.self.inside.limit } in
-    ∣ subst (λ l. IsKept o l c.self.inside.editor) (sym c.make_room.ensures.items) (kept o c.self.inside.history.items c.self.inside.editor c.self.invariant) ∣₁
+    ∣ subst (λ l. IsReplayOf o l c.self.inside.editor) (sym c.make_room.ensures.items) (kept o c.self.inside.history.items c.self.inside.editor c.self.invariant) ∣₁
 
 pub returns-in-Err-clause-legal : goal.returns-in-Err-clause-legal
 returns-in-Err-clause-legal g c =
