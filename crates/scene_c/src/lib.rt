@@ -1,4 +1,4 @@
-//! Scenes for C: an opaque pointer that holds one scene (`include/scene.h` has C's side; docs/LIBRARY.md, "From C").
+//! Scenes for C: an opaque pointer that holds one scene (`include/scene.h` has C's side; docs/BINDINGS.md, "From C").
 //!
 //! The pointer is a `Handle`, of an `OpenScene` on the heap: an interpreter without a lock, so that no call starts a
 //! thread or waits, with the last answer, which is asked for as one likes. A call takes the pointer's own place, so
