@@ -5,7 +5,7 @@ use scene_app::AppFault;
 use scene_command_line::ShellWords;
 use scene_replay::{OpeningLimits, StorePlace, StoreShellFault, run_store_shell};
 use scene_shell::KeptFault;
-use scene_store::{FileFault, FileLines, StoreFault, Unknown};
+use scene_store::{FileLines, StoreFault, StoreFileFault, Unknown};
 use std::io::BufReader;
 use std::sync::Wait;
 use std::thread::Threads;
@@ -36,7 +36,7 @@ impl<'a> StorePlace for StoreFile<'a> {
 
 /// Says on standard error what is wrong with the store at a path.
 fn told(rt: &HostRuntime, path: &str, fault: StoreFault) -> Ending {
-    let _told = eprintln!(rt; "scene: {}", FileFault { path, fault });
+    let _told = eprintln!(rt; "scene: {}", StoreFileFault { path, fault });
     Ending::Told
 }
 

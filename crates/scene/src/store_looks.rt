@@ -6,7 +6,9 @@ use scene_command_line::BackupWords;
 use scene_interpreter::InterpreterSettings;
 use scene_replay::{KeptLineFault, LogCounts, show_lines, write_log};
 use scene_script::Limit;
-use scene_store::{BackupFault, FileFault, StoreFault, StoredLines, Version, back_up, lines_at};
+use scene_store::{
+    BackupFault, StoreFault, StoreFileFault, StoredLines, Version, back_up, lines_at,
+};
 
 /// Says on standard error why kept lines weren't played, which is a fault.
 pub fn told_lines(rt: &HostRuntime, fault: &KeptLineFault) -> Ending {
@@ -16,7 +18,7 @@ pub fn told_lines(rt: &HostRuntime, fault: &KeptLineFault) -> Ending {
 
 /// Says on standard error what is wrong with the store at a path, which is a fault.
 pub fn told_store(rt: &HostRuntime, path: &str, fault: StoreFault) -> Ending {
-    let _told = eprintln!(rt; "scene: {}", FileFault { path, fault });
+    let _told = eprintln!(rt; "scene: {}", StoreFileFault { path, fault });
     Ending::Told
 }
 

@@ -7,7 +7,7 @@ use Rattle.scene_interpreter.proofs.LockLaws.{line_lock_stays}
 use Rattle.scene_interpreter.specs.Interpreter.{Interpreter, Setting, Playing, Tells, begun, halted, owner_of, lone_interpreter, lost, interpreter_said}
 use Rattle.scene_interpreter.specs.declared.halt.Halt.{Halt}
 use Rattle.scene_interpreter.specs.declared.halt.Halt.TheVariants.{Before, Begun, After, Lost}
-use Rattle.scene_interpreter.specs.declared.answer.Answer.{Answer}
+use Rattle.scene_interpreter.specs.declared.answer.LineAnswer.{LineAnswer}
 
 abbrev pub IsAlone : Interpreter → Type 0
 IsAlone p = (owner_of p).is_alone ≡ true
@@ -29,7 +29,7 @@ halted_alone After p next a b = b
 halted_alone Lost p next a b = lost_alone p a
 
 -- behind a line, also one that was halted
-pub played_alone : (p after : Interpreter) (said : Result Line BadLine) (result : Result Answer Halt) → IsAlone p → IfOk result (λ answer. Tells answer after (interpreter_said p said))
+pub played_alone : (p after : Interpreter) (said : Result Line BadLine) (result : Result LineAnswer Halt) → IsAlone p → IfOk result (λ answer. Tells answer after (interpreter_said p said))
     → IfErr result (λ h. after ≡ halted h p (interpreter_said p said).interpreter) → IsAlone after
 played_alone p after said (Ok answer) a ok err = subst IsAlone (sym ok.1) (line_lock_stays p said ∙ a)
 played_alone p after said (Err h) a ok err = subst IsAlone (sym err) (halted_alone h p (interpreter_said p said).interpreter a (line_lock_stays p said ∙ a))

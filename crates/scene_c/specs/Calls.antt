@@ -10,7 +10,7 @@ use Rattle.scene_pass.specs.declared.cell_name.CellName.{CellName}
 use Rattle.scene_session.specs.Calls.{Refused}
 use Rattle.scene_script.specs.declared.script_line.Line.{Line}
 use Rattle.scene_script.specs.declared.script_line.Line.TheVariants.{Do, Load}
-use Rattle.scene_interpreter.specs.declared.answer.Answer.TheVariants as code
+use Rattle.scene_interpreter.specs.declared.answer.LineAnswer.TheVariants as code
 use Rattle.scene_interpreter.specs.declared.halt.Halt.{Halt}
 use Rattle.scene_interpreter.specs.declared.halt.Halt.TheVariants.{Before, Begun, After, Lost}
 use Rattle.scene_interpreter.specs.Answer.{said_of}

@@ -8,14 +8,14 @@ ghost use Rattle.scene_interpreter.specs.declared.halt.Halt.TheVariants.{After};
 ghost use Rattle.scene_c.specs.OpenScene.{HasHalted, KeepsAnswer};
 
 use crate::open_scene::OpenScene;
-use scene_interpreter::{Answer, Halt};
+use scene_interpreter::{Halt, LineAnswer};
 use scene_script::Line;
 use scene_session::ThisThread;
 use std::alloc::{AllocError, Global};
 
 impl OpenScene {
     /// Keeps an answer with its text; where no memory is found for that, without one.
-    fn keep(&mut self, alloc: Global, answer: Answer) -> Result<(), Halt>
+    fn keep(&mut self, alloc: Global, answer: LineAnswer) -> Result<(), Halt>
         ensures answer { self.new.answer ≡ answer }
         ensures text { OnOk result (string_bytes self.new.text ≡ said_text (interpreter_kinds (interpreter_of self.old.interpreter)) (said_of answer)) }
         ensures halted { IfErr result (λ h. (h ≡ After) × (string_bytes self.new.text ≡ [])) }
@@ -104,7 +104,7 @@ impl OpenScene {
         ensures interpreter { interpreter_of self.new.interpreter ≡ interpreter_of self.old.interpreter }
         ensures cells { self.new.cells.items ≡ self.old.cells.items }
     {
-        let Answer::Bad(reason) = &self.answer else {
+        let LineAnswer::Bad(reason) = &self.answer else {
             return Ok(false);
         };
         let text = format!(in alloc; "{reason}")?;

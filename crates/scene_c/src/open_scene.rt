@@ -1,9 +1,9 @@
 //! The open scene: an interpreter and its last answer.
 ghost use Rattle.std.specs.Prelude.{◌≡◌, ◌++◌, ◌∷◌, [], OnErr, OnOk, true, string_bytes};
 ghost use Rattle.scene_interpreter.specs.Interpreter.{owner_of, lone_interpreter, interpreter_of};
-ghost use Rattle.scene_interpreter.specs.declared.answer.Answer.TheVariants.{Nothing};
+ghost use Rattle.scene_interpreter.specs.declared.answer.LineAnswer.TheVariants.{Nothing};
 
-use scene_interpreter::{Answer, Interpreter, InterpreterSettings};
+use scene_interpreter::{Interpreter, InterpreterSettings, LineAnswer};
 use scene_kinds::Value;
 use std::alloc::{AllocError, Global};
 use std::mem;
@@ -13,7 +13,7 @@ use std::mem;
 #[derive(Drop)]
 pub struct OpenScene {
     pub(crate) interpreter: Interpreter,
-    pub(crate) answer: Answer,
+    pub(crate) answer: LineAnswer,
     pub(crate) text: String,
     pub(crate) cells: Vec<(u8, Value)>,
     ghost alone: { (owner_of (interpreter_of interpreter)).is_alone ≡ true },
@@ -30,14 +30,14 @@ impl OpenScene {
     {
         OpenScene {
             interpreter: Interpreter::alone(alloc, InterpreterSettings::unlimited()),
-            answer: Answer::Nothing,
+            answer: LineAnswer::Nothing,
             text: String::new(alloc),
             cells: Vec::new(alloc),
         }
     }
 
     /// The last answer. It takes no memory.
-    pub fn answer(&self) -> &Answer
+    pub fn answer(&self) -> &LineAnswer
         ensures { result.now ≡ self.now.answer }
     {
         &self.answer

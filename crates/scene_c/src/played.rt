@@ -13,19 +13,19 @@ use crate::open_scene::OpenScene;
 use crate::value::{SceneCell, shown_cell};
 use crate::{BAD, DONE, LOST, NO_MEMORY, REFUSED, UNTOLD};
 use scene_commands::{Command, Components};
-use scene_interpreter::{Answer, Halt};
+use scene_interpreter::{Halt, LineAnswer};
 use scene_kinds::{Entity, Value};
 use scene_script::Line;
 use scene_session::Reply;
 use std::alloc::Global;
 
 /// The code of an answer, by what it means.
-fn answer_code(answer: &Answer) -> u32
+fn answer_code(answer: &LineAnswer) -> u32
     ensures { result ≡ said_code (said_of answer.now) }
 {
     match answer {
-        Answer::Replied(Reply::Refused(_)) | Answer::Fault(_) => REFUSED,
-        Answer::Bad(_) => BAD,
+        LineAnswer::Replied(Reply::Refused(_)) | LineAnswer::Fault(_) => REFUSED,
+        LineAnswer::Bad(_) => BAD,
         _ => DONE,
     }
 }
@@ -42,7 +42,7 @@ pub(crate) fn halt_code(halt: Halt) -> u32
 }
 
 /// The code of a call that an open scene has answered, or that was halted.
-fn code_of(came: Result<(), Halt>, answer: &Answer) -> u32
+fn code_of(came: Result<(), Halt>, answer: &LineAnswer) -> u32
     ensures { result ≡ code_of came (said_of answer.now) }
 {
     match came {

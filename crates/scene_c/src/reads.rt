@@ -9,7 +9,7 @@ ghost use Rattle.scene_c.specs.OpenScene.{HasRead, IsSetting, KeepsAnswer, made_
 
 use crate::open_scene::OpenScene;
 use crate::reading::Reading;
-use scene_interpreter::{Answer, Halt};
+use scene_interpreter::{Halt, LineAnswer};
 use scene_kinds::{CellRef, Entity, Refusal};
 use scene_pass::CellName;
 use scene_session::Reply;
@@ -39,13 +39,13 @@ impl OpenScene {
         };
         match found {
             Ok(Ok((reading, text))) => {
-                self.answer = Answer::Nothing;
+                self.answer = LineAnswer::Nothing;
                 self.text = text;
                 Ok(Some(reading))
             }
             Ok(Err(AllocError)) => Err(Halt::Begun),
             Err(refusal) => {
-                self.answer = Answer::Replied(Reply::Refused(refusal));
+                self.answer = LineAnswer::Replied(Reply::Refused(refusal));
                 self.text.clear();
                 Ok(None)
             }
@@ -68,7 +68,7 @@ impl OpenScene {
         ensures { result ≡ slice_get (made_in (said_of self.now.answer)) at }
     {
         match &self.answer {
-            Answer::Replied(Reply::Done(entities)) => entities.get(at).copied(),
+            LineAnswer::Replied(Reply::Done(entities)) => entities.get(at).copied(),
             _ => None,
         }
     }
@@ -78,8 +78,8 @@ impl OpenScene {
         ensures { result ≡ slice_get (named_in (said_of self.now.answer)) at }
     {
         match &self.answer {
-            Answer::Changed(cells) => cells.get(at).copied(),
-            Answer::Added(cells) => cells.get(at).copied(),
+            LineAnswer::Changed(cells) => cells.get(at).copied(),
+            LineAnswer::Added(cells) => cells.get(at).copied(),
             _ => None,
         }
     }
@@ -89,7 +89,7 @@ impl OpenScene {
         ensures { result ≡ refusal_in (said_of self.now.answer) }
     {
         match &self.answer {
-            Answer::Replied(Reply::Refused(refusal)) => Some(*refusal),
+            LineAnswer::Replied(Reply::Refused(refusal)) => Some(*refusal),
             _ => None,
         }
     }

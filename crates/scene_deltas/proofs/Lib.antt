@@ -9,12 +9,12 @@ pub mod Lists
 pub mod NextEntity
 pub mod Ready
 pub mod RowCells
-pub mod Same
+pub mod SameTests
 pub mod ShiftedKinds
 pub mod StandingRows
 pub mod TestedDeltas
 pub mod Tests
-pub mod Timely
 pub mod TimelyCells
+pub mod TimelyTests
 pub mod Truncated
 pub mod Turns

@@ -13,8 +13,8 @@ use Rattle.scene_model.specs.Can.{HasRow, HasLastRow, IsGoodCell, AreGoodCells, 
 use Rattle.scene_model.specs.Raw.{cells_of}
 use Rattle.scene_deltas.specs.Same.{same_cell, same_row, same_home, same_link}
 use Rattle.scene_deltas.specs.Tests as test
-use Rattle.scene_deltas.proofs.Same.{option_decides, pair_decides, entity_decides, cell_decides, row_decides, home_decides, link_decides}
-use Rattle.scene_deltas.proofs.Timely.{rows_decide, resources_decide}
+use Rattle.scene_deltas.proofs.SameTests.{option_decides, pair_decides, entity_decides, cell_decides, row_decides, home_decides, link_decides}
+use Rattle.scene_deltas.proofs.TimelyTests.{rows_decide, resources_decide}
 
 -- ---- tests of several parts
 

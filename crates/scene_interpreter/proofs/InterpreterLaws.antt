@@ -3,7 +3,7 @@ use Rattle.std.proofs.Common.{◌≡◌, Option, Some, None, Result, Ok, Err, If
 use Rattle.std.specs.Prelude.{MatchResult}
 use Rattle.scene_script.specs.declared.script_line.Line.{Line}
 use Rattle.scene_script.specs.declared.bad_line.BadLine.{BadLine}
-use Rattle.scene_interpreter.specs.declared.answer.Answer.{Answer}
+use Rattle.scene_interpreter.specs.declared.answer.LineAnswer.{LineAnswer}
 use Rattle.scene_interpreter.specs.declared.halt.Halt.{Halt}
 use Rattle.scene_interpreter.specs.declared.halt.Halt.TheVariants.{Begun}
 use Rattle.scene_interpreter.specs.declared.play_state.PlayState.{PlayState}
@@ -15,7 +15,7 @@ use Rattle.scene_interpreter.specs.Said.{bad_in, said_text}
 use Rattle.scene_interpreter.specs.Setup.{AnswersSetup}
 
 -- an answer behind the setup
-pub told : (answer : Answer) (state : PlayState) (r : StateReply) → Says answer state r → Tells answer (Playing state) (played r)
+pub told : (answer : LineAnswer) (state : PlayState) (r : StateReply) → Says answer state r → Tells answer (Playing state) (played r)
 told answer state r says = (
   says.0,
   ap Playing says.1,
@@ -24,7 +24,7 @@ told answer state r says = (
 )
 
 -- a line of a setup that was answered
-given_by : (s t : SetupState) (said : Result Line BadLine) (answer : Answer) (o : Option SetupReply)
+given_by : (s t : SetupState) (said : Result Line BadLine) (answer : LineAnswer) (o : Option SetupReply)
     → AnswersSetup s t said o (Given answer) → Tells answer (Setting t) (set_or_begun s said o)
 given_by s t said answer None h = absurd h
 given_by s t said answer (Some r) h = (
@@ -34,7 +34,7 @@ given_by s t said answer (Some r) h = (
   ap bad_in h.0,
 )
 
-pub given : (z : Interpreter) (s t : SetupState) (said : Result Line BadLine) (answer : Answer)
+pub given : (z : Interpreter) (s t : SetupState) (said : Result Line BadLine) (answer : LineAnswer)
     → z ≡ Setting s → AnswersSetup s t said (setup_said s said) (Given answer) → Tells answer (Setting t) (interpreter_said z said)
 given z s t said answer is h =
     subst (λ (y : Interpreter). Tells answer (Setting t) (interpreter_said y said)) (sym is) (given_by s t said answer (setup_said s said) h)
@@ -50,7 +50,7 @@ setup_stays : (z : Interpreter) (s t : SetupState) (said : Result Line BadLine) 
 setup_stays z s t said line is h = ap Setting (back s t said line (setup_said s said) h).2 ∙ sym is
 
 -- its reply is that of what follows the setup
-begins : (z : Interpreter) (s t : SetupState) (said : Result Line BadLine) (line : Line) (answer : Answer) (state : PlayState)
+begins : (z : Interpreter) (s t : SetupState) (said : Result Line BadLine) (line : Line) (answer : LineAnswer) (state : PlayState)
     → z ≡ Setting s → AnswersSetup s t said (setup_said s said) (Ends line)
     → Says answer state (said_reply (first_state t) (Ok line)) → Tells answer (Playing state) (interpreter_said z said)
 begins z s t said line answer state is h says =
@@ -63,20 +63,20 @@ begins z s t said line answer state is h says =
 
 -- a line that ends the setup, and is answered behind it or finds no memory there
 pub ends : {E : Type 0} (z : Interpreter) (s t : SetupState) (said : Result Line BadLine) (line : Line) (state : PlayState)
-    (answered : Result Answer E) (result : Result Answer Halt) → z ≡ Setting s
+    (answered : Result LineAnswer E) (result : Result LineAnswer Halt) → z ≡ Setting s
     → AnswersSetup s t said (setup_said s said) (Ends line)
     → MatchResult answered (λ answer. result ≡ Ok answer) (λ _. result ≡ Err Begun)
     → MatchResult answered (λ answer. Says answer state (said_reply (first_state t) (Ok line))) (λ _. state ≡ first_state t)
     → IfOk result (λ answer. Tells answer (Playing state) (interpreter_said z said))
     × IfErr result (λ h. Playing state ≡ halted h z (interpreter_said z said).interpreter)
 ends z s t said line state (Ok answer) result is h came says =
-    let Wanted : Result Answer Halt → Type 0 = λ r. IfOk r (λ a. Tells a (Playing state) (interpreter_said z said)) × IfErr r (λ x. Playing state ≡ halted x z (interpreter_said z said).interpreter) in
+    let Wanted : Result LineAnswer Halt → Type 0 = λ r. IfOk r (λ a. Tells a (Playing state) (interpreter_said z said)) × IfErr r (λ x. Playing state ≡ halted x z (interpreter_said z said).interpreter) in
     subst Wanted (sym came) (begins z s t said line answer state is h says, tt)
 ends z s t said line state (Err none) result is h came first =
     let b = back s t said line (setup_said s said) h in
     let next = (interpreter_said z said).interpreter in
     let at : Playing state ≡ halted Begun z next = ap Playing (first ∙ ap first_state b.2) ∙ ap (λ (y : Interpreter). halted Begun y next) (sym is) in
-    let Wanted : Result Answer Halt → Type 0 = λ r. IfOk r (λ a. Tells a (Playing state) (interpreter_said z said)) × IfErr r (λ x. Playing state ≡ halted x z next) in
+    let Wanted : Result LineAnswer Halt → Type 0 = λ r. IfOk r (λ a. Tells a (Playing state) (interpreter_said z said)) × IfErr r (λ x. Playing state ≡ halted x z next) in
     subst Wanted (sym came) (tt, at)
 
 -- a setup that a line would have ended, and for which no memory was found

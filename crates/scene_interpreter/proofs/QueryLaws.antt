@@ -11,8 +11,8 @@ use Rattle.scene_undo.specs.Cursor.{since}
 use Rattle.scene_session.specs.declared.call.Reply.TheVariants.{Refused}
 use Rattle.scene_session.specs.Queries.{ListsAfter, ListsSince}
 use Rattle.scene_session.specs.Owner.{OwnerState, machine_at}
-use Rattle.scene_interpreter.specs.declared.answer.Answer.{Answer}
-use Rattle.scene_interpreter.specs.declared.answer.Answer.TheVariants.{Replied}
+use Rattle.scene_interpreter.specs.declared.answer.LineAnswer.{LineAnswer}
+use Rattle.scene_interpreter.specs.declared.answer.LineAnswer.TheVariants.{Replied}
 use Rattle.scene_interpreter.specs.declared.play_state.PlayState.{PlayState}
 use Rattle.scene_interpreter.specs.Answer.{Says}
 use Rattle.scene_interpreter.specs.Play.{no_filter, now, query_reply, since_said, with_owner}
@@ -42,7 +42,7 @@ owner_kept s h same =
 
 -- cells since a cursor that were refused, with a filter that every kind set matches
 pub since_refused : {E : Type 0} (said : List CellName → Said) (list : World → Filter → ℕ → List CellName) (s : PlayState)
-    (f : Filter) (h : OwnerState) (r : Refusal) (result : Result Answer E) → f.need ≡ 0 → f.without ≡ 0
+    (f : Filter) (h : OwnerState) (r : Refusal) (result : Result LineAnswer E) → f.need ≡ 0 → f.without ≡ 0
     → ListsSince list s.cursor f (machine_at s.owner) (Err r) → h ≡ s.owner
     → IfOk result (λ answer. answer ≡ Replied (Refused r)) → OnOk result (r ≢ refusal_of NoMemory)
     → IfOk result (λ answer. Says answer (with_owner s h)

@@ -6,7 +6,7 @@ use Rattle.scene_systems.specs.declared.system_rule.SystemRule.{SystemRule}
 use Rattle.scene_script.specs.declared.script_line.Line.{Line}
 use Rattle.scene_script.specs.declared.bad_line.BadLine.{BadLine}
 use Rattle.scene_script.specs.Script.{line_in}
-use Rattle.scene_interpreter.specs.declared.answer.Answer.{Answer}
+use Rattle.scene_interpreter.specs.declared.answer.LineAnswer.{LineAnswer}
 use Rattle.scene_interpreter.specs.declared.halt.Halt.{Halt}
 use Rattle.scene_interpreter.specs.declared.halt.Halt.TheVariants.{Before, Begun, After, Lost}
 use Rattle.scene_interpreter.specs.declared.play_state.PlayState.{PlayState}
@@ -99,7 +99,7 @@ abbrev pub IsAnswered : (old new : List ℕ) → Interpreter → Option BadLine 
 IsAnswered old new after bad r = (new ≡ old ++ r.text) × (bad ≡ r.bad) × (after ≡ r.interpreter)
 
 -- an answer means what a reply says, the interpreter is the one after it, and so are the text and why the line is bad
-abbrev pub Tells : Answer → Interpreter → LineReply → Type 0
+abbrev pub Tells : LineAnswer → Interpreter → LineReply → Type 0
 Tells answer after r = (said_of answer ≡ r.said) × (after ≡ r.interpreter)
     × (said_text (interpreter_kinds after) (said_of answer) ≡ r.text) × (bad_in (said_of answer) ≡ r.bad)
 

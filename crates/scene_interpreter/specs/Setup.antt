@@ -2,7 +2,7 @@
 use Rattle.std.specs.Prelude.{◌≡◌, ℕ, max, [], Bool, true, false, Option, Some, None, Result, Ok}
 use Rattle.scene_script.specs.declared.script_line.Line.{Line}
 use Rattle.scene_script.specs.declared.bad_line.BadLine.{BadLine}
-use Rattle.scene_interpreter.specs.declared.answer.Answer.{Answer}
+use Rattle.scene_interpreter.specs.declared.answer.LineAnswer.{LineAnswer}
 use Rattle.scene_interpreter.specs.declared.setup.Setup.{Setup}
 use Rattle.scene_interpreter.specs.declared.setup.Base.{Base as Code}
 use Rattle.scene_interpreter.specs.declared.setup.Base.TheVariants as code
@@ -37,7 +37,7 @@ abbrev pub without_base : SetupState → SetupState
 without_base s = with_base s (Declared [] 1048576)
 
 -- an answer means what a reply of the setup says, and the setup is the one after it
-abbrev pub SetupSays : Answer → SetupState → SetupReply → Type 0
+abbrev pub SetupSays : LineAnswer → SetupState → SetupReply → Type 0
 SetupSays answer after r = (said_of answer ≡ r.said) × (after ≡ r.setup)
 
 -- a line that has a reply in the setup was answered so, and a line that has none was handed back, and nothing changed

@@ -8,7 +8,7 @@ ghost use Rattle.scene_session.specs.Calls.{told};
 ghost use Rattle.scene_session.specs.declared.call.Reply.TheVariants.{Refused};
 ghost use Rattle.scene_interpreter.specs.Answer.{said_of};
 ghost use Rattle.scene_interpreter.specs.Said.{answer_text, bad_in, made_text, refused_text, said_text};
-ghost use Rattle.scene_interpreter.specs.declared.answer.Answer.TheVariants.{Fault as SaysFault, Replied};
+ghost use Rattle.scene_interpreter.specs.declared.answer.LineAnswer.TheVariants.{Fault as SaysFault, Replied};
 
 use crate::file_fault_text::write_file_fault;
 use scene_file::FileFault;
@@ -23,7 +23,7 @@ use std::alloc::{AllocError, Global};
 /// What a line is answered with (docs/SCRIPTS.md, "Lines"). `write_text` says it as a script does. Contracts see what
 /// it means: `said_of` in `specs/Answer.antt`.
 #[derive(Drop)]
-pub enum Answer {
+pub enum LineAnswer {
     /// Nothing: the line is empty or a comment.
     Nothing,
     /// The setup, the open frame, the turn or the systems are now as the line says.
@@ -49,24 +49,24 @@ pub enum Answer {
 }
 
 /// The answer of a refusal; want of memory is none.
-pub(crate) fn refused(refusal: Refusal) -> Result<Answer, AllocError>
+pub(crate) fn refused(refusal: Refusal) -> Result<LineAnswer, AllocError>
     ensures answer { IfOk result (λ answer. answer ≡ Replied (Refused refusal)) }
     ensures memory { OnOk result (refusal ≢ refusal_of NoMemory) }
 {
     match refusal.fault {
         Fault::NoMemory => Err(AllocError),
-        _ => Ok(Answer::Replied(Reply::Refused(refusal))),
+        _ => Ok(LineAnswer::Replied(Reply::Refused(refusal))),
     }
 }
 
 /// The answer of a fault of a scene text; want of memory is none.
-pub(crate) fn faulty(fault: FileFault) -> Result<Answer, AllocError>
+pub(crate) fn faulty(fault: FileFault) -> Result<LineAnswer, AllocError>
     ensures answer { IfOk result (λ answer. answer ≡ SaysFault fault) }
     ensures memory { OnOk result (fault ≢ FileWantsMemory) }
 {
     match fault {
         FileFault::NoMemory => Err(AllocError),
-        _ => Ok(Answer::Fault(fault)),
+        _ => Ok(LineAnswer::Fault(fault)),
     }
 }
 
@@ -100,7 +100,7 @@ fn write_reply(out: &mut String, reply: &Reply) -> Result<(), AllocError>
     }
 }
 
-impl Answer {
+impl LineAnswer {
     /// Adds the answer as a script prints it, where these are the kinds. It costs the text. An error only where no
     /// memory was found; a part may be added then.
     pub fn write_text(
@@ -112,19 +112,19 @@ impl Answer {
         ensures { OnOk result (Adds out.old out.new (said_text schema.now (said_of self.now))) }
     {
         match self {
-            Answer::Nothing => Ok(()),
-            Answer::Taken => out.push_str("ok\n"),
-            Answer::Queued => out.push_str("queued\n"),
-            Answer::Replied(reply) => write_reply(out, reply),
-            Answer::Fault(fault) => write_file_fault(alloc, out, fault),
-            Answer::Marked(cursor) => {
+            LineAnswer::Nothing => Ok(()),
+            LineAnswer::Taken => out.push_str("ok\n"),
+            LineAnswer::Queued => out.push_str("queued\n"),
+            LineAnswer::Replied(reply) => write_reply(out, reply),
+            LineAnswer::Fault(fault) => write_file_fault(alloc, out, fault),
+            LineAnswer::Marked(cursor) => {
                 Ok(write!(out, "mark {} {}\n", cursor.rewinds, cursor.tick)?)
             }
-            Answer::Counted(count) => Ok(write!(out, "history {count}\n")?),
-            Answer::Text(text) => out.push_str(text.as_str()),
-            Answer::Changed(cells) => write_listed(out, "changed", schema, cells.as_slice()),
-            Answer::Added(cells) => write_listed(out, "added", schema, cells.as_slice()),
-            Answer::Bad(_) => out.push_str("bad line\n"),
+            LineAnswer::Counted(count) => Ok(write!(out, "history {count}\n")?),
+            LineAnswer::Text(text) => out.push_str(text.as_str()),
+            LineAnswer::Changed(cells) => write_listed(out, "changed", schema, cells.as_slice()),
+            LineAnswer::Added(cells) => write_listed(out, "added", schema, cells.as_slice()),
+            LineAnswer::Bad(_) => out.push_str("bad line\n"),
         }
     }
 
@@ -133,7 +133,7 @@ impl Answer {
         ensures { result ≡ bad_in (said_of self) }
     {
         match self {
-            Answer::Bad(reason) => Some(reason),
+            LineAnswer::Bad(reason) => Some(reason),
             _ => None,
         }
     }

@@ -5,7 +5,7 @@ ghost use Rattle.scene_interpreter.specs.Answer.{Says};
 ghost use Rattle.scene_interpreter.specs.OpenFrame.{queues_of, with_command};
 ghost use Rattle.scene_interpreter.specs.Play.{frame_reply, queued_reply, with_frame};
 
-use crate::answer::{Answer, refused};
+use crate::answer::{LineAnswer, refused};
 use crate::open_frame::OpenFrame;
 use crate::play_state::PlayState;
 use crate::state_line::answer_call_or_back;
@@ -20,7 +20,7 @@ fn answer_queued(
     state: &mut PlayState,
     frame: OpenFrame,
     command: Command,
-) -> Result<Answer, AllocError>
+) -> Result<LineAnswer, AllocError>
     ensures answer { IfOk result (λ answer. Says answer state.new (queued_reply state.old frame (with_command frame command))) }
     ensures same { OnErr result (state.new ≡ with_frame state.old (Some frame)) }
 {
@@ -28,7 +28,7 @@ fn answer_queued(
     let pushed = frame.push(command);
     state.frame = Some(frame);
     match pushed {
-        Ok(()) => Ok(Answer::Queued),
+        Ok(()) => Ok(LineAnswer::Queued),
         Err(refusal) => refused(refusal),
     }
 }
@@ -38,7 +38,7 @@ fn answer_queue(
     alloc: Global,
     state: &mut PlayState,
     frame: OpenFrame,
-) -> Result<Answer, AllocError>
+) -> Result<LineAnswer, AllocError>
     ensures answer { IfOk result (λ answer. Says answer state.new (frame_reply state.old frame FurtherQueue)) }
     ensures same { OnErr result (state.new ≡ with_frame state.old (Some frame)) }
 {
@@ -46,7 +46,7 @@ fn answer_queue(
     let added = frame.add_queue(alloc);
     state.frame = Some(frame);
     added?;
-    Ok(Answer::Taken)
+    Ok(LineAnswer::Taken)
 }
 
 /// The queues of a frame that is to be committed; or the frame, where no memory was found. One of more queues than 32
@@ -69,7 +69,7 @@ fn answer_commit<P: Performer>(
     alloc: Global,
     state: &mut PlayState,
     frame: OpenFrame,
-) -> Result<Answer, AllocError>
+) -> Result<LineAnswer, AllocError>
     ensures answer { IfOk result (λ answer. Says answer state.new (frame_reply state.old frame Commit)) }
     ensures same { OnErr result (state.new ≡ with_frame state.old (Some frame)) }
 {
@@ -100,7 +100,7 @@ pub(crate) fn answer_in_frame<P: Performer>(
     state: &mut PlayState,
     frame: OpenFrame,
     line: Line,
-) -> Result<Answer, AllocError>
+) -> Result<LineAnswer, AllocError>
     ensures answer { IfOk result (λ answer. Says answer state.new (frame_reply state.old frame line)) }
     ensures same { OnErr result (state.new ≡ with_frame state.old (Some frame)) }
 {
@@ -108,11 +108,11 @@ pub(crate) fn answer_in_frame<P: Performer>(
         Line::Do(command) => return answer_queued(state, frame, command),
         Line::Queue => return answer_queue(alloc, state, frame),
         Line::Commit => return answer_commit(performer, alloc, state, frame),
-        Line::Empty => Answer::Nothing,
+        Line::Empty => LineAnswer::Nothing,
         Line::Kind(..) | Line::Slots(_) | Line::Load(_) | Line::Calls(_) | Line::Depth(_) => {
-            Answer::Bad(BadLine::SetupEnded)
+            LineAnswer::Bad(BadLine::SetupEnded)
         }
-        _ => Answer::Bad(BadLine::FrameOpen),
+        _ => LineAnswer::Bad(BadLine::FrameOpen),
     };
     state.frame = Some(frame);
     Ok(answer)

@@ -10,7 +10,7 @@ ghost use Rattle.scene_interpreter.specs.Interpreter.{HaltsSetup, HasNoEditor, I
 ghost use Rattle.scene_interpreter.specs.Setup.{setup_of};
 ghost use Rattle.scene_interpreter.specs.declared.halt.Halt.TheVariants.{After, Begun};
 
-use crate::answer::Answer;
+use crate::answer::LineAnswer;
 use crate::changes::{changes_setup, changes_state};
 use crate::halt::Halt;
 use crate::play_state::PlayState;
@@ -65,7 +65,7 @@ fn begin<P: Performer>(
     alloc: Global,
     setup: &mut Setup,
     line: Line,
-) -> Result<(PlayState, Result<Answer, AllocError>), Halt>
+) -> Result<(PlayState, Result<LineAnswer, AllocError>), Halt>
     ensures begun { IfOk result (λ p. MatchResult p.1 (λ answer. Says answer p.0 (said_reply (first_state (setup_of setup.old)) (Ok line)))
         (λ _. p.0 ≡ first_state (setup_of setup.old))) }
     ensures halted { IfErr result (λ h. HaltsSetup h (setup_of setup.old) (setup_of setup.new)) }
@@ -107,7 +107,7 @@ fn owner_of_setup(alloc: Global, setup: Setup) -> Result<SessionOwner, AllocErro
 }
 
 /// What a line that ended the setup came to.
-fn after_begin(answered: Result<Answer, AllocError>) -> Result<Answer, Halt>
+fn after_begin(answered: Result<LineAnswer, AllocError>) -> Result<LineAnswer, Halt>
     ensures { MatchResult answered (λ answer. result ≡ Ok answer) (λ _. result ≡ Err Begun) }
 {
     match answered {
@@ -230,7 +230,7 @@ impl Interpreter {
         &mut self,
         performer: &P,
         said: Result<Line, BadLine>,
-    ) -> Result<Answer, Halt>
+    ) -> Result<LineAnswer, Halt>
         ensures answer { IfOk result (λ answer. Tells answer (interpreter_of self.new) (interpreter_said (interpreter_of self.old) said)) }
         ensures halted { IfErr result (λ h. interpreter_of self.new
             ≡ halted h (interpreter_of self.old) (interpreter_said (interpreter_of self.old) said).interpreter) }
@@ -262,7 +262,7 @@ impl Interpreter {
         &mut self,
         performer: &P,
         said: Result<Line, BadLine>,
-    ) -> Result<Answer, Halt>
+    ) -> Result<LineAnswer, Halt>
         ensures answer { IfOk result (λ answer. Tells answer (interpreter_of self.new) (interpreter_said (interpreter_of self.old) said)) }
         ensures halted { IfErr result (λ h. interpreter_of self.new
             ≡ halted h (interpreter_of self.old) (interpreter_said (interpreter_of self.old) said).interpreter) }
@@ -283,7 +283,7 @@ impl Interpreter {
     ///
     /// Halted only for want of memory: `Before` and `Begun`, where the line isn't done; `Lost`, where it would have
     /// ended the setup, whose kinds or scene are lost.
-    pub fn play<P: Performer>(&mut self, performer: &P, bytes: &[u8]) -> Result<Answer, Halt>
+    pub fn play<P: Performer>(&mut self, performer: &P, bytes: &[u8]) -> Result<LineAnswer, Halt>
         ensures answer { IfOk result (λ answer. Tells answer (interpreter_of self.new) (interpreter_reply (interpreter_of self.old) bytes.now)) }
         ensures halted { IfErr result (λ h. interpreter_of self.new
             ≡ halted h (interpreter_of self.old) (interpreter_reply (interpreter_of self.old) bytes.now).interpreter) }

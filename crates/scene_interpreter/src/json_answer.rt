@@ -6,7 +6,7 @@ ghost use Rattle.scene_session.specs.Calls.{told};
 ghost use Rattle.scene_interpreter.specs.Answer.{said_of};
 ghost use Rattle.scene_interpreter.specs.JsonAnswer.{answer_json, bad_json, history_json, json_text, made_json, mark_json, plain_json, reply_json};
 
-use crate::answer::Answer;
+use crate::answer::LineAnswer;
 use scene_json::write_json_text;
 use scene_json_forms::write_entities;
 use scene_kinds::{Entity, Schema};
@@ -73,11 +73,11 @@ fn write_bad(alloc: Global, out: &mut String, words: &str) -> Result<(), AllocEr
     out.push_str("}")
 }
 
-impl Answer {
+impl LineAnswer {
     /// The words that say why the line is bad, where it is.
     fn bad_words(&self, alloc: Global) -> Result<String, AllocError> {
         match self {
-            Answer::Bad(reason) => format!(in alloc; "{reason}"),
+            LineAnswer::Bad(reason) => format!(in alloc; "{reason}"),
             _ => Ok(String::new(alloc)),
         }
     }
@@ -94,25 +94,25 @@ impl Answer {
         ensures { OnOk result (Adds out.old out.new (compact_text (answer_json schema.now words.now (said_of self.now)))) }
     {
         match self {
-            Answer::Nothing => out.push_str("{\"answer\":\"nothing\"}"),
-            Answer::Taken => out.push_str("{\"answer\":\"ok\"}"),
-            Answer::Queued => out.push_str("{\"answer\":\"queued\"}"),
-            Answer::Replied(reply) => write_reply(out, reply),
-            Answer::Fault(fault) => write_json_fault(alloc, out, fault),
-            Answer::Marked(cursor) => write_mark(out, *cursor),
-            Answer::Counted(count) => write_history(out, *count),
-            Answer::Text(text) => write_plain(alloc, out, text.as_str()),
-            Answer::Changed(cells) => {
+            LineAnswer::Nothing => out.push_str("{\"answer\":\"nothing\"}"),
+            LineAnswer::Taken => out.push_str("{\"answer\":\"ok\"}"),
+            LineAnswer::Queued => out.push_str("{\"answer\":\"queued\"}"),
+            LineAnswer::Replied(reply) => write_reply(out, reply),
+            LineAnswer::Fault(fault) => write_json_fault(alloc, out, fault),
+            LineAnswer::Marked(cursor) => write_mark(out, *cursor),
+            LineAnswer::Counted(count) => write_history(out, *count),
+            LineAnswer::Text(text) => write_plain(alloc, out, text.as_str()),
+            LineAnswer::Changed(cells) => {
                 write_json_listed(alloc, out, "changed", schema, cells.as_slice())
             }
-            Answer::Added(cells) => write_json_listed(
+            LineAnswer::Added(cells) => write_json_listed(
                 alloc,
                 out,
                 "added",
                 schema,
                 cells.as_slice(),
             ),
-            Answer::Bad(_) => write_bad(alloc, out, words),
+            LineAnswer::Bad(_) => write_bad(alloc, out, words),
         }
     }
 

@@ -142,7 +142,7 @@ impl Interpreter {
 
     /// Plays a line, and adds its answer as one line of JSON (docs/SHELL.md, "JSON"). It gives why the line is bad,
     /// where it is. `show`, `get`, `dump` and `dumpall` add what they ask for by its parts, and any other line its
-    /// `Answer`. It costs what `line` costs, and outside a frame one more reading of the line.
+    /// `LineAnswer`. It costs what `line` costs, and outside a frame one more reading of the line.
     ///
     /// Halted only for want of memory, as `line` is. A part of the answer may be added then.
     pub fn line_json<P: Performer>(

@@ -1,9 +1,9 @@
 //! The interpreter of a script's lines: what each line answers.
 //!
-//! An `Interpreter` takes the bytes of a line and gives its `Answer`, which says itself as a script prints it; all else
-//! it keeps: the setup, the sessions of the state, the frame that is open, the systems and the cursor. What a line says
-//! is scene_script's; what it does and answers is here, exact against `interpreter_reply` in `specs/Interpreter.antt`,
-//! which speaks of the machine of saved worlds (docs/SCRIPTS.md explains the language).
+//! An `Interpreter` takes the bytes of a line and gives its `LineAnswer`, which says itself as a script prints it; all
+//! else it keeps: the setup, the sessions of the state, the frame that is open, the systems and the cursor. What a line
+//! says is scene_script's; what it does and answers is here, exact against `interpreter_reply` in
+//! `specs/Interpreter.antt`, which speaks of the machine of saved worlds (docs/SCRIPTS.md explains the language).
 #![tactic(auto)]
 
 mod answer;
@@ -26,7 +26,7 @@ mod setup_line;
 mod state_line;
 mod systems_line;
 
-pub use answer::Answer;
+pub use answer::LineAnswer;
 pub use file_fault_text::answer_file_fault;
 pub use halt::Halt;
 pub use interpreter::Interpreter;

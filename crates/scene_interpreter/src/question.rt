@@ -5,7 +5,7 @@ ghost use Rattle.scene_interpreter.specs.Answer.{said_of};
 ghost use Rattle.scene_interpreter.specs.Play.{dump_said, get_said};
 ghost use Rattle.scene_interpreter.specs.Said.{Text};
 
-use crate::answer::{Answer, faulty, refused};
+use crate::answer::{LineAnswer, faulty, refused};
 use scene_file::{save_editor_text, save_text};
 use scene_kinds::{Entity, Fault, Refusal};
 use scene_print::{write_row, write_show};
@@ -26,16 +26,16 @@ pub(crate) enum WorldText {
 }
 
 /// What `show` is answered with.
-fn shown(alloc: Global, world: &World) -> Result<Answer, AllocError>
+fn shown(alloc: Global, world: &World) -> Result<LineAnswer, AllocError>
     ensures { IfOk result (λ answer. said_of answer ≡ Text (show_text world.now.world)) }
 {
     let mut text = String::new(alloc);
     write_show(alloc, &mut text, world)?;
-    Ok(Answer::Text(text))
+    Ok(LineAnswer::Text(text))
 }
 
 /// What `get` is answered with.
-fn got(alloc: Global, world: &World, entity: Entity) -> Result<Answer, AllocError>
+fn got(alloc: Global, world: &World, entity: Entity) -> Result<LineAnswer, AllocError>
     ensures { IfOk result (λ answer. said_of answer ≡ get_said world.now.world entity) }
 {
     match world.row_of(entity) {
@@ -44,18 +44,18 @@ fn got(alloc: Global, world: &World, entity: Entity) -> Result<Answer, AllocErro
             let mut text = String::new(alloc);
             write_row(alloc, &mut text, world.schema(), table, at)?;
             text.push('\n')?;
-            Ok(Answer::Text(text))
+            Ok(LineAnswer::Text(text))
         }
     }
 }
 
 /// What `dump` is answered with.
 #[tactic(auto, using(crate::proofs::FileFaultLaws::is_wanted))]
-fn dumped(alloc: Global, world: &World) -> Result<Answer, AllocError>
+fn dumped(alloc: Global, world: &World) -> Result<LineAnswer, AllocError>
     ensures { IfOk result (λ answer. said_of answer ≡ dump_said world.now.world) }
 {
     match save_text(alloc, world) {
-        Ok(text) => Ok(Answer::Text(text)),
+        Ok(text) => Ok(LineAnswer::Text(text)),
         Err(fault) => faulty(fault),
     }
 }
@@ -65,7 +65,7 @@ fn dumped(alloc: Global, world: &World) -> Result<Answer, AllocError>
 pub(crate) struct EditorText;
 
 impl EditorQuery for EditorText {
-    type Found = Result<Answer, AllocError>;
+    type Found = Result<LineAnswer, AllocError>;
 
     ghost use Rattle.std.specs.Prelude.{◌≡◌, IfOk};
     ghost use Rattle.scene_interpreter.specs.Answer.{said_of};
@@ -74,16 +74,16 @@ impl EditorQuery for EditorText {
     ghost finds = { λ q w a. IfOk a (λ answer. said_of answer ≡ dumpall_said w) };
 
     #[tactic(auto, using(crate::proofs::FileFaultLaws::is_wanted))]
-    fn find(&self, alloc: Global, editor: &Editor) -> Result<Answer, AllocError> {
+    fn find(&self, alloc: Global, editor: &Editor) -> Result<LineAnswer, AllocError> {
         match save_editor_text(alloc, editor) {
-            Ok(text) => Ok(Answer::Text(text)),
+            Ok(text) => Ok(LineAnswer::Text(text)),
             Err(fault) => faulty(fault),
         }
     }
 }
 
 impl EditorQuery for WorldText {
-    type Found = Result<Answer, AllocError>;
+    type Found = Result<LineAnswer, AllocError>;
 
     ghost use Rattle.std.specs.Prelude.{◌≡◌, IfOk};
     ghost use Rattle.scene_interpreter.specs.Answer.{said_of};
@@ -91,7 +91,7 @@ impl EditorQuery for WorldText {
 
     ghost finds = { λ q w a. IfOk a (λ answer. said_of answer ≡ asked_said q w.machine.now) };
 
-    fn find(&self, alloc: Global, editor: &Editor) -> Result<Answer, AllocError> {
+    fn find(&self, alloc: Global, editor: &Editor) -> Result<LineAnswer, AllocError> {
         match *self {
             WorldText::Show => shown(alloc, editor.world()),
             WorldText::Get(entity) => got(alloc, editor.world(), entity),

@@ -5,7 +5,7 @@ ghost use Rattle.scene_machine.specs.Machine.{most_frames};
 ghost use Rattle.scene_interpreter.specs.Play.{calls_reply, depth_reply, kind_reply, load_reply, setup_said, slots_reply};
 ghost use Rattle.scene_interpreter.specs.Setup.{AnswersSetup, SetupSays, base_of, setup_of};
 
-use crate::answer::{Answer, faulty, refused};
+use crate::answer::{LineAnswer, faulty, refused};
 use crate::setup::{Base, Setup};
 use scene_file::load_editor_text;
 use scene_kinds::Shape;
@@ -17,7 +17,7 @@ use std::alloc::{AllocError, Global};
 #[derive(Drop)]
 pub(crate) enum SetupAnswer {
     /// It is answered.
-    Given(Answer),
+    Given(LineAnswer),
     /// It ends the setup, and isn't answered yet.
     Ends(Line),
 }
@@ -28,35 +28,35 @@ fn answer_kind(
     setup: &mut Setup,
     name: &str,
     shape: Shape,
-) -> Result<Answer, AllocError>
+) -> Result<LineAnswer, AllocError>
     ensures answer { IfOk result (λ answer. SetupSays answer (setup_of setup.new)
         (kind_reply (setup_of setup.old) (base_of setup.old.base) name.now shape)) }
     ensures same { OnErr result (setup_of setup.new ≡ setup_of setup.old) }
 {
     let Base::Declared(schema, _) = &mut setup.base else {
-        return Ok(Answer::Bad(BadLine::SceneLoaded));
+        return Ok(LineAnswer::Bad(BadLine::SceneLoaded));
     };
     let name = String::from_str(alloc, name)?;
     match schema.add(name, shape) {
-        Ok(_) => Ok(Answer::Taken),
+        Ok(_) => Ok(LineAnswer::Taken),
         Err(refusal) => refused(refusal),
     }
 }
 
 /// `slots`.
-fn answer_slots(setup: &mut Setup, slots: Limit) -> Answer
+fn answer_slots(setup: &mut Setup, slots: Limit) -> LineAnswer
     ensures { SetupSays result (setup_of setup.new) (slots_reply (setup_of setup.old) (base_of setup.old.base) slots) }
 {
     let Base::Declared(_, limit) = &mut setup.base else {
-        return Answer::Bad(BadLine::SceneLoaded);
+        return LineAnswer::Bad(BadLine::SceneLoaded);
     };
     *limit = slots;
-    Answer::Taken
+    LineAnswer::Taken
 }
 
 /// `load`. One that fails leaves the setup as it was.
 #[tactic(auto, using(crate::proofs::FileFaultLaws::is_wanted))]
-fn answer_load(alloc: Global, setup: &mut Setup, text: &str) -> Result<Answer, AllocError>
+fn answer_load(alloc: Global, setup: &mut Setup, text: &str) -> Result<LineAnswer, AllocError>
     ensures answer { IfOk result (λ answer. SetupSays answer (setup_of setup.new)
         (load_reply (setup_of setup.old) (loaded_editor most_frames text.now))) }
     ensures same { OnErr result (setup_of setup.new ≡ setup_of setup.old) }
@@ -64,26 +64,26 @@ fn answer_load(alloc: Global, setup: &mut Setup, text: &str) -> Result<Answer, A
     match load_editor_text(alloc, text.as_bytes(), MOST_FRAMES) {
         Ok(editor) => {
             setup.base = Base::Loaded(editor);
-            Ok(Answer::Taken)
+            Ok(LineAnswer::Taken)
         }
         Err(fault) => faulty(fault),
     }
 }
 
 /// `calls`.
-fn answer_calls(setup: &mut Setup, calls: Limit) -> Answer
+fn answer_calls(setup: &mut Setup, calls: Limit) -> LineAnswer
     ensures { SetupSays result (setup_of setup.new) (calls_reply (setup_of setup.old) calls) }
 {
     setup.calls.set(calls);
-    Answer::Taken
+    LineAnswer::Taken
 }
 
 /// `depth`.
-fn answer_depth(setup: &mut Setup, depth: Limit) -> Answer
+fn answer_depth(setup: &mut Setup, depth: Limit) -> LineAnswer
     ensures { SetupSays result (setup_of setup.new) (depth_reply (setup_of setup.old) depth) }
 {
     setup.depth = depth;
-    Answer::Taken
+    LineAnswer::Taken
 }
 
 /// Answers what a line of the setup says, or hands a line back that ends it. Where no memory is found, the setup is as
@@ -97,9 +97,9 @@ pub(crate) fn answer_setup(
     ensures same { OnErr result (setup_of setup.new ≡ setup_of setup.old) }
 {
     let answer = match said {
-        Err(reason) => Answer::Bad(reason),
-        Ok(Line::Queue | Line::Commit) => Answer::Bad(BadLine::NoFrame),
-        Ok(Line::Empty) => Answer::Nothing,
+        Err(reason) => LineAnswer::Bad(reason),
+        Ok(Line::Queue | Line::Commit) => LineAnswer::Bad(BadLine::NoFrame),
+        Ok(Line::Empty) => LineAnswer::Nothing,
         Ok(Line::Kind(name, shape)) => answer_kind(alloc, setup, name.as_str(), shape)?,
         Ok(Line::Slots(slots)) => answer_slots(setup, slots),
         Ok(Line::Load(text)) => answer_load(alloc, setup, text.as_str())?,

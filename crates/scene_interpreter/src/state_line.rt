@@ -7,7 +7,7 @@ ghost use Rattle.scene_interpreter.specs.OpenFrame.{alone};
 ghost use Rattle.scene_interpreter.specs.Play.{call_reply, line_reply, lone_reply, now, query_reply, said_reply};
 ghost use Rattle.scene_interpreter.specs.Questions.{asked_said};
 
-use crate::answer::{Answer, refused};
+use crate::answer::{LineAnswer, refused};
 use crate::frame_line::answer_in_frame;
 use crate::open_frame::OpenFrame;
 use crate::play_state::PlayState;
@@ -26,14 +26,14 @@ pub(crate) fn answer_call_or_back<P: Performer>(
     alloc: Global,
     state: &mut PlayState,
     call: Call,
-) -> Result<Answer, Call>
+) -> Result<LineAnswer, Call>
     requires { queue_count call ≤ 4294967295 }
     ensures answer { IfOk result (λ answer. Says answer state.new (call_reply state.old (asked call))) }
     ensures back { IfErr result (λ back. back ≡ call) }
     ensures same { OnErr result (state.new ≡ state.old) }
 {
     let reply = performer.perform(alloc, &mut state.owner, call)?;
-    Ok(Answer::Replied(reply))
+    Ok(LineAnswer::Replied(reply))
 }
 
 /// A call of the session whose turn it is.
@@ -43,13 +43,13 @@ pub(crate) fn answer_call<P: Performer>(
     alloc: Global,
     state: &mut PlayState,
     call: Call,
-) -> Result<Answer, AllocError>
+) -> Result<LineAnswer, AllocError>
     requires { queue_count call ≤ 4294967295 }
     ensures answer { IfOk result (λ answer. Says answer state.new (call_reply state.old (asked call))) }
     ensures same { OnErr result (state.new ≡ state.old) }
 {
     match performer.perform(alloc, &mut state.owner, call) {
-        Ok(reply) => Ok(Answer::Replied(reply)),
+        Ok(reply) => Ok(LineAnswer::Replied(reply)),
         Err(_) => Err(AllocError),
     }
 }
@@ -73,7 +73,7 @@ fn answer_command<P: Performer>(
     alloc: Global,
     state: &mut PlayState,
     command: Command,
-) -> Result<Answer, AllocError>
+) -> Result<LineAnswer, AllocError>
     ensures answer { IfOk result (λ answer. Says answer state.new (call_reply state.old (Submit (alone command)))) }
     ensures same { OnErr result (state.new ≡ state.old) }
 {
@@ -82,19 +82,19 @@ fn answer_command<P: Performer>(
 }
 
 /// `begin`.
-fn answer_begin(alloc: Global, state: &mut PlayState) -> Answer
+fn answer_begin(alloc: Global, state: &mut PlayState) -> LineAnswer
     ensures { Says result state.new (lone_reply state.old Begin) }
 {
     state.frame = Some(OpenFrame::new(alloc));
-    Answer::Taken
+    LineAnswer::Taken
 }
 
 /// `as`.
-fn answer_as(state: &mut PlayState, session: SessionNumber) -> Answer
+fn answer_as(state: &mut PlayState, session: SessionNumber) -> LineAnswer
     ensures { Says result state.new (lone_reply state.old (As session)) }
 {
     state.owner.turn_to(session.get());
-    Answer::Taken
+    LineAnswer::Taken
 }
 
 /// What is asked of the world.
@@ -103,7 +103,7 @@ fn answer_world<P: Performer>(
     alloc: Global,
     state: &mut PlayState,
     asked: WorldText,
-) -> Result<Answer, AllocError>
+) -> Result<LineAnswer, AllocError>
     ensures answer { IfOk result (λ answer. Says answer state.new (query_reply state.old (asked_said asked (now state.old)))) }
     ensures same { OnErr result (state.new ≡ state.old) }
 {
@@ -118,7 +118,7 @@ fn answer_dumpall<P: Performer>(
     performer: &P,
     alloc: Global,
     state: &mut PlayState,
-) -> Result<Answer, AllocError>
+) -> Result<LineAnswer, AllocError>
     ensures answer { IfOk result (λ answer. Says answer state.new (lone_reply state.old DumpAll)) }
     ensures same { OnErr result (state.new ≡ state.old) }
 {
@@ -129,10 +129,10 @@ fn answer_dumpall<P: Performer>(
 }
 
 /// `history`.
-fn answer_history(state: &PlayState) -> Answer
+fn answer_history(state: &PlayState) -> LineAnswer
     ensures { Says result state.now (lone_reply state.now History) }
 {
-    Answer::Counted(state.owner.call_count())
+    LineAnswer::Counted(state.owner.call_count())
 }
 
 /// `mark`.
@@ -140,14 +140,14 @@ fn answer_mark<P: Performer>(
     performer: &P,
     alloc: Global,
     state: &mut PlayState,
-) -> Result<Answer, AllocError>
+) -> Result<LineAnswer, AllocError>
     ensures answer { IfOk result (λ answer. Says answer state.new (lone_reply state.old Mark)) }
     ensures same { OnErr result (state.new ≡ state.old) }
 {
     match performer.ask(alloc, &mut state.owner, &CursorNow) {
         Some(cursor) => {
             state.cursor = cursor;
-            Ok(Answer::Marked(cursor))
+            Ok(LineAnswer::Marked(cursor))
         }
         None => Err(AllocError),
     }
@@ -158,13 +158,13 @@ fn answer_changed<P: Performer>(
     performer: &P,
     alloc: Global,
     state: &mut PlayState,
-) -> Result<Answer, AllocError>
+) -> Result<LineAnswer, AllocError>
     ensures answer { IfOk result (λ answer. Says answer state.new (lone_reply state.old Changed)) }
     ensures same { OnErr result (state.new ≡ state.old) }
 {
     let query = ChangedSince(state.cursor, Filter::all());
     match performer.ask(alloc, &mut state.owner, &query) {
-        Some(Ok(cells)) => Ok(Answer::Changed(cells)),
+        Some(Ok(cells)) => Ok(LineAnswer::Changed(cells)),
         Some(Err(refusal)) => refused(refusal),
         None => Err(AllocError),
     }
@@ -175,13 +175,13 @@ fn answer_added<P: Performer>(
     performer: &P,
     alloc: Global,
     state: &mut PlayState,
-) -> Result<Answer, AllocError>
+) -> Result<LineAnswer, AllocError>
     ensures answer { IfOk result (λ answer. Says answer state.new (lone_reply state.old Added)) }
     ensures same { OnErr result (state.new ≡ state.old) }
 {
     let query = AddedSince(state.cursor, Filter::all());
     match performer.ask(alloc, &mut state.owner, &query) {
-        Some(Ok(cells)) => Ok(Answer::Added(cells)),
+        Some(Ok(cells)) => Ok(LineAnswer::Added(cells)),
         Some(Err(refusal)) => refused(refusal),
         None => Err(AllocError),
     }
@@ -194,16 +194,16 @@ fn answer_alone<P: Performer>(
     alloc: Global,
     state: &mut PlayState,
     line: Line,
-) -> Result<Answer, AllocError>
+) -> Result<LineAnswer, AllocError>
     ensures answer { IfOk result (λ answer. Says answer state.new (lone_reply state.old line)) }
     ensures same { OnErr result (state.new ≡ state.old) }
 {
     match line {
-        Line::Empty => Ok(Answer::Nothing),
+        Line::Empty => Ok(LineAnswer::Nothing),
         Line::Kind(..) | Line::Slots(_) | Line::Load(_) | Line::Calls(_) | Line::Depth(_) => {
-            Ok(Answer::Bad(BadLine::SetupEnded))
+            Ok(LineAnswer::Bad(BadLine::SetupEnded))
         }
-        Line::Queue | Line::Commit => Ok(Answer::Bad(BadLine::NoFrame)),
+        Line::Queue | Line::Commit => Ok(LineAnswer::Bad(BadLine::NoFrame)),
         Line::Do(command) => answer_command(performer, alloc, state, command),
         Line::Begin => Ok(answer_begin(alloc, state)),
         Line::Undo => answer_call(performer, alloc, state, Call::Undo),
@@ -231,7 +231,7 @@ fn answer_line<P: Performer>(
     alloc: Global,
     state: &mut PlayState,
     line: Line,
-) -> Result<Answer, AllocError>
+) -> Result<LineAnswer, AllocError>
     ensures answer { IfOk result (λ answer. Says answer state.new (line_reply state.old line)) }
     ensures same { OnErr result (state.new ≡ state.old) }
 {
@@ -253,12 +253,12 @@ pub(crate) fn answer<P: Performer>(
     alloc: Global,
     state: &mut PlayState,
     said: Result<Line, BadLine>,
-) -> Result<Answer, AllocError>
+) -> Result<LineAnswer, AllocError>
     ensures answer { IfOk result (λ answer. Says answer state.new (said_reply state.old said)) }
     ensures same { OnErr result (state.new ≡ state.old) }
 {
     match said {
         Ok(line) => answer_line(performer, alloc, state, line),
-        Err(reason) => Ok(Answer::Bad(reason)),
+        Err(reason) => Ok(LineAnswer::Bad(reason)),
     }
 }

@@ -1,6 +1,6 @@
 //! What lines that are kept have done.
 use crate::fault::KeptLineFault;
-use scene_interpreter::{Answer, Halt, Interpreter, InterpreterSettings};
+use scene_interpreter::{Halt, Interpreter, InterpreterSettings, LineAnswer};
 use scene_script::{Line, SessionNumber, first_line, read_line};
 use scene_session::{Reply, ThisThread};
 use std::alloc::{AllocError, Global};
@@ -32,8 +32,8 @@ impl LogCounts {
     }
 
     /// Counts an answer.
-    fn count(&mut self, answer: &Answer) {
-        if let Answer::Replied(reply) = answer {
+    fn count(&mut self, answer: &LineAnswer) {
+        if let LineAnswer::Replied(reply) = answer {
             let count = match reply {
                 Reply::Done(_) => &mut self.frames,
                 Reply::Undone => &mut self.undone,

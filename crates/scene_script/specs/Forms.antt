@@ -1,11 +1,11 @@
 -- The first words of lines.
 use Rattle.std.specs.Prelude.{ℕ, List, Option, Some, None, if◌then◌else◌, codes}
 use Rattle.std.specs.Str.{bytes_eq}
-use Rattle.scene_script.specs.declared.form.Form.{Form}
-use Rattle.scene_script.specs.declared.form.Form.TheVariants as form
+use Rattle.scene_script.specs.declared.form.LineForm.{LineForm}
+use Rattle.scene_script.specs.declared.form.LineForm.TheVariants as form
 
 -- the form that a first word names
-abbrev pub form_named : List ℕ → Option Form
+abbrev pub form_named : List ℕ → Option LineForm
 form_named word =
     if bytes_eq word (codes "spawn") then Some form.Spawn
     else if bytes_eq word (codes "insert") then Some form.Insert

@@ -5,8 +5,8 @@ use Rattle.scene_kinds.specs.Schema.{Kinds}
 use Rattle.scene_commands.specs.declared.command.Command.TheVariants.{Spawn, Insert, Despawn, Remove, SetParent, RemoveParent, DespawnAll, DespawnAllIfAlive, PutResource, RemoveResource}
 use Rattle.scene_script.specs.declared.script_line.Line.{Line}
 use Rattle.scene_script.specs.declared.script_line.Line.TheVariants.{Empty, Kind, Slots, Load, Calls, Depth, Do, Begin, Queue, Commit, Undo, Redo, Show, Get, Mark, Changed, Added, Phase, System, Clear, Advance, Dump, DumpAll, As, History}
-use Rattle.scene_script.specs.declared.form.Form.{Form}
-use Rattle.scene_script.specs.declared.form.Form.TheVariants as form
+use Rattle.scene_script.specs.declared.form.LineForm.{LineForm}
+use Rattle.scene_script.specs.declared.form.LineForm.TheVariants as form
 use Rattle.scene_script.specs.declared.bad_line.BadLine.{BadLine}
 use Rattle.scene_script.specs.declared.bad_line.BadLine.TheVariants as bad
 use Rattle.scene_script.specs.Forms.{form_named}
@@ -162,7 +162,7 @@ abbrev pub load_line : List ℕ → Result Line BadLine
 load_line line = Ok (Load (behind_first line))
 
 -- a line by its form and the words behind the first
-abbrev pub line_of_form : Kinds → Form → List ℕ → List (List ℕ) → Result Line BadLine
+abbrev pub line_of_form : Kinds → LineForm → List ℕ → List (List ℕ) → Result Line BadLine
 line_of_form kinds form.Kind line words = kind_line words
 line_of_form kinds form.Slots line words = slots_line words
 line_of_form kinds form.Load line words = load_line line

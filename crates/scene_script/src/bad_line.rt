@@ -2,7 +2,7 @@
 ghost use Rattle.std.specs.Prelude.{◌≡◌, IfOk};
 ghost use Rattle.scene_script.specs.declared.bad_line.LineError.TheVariants.{Bad, NoMemory};
 
-use crate::form::Form;
+use crate::form::LineForm;
 use scene_kinds::Text;
 use std::alloc::{AllocError, AllocFailed, Global};
 use std::fmt;
@@ -17,10 +17,10 @@ pub enum BadLine {
     #[error("no command is named {}", quoted(.0))]
     UnknownCommand(Text),
     #[error("a word is missing in `{0}`")]
-    MissingWord(Form),
+    MissingWord(LineForm),
     /// The first word behind the last one of the form.
     #[error("`{}` is a word too many for `{}`", quoted(.0), .1)]
-    ExtraWord(Text, Form),
+    ExtraWord(Text, LineForm),
     /// A word behind a text that can be no more than a further part of it.
     #[error("`{}` is no part of the text before it: a text ends at the next space, which has no escape; write _ or -", quoted(.0))]
     BehindText(Text),

@@ -23,7 +23,7 @@ mod word;
 mod words;
 
 pub use bad_line::{BadLine, LineError};
-pub use form::Form;
+pub use form::LineForm;
 pub use limit::Limit;
 pub use line::first_line;
 pub use number::{read_count, read_entity, read_number};

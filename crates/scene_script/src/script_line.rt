@@ -5,7 +5,7 @@ ghost use Rattle.scene_script.specs.Script.{line_in, line_of_words, named_line, 
 
 use crate::bad_line::{BadLine, LineError, text_of};
 use crate::cell::{cell_word, cell_words, is_text, kind_word, shape_word, shaped_value_word};
-use crate::form::Form;
+use crate::form::LineForm;
 use crate::limit::Limit;
 use crate::number::{bad_number, entity_word, read_count};
 use crate::session_number::SessionNumber;
@@ -67,7 +67,7 @@ pub enum Line {
 }
 
 /// A line that ends here says this.
-fn ended(alloc: Global, form: Form, words: Words, line: Line) -> Result<Line, LineError>
+fn ended(alloc: Global, form: LineForm, words: Words, line: Line) -> Result<Line, LineError>
     ensures { Reads result (ended form words.entry line) }
 {
     match words.split_first() {
@@ -80,7 +80,7 @@ fn ended(alloc: Global, form: Form, words: Words, line: Line) -> Result<Line, Li
 fn ended_behind(
     alloc: Global,
     behind_text: bool,
-    form: Form,
+    form: LineForm,
     words: Words,
     line: Line,
 ) -> Result<Line, LineError>
@@ -99,14 +99,14 @@ fn kind_line(alloc: Global, words: Words) -> Result<Line, LineError>
     ensures { Reads result (kind_line words.entry) }
 {
     let Some((name, rest)) = words.split_first() else {
-        return Err(LineError::Bad(BadLine::MissingWord(Form::Kind)));
+        return Err(LineError::Bad(BadLine::MissingWord(LineForm::Kind)));
     };
     let Some((shape, rest)) = rest.split_first() else {
-        return Err(LineError::Bad(BadLine::MissingWord(Form::Kind)));
+        return Err(LineError::Bad(BadLine::MissingWord(LineForm::Kind)));
     };
     let shape = shape_word(alloc, shape)?;
     let name = text_of(alloc, name)?;
-    ended(alloc, Form::Kind, rest, Line::Kind(name, shape))
+    ended(alloc, LineForm::Kind, rest, Line::Kind(name, shape))
 }
 
 /// The limit that a word is.
@@ -124,10 +124,10 @@ fn slots_line(alloc: Global, words: Words) -> Result<Line, LineError>
     ensures { Reads result (slots_line words.entry) }
 {
     let Some((word, rest)) = words.split_first() else {
-        return Err(LineError::Bad(BadLine::MissingWord(Form::Slots)));
+        return Err(LineError::Bad(BadLine::MissingWord(LineForm::Slots)));
     };
     let limit = limit_word(alloc, word)?;
-    ended(alloc, Form::Slots, rest, Line::Slots(limit))
+    ended(alloc, LineForm::Slots, rest, Line::Slots(limit))
 }
 
 /// `load TEXT`.
@@ -142,10 +142,10 @@ fn calls_line(alloc: Global, words: Words) -> Result<Line, LineError>
     ensures { Reads result (calls_line words.entry) }
 {
     let Some((word, rest)) = words.split_first() else {
-        return Err(LineError::Bad(BadLine::MissingWord(Form::Calls)));
+        return Err(LineError::Bad(BadLine::MissingWord(LineForm::Calls)));
     };
     let limit = limit_word(alloc, word)?;
-    ended(alloc, Form::Calls, rest, Line::Calls(limit))
+    ended(alloc, LineForm::Calls, rest, Line::Calls(limit))
 }
 
 /// `depth N`.
@@ -153,10 +153,10 @@ fn depth_line(alloc: Global, words: Words) -> Result<Line, LineError>
     ensures { Reads result (depth_line words.entry) }
 {
     let Some((word, rest)) = words.split_first() else {
-        return Err(LineError::Bad(BadLine::MissingWord(Form::Depth)));
+        return Err(LineError::Bad(BadLine::MissingWord(LineForm::Depth)));
     };
     let limit = limit_word(alloc, word)?;
-    ended(alloc, Form::Depth, rest, Line::Depth(limit))
+    ended(alloc, LineForm::Depth, rest, Line::Depth(limit))
 }
 
 /// `spawn CELL..`.
@@ -172,18 +172,18 @@ fn insert_line(alloc: Global, schema: &Schema, words: Words) -> Result<Line, Lin
     ensures { Reads result (insert_line schema.now words.entry) }
 {
     let Some((target, rest)) = words.split_first() else {
-        return Err(LineError::Bad(BadLine::MissingWord(Form::Insert)));
+        return Err(LineError::Bad(BadLine::MissingWord(LineForm::Insert)));
     };
     let target = target_word(alloc, target)?;
     let Some((cell, rest)) = rest.split_first() else {
-        return Err(LineError::Bad(BadLine::MissingWord(Form::Insert)));
+        return Err(LineError::Bad(BadLine::MissingWord(LineForm::Insert)));
     };
     let (kind, value) = cell_word(alloc, schema, cell)?;
     let behind_text = is_text(&value);
     ended_behind(
         alloc,
         behind_text,
-        Form::Insert,
+        LineForm::Insert,
         rest,
         Line::Do(Command::Insert(target, kind, value)),
     )
@@ -194,12 +194,12 @@ fn despawn_line(alloc: Global, words: Words) -> Result<Line, LineError>
     ensures { Reads result (despawn_line words.entry) }
 {
     let Some((target, rest)) = words.split_first() else {
-        return Err(LineError::Bad(BadLine::MissingWord(Form::Despawn)));
+        return Err(LineError::Bad(BadLine::MissingWord(LineForm::Despawn)));
     };
     let target = target_word(alloc, target)?;
     ended(
         alloc,
-        Form::Despawn,
+        LineForm::Despawn,
         rest,
         Line::Do(Command::Despawn(target)),
     )
@@ -210,16 +210,16 @@ fn remove_line(alloc: Global, schema: &Schema, words: Words) -> Result<Line, Lin
     ensures { Reads result (remove_line schema.now words.entry) }
 {
     let Some((target, rest)) = words.split_first() else {
-        return Err(LineError::Bad(BadLine::MissingWord(Form::Remove)));
+        return Err(LineError::Bad(BadLine::MissingWord(LineForm::Remove)));
     };
     let target = target_word(alloc, target)?;
     let Some((name, rest)) = rest.split_first() else {
-        return Err(LineError::Bad(BadLine::MissingWord(Form::Remove)));
+        return Err(LineError::Bad(BadLine::MissingWord(LineForm::Remove)));
     };
     let kind = kind_word(alloc, schema, name)?;
     ended(
         alloc,
-        Form::Remove,
+        LineForm::Remove,
         rest,
         Line::Do(Command::Remove(target, kind)),
     )
@@ -230,16 +230,16 @@ fn parent_line(alloc: Global, words: Words) -> Result<Line, LineError>
     ensures { Reads result (parent_line words.entry) }
 {
     let Some((child, rest)) = words.split_first() else {
-        return Err(LineError::Bad(BadLine::MissingWord(Form::Parent)));
+        return Err(LineError::Bad(BadLine::MissingWord(LineForm::Parent)));
     };
     let child = target_word(alloc, child)?;
     let Some((parent, rest)) = rest.split_first() else {
-        return Err(LineError::Bad(BadLine::MissingWord(Form::Parent)));
+        return Err(LineError::Bad(BadLine::MissingWord(LineForm::Parent)));
     };
     let parent = target_word(alloc, parent)?;
     ended(
         alloc,
-        Form::Parent,
+        LineForm::Parent,
         rest,
         Line::Do(Command::SetParent(child, parent)),
     )
@@ -250,12 +250,12 @@ fn unparent_line(alloc: Global, words: Words) -> Result<Line, LineError>
     ensures { Reads result (unparent_line words.entry) }
 {
     let Some((child, rest)) = words.split_first() else {
-        return Err(LineError::Bad(BadLine::MissingWord(Form::Unparent)));
+        return Err(LineError::Bad(BadLine::MissingWord(LineForm::Unparent)));
     };
     let child = target_word(alloc, child)?;
     ended(
         alloc,
-        Form::Unparent,
+        LineForm::Unparent,
         rest,
         Line::Do(Command::RemoveParent(child)),
     )
@@ -266,12 +266,12 @@ fn despawnall_line(alloc: Global, words: Words) -> Result<Line, LineError>
     ensures { Reads result (despawnall_line words.entry) }
 {
     let Some((target, rest)) = words.split_first() else {
-        return Err(LineError::Bad(BadLine::MissingWord(Form::DespawnAll)));
+        return Err(LineError::Bad(BadLine::MissingWord(LineForm::DespawnAll)));
     };
     let target = target_word(alloc, target)?;
     ended(
         alloc,
-        Form::DespawnAll,
+        LineForm::DespawnAll,
         rest,
         Line::Do(Command::DespawnAll(target)),
     )
@@ -282,12 +282,12 @@ fn despawnifalive_line(alloc: Global, words: Words) -> Result<Line, LineError>
     ensures { Reads result (despawnifalive_line words.entry) }
 {
     let Some((target, rest)) = words.split_first() else {
-        return Err(LineError::Bad(BadLine::MissingWord(Form::DespawnIfAlive)));
+        return Err(LineError::Bad(BadLine::MissingWord(LineForm::DespawnIfAlive)));
     };
     let target = target_word(alloc, target)?;
     ended(
         alloc,
-        Form::DespawnIfAlive,
+        LineForm::DespawnIfAlive,
         rest,
         Line::Do(Command::DespawnAllIfAlive(target)),
     )
@@ -298,10 +298,10 @@ fn put_line(alloc: Global, words: Words) -> Result<Line, LineError>
     ensures { Reads result (put_line words.entry) }
 {
     let Some((name, rest)) = words.split_first() else {
-        return Err(LineError::Bad(BadLine::MissingWord(Form::Put)));
+        return Err(LineError::Bad(BadLine::MissingWord(LineForm::Put)));
     };
     let Some((value, rest)) = rest.split_first() else {
-        return Err(LineError::Bad(BadLine::MissingWord(Form::Put)));
+        return Err(LineError::Bad(BadLine::MissingWord(LineForm::Put)));
     };
     let value = shaped_value_word(alloc, value)?;
     let behind_text = is_text(&value);
@@ -309,7 +309,7 @@ fn put_line(alloc: Global, words: Words) -> Result<Line, LineError>
     ended_behind(
         alloc,
         behind_text,
-        Form::Put,
+        LineForm::Put,
         rest,
         Line::Do(Command::PutResource(name, value)),
     )
@@ -320,12 +320,12 @@ fn drop_line(alloc: Global, words: Words) -> Result<Line, LineError>
     ensures { Reads result (drop_line words.entry) }
 {
     let Some((name, rest)) = words.split_first() else {
-        return Err(LineError::Bad(BadLine::MissingWord(Form::Drop)));
+        return Err(LineError::Bad(BadLine::MissingWord(LineForm::Drop)));
     };
     let name = text_of(alloc, name)?;
     ended(
         alloc,
-        Form::Drop,
+        LineForm::Drop,
         rest,
         Line::Do(Command::RemoveResource(name)),
     )
@@ -336,10 +336,10 @@ fn get_line(alloc: Global, words: Words) -> Result<Line, LineError>
     ensures { Reads result (get_line words.entry) }
 {
     let Some((word, rest)) = words.split_first() else {
-        return Err(LineError::Bad(BadLine::MissingWord(Form::Get)));
+        return Err(LineError::Bad(BadLine::MissingWord(LineForm::Get)));
     };
     let entity = entity_word(alloc, word)?;
-    ended(alloc, Form::Get, rest, Line::Get(entity))
+    ended(alloc, LineForm::Get, rest, Line::Get(entity))
 }
 
 /// `system NAME [need=N,N] [without=N,N] STEP..`.
@@ -347,7 +347,7 @@ fn system_line(alloc: Global, schema: &Schema, words: Words) -> Result<Line, Lin
     ensures { Reads result (system_line schema.now words.entry) }
 {
     let Some((name, rest)) = words.split_first() else {
-        return Err(LineError::Bad(BadLine::MissingWord(Form::System)));
+        return Err(LineError::Bad(BadLine::MissingWord(LineForm::System)));
     };
     Ok(Line::System(system_rule(alloc, schema, name, rest)?))
 }
@@ -367,56 +367,56 @@ fn as_line(alloc: Global, words: Words) -> Result<Line, LineError>
     ensures { Reads result (as_line words.entry) }
 {
     let Some((word, rest)) = words.split_first() else {
-        return Err(LineError::Bad(BadLine::MissingWord(Form::As)));
+        return Err(LineError::Bad(BadLine::MissingWord(LineForm::As)));
     };
     let session = session_word(alloc, word)?;
-    ended(alloc, Form::As, rest, Line::As(session))
+    ended(alloc, LineForm::As, rest, Line::As(session))
 }
 
 /// A line by its form and the words behind the first.
 fn line_of_form(
     alloc: Global,
     schema: &Schema,
-    form: Form,
+    form: LineForm,
     line: &str,
     words: Words,
 ) -> Result<Line, LineError>
     ensures { Reads result (line_of_form schema.now form line.now words.entry) }
 {
     match form {
-        Form::Kind => kind_line(alloc, words),
-        Form::Slots => slots_line(alloc, words),
-        Form::Load => load_line(alloc, line),
-        Form::Calls => calls_line(alloc, words),
-        Form::Depth => depth_line(alloc, words),
-        Form::Spawn => spawn_line(alloc, schema, words),
-        Form::Insert => insert_line(alloc, schema, words),
-        Form::Despawn => despawn_line(alloc, words),
-        Form::Remove => remove_line(alloc, schema, words),
-        Form::Parent => parent_line(alloc, words),
-        Form::Unparent => unparent_line(alloc, words),
-        Form::DespawnAll => despawnall_line(alloc, words),
-        Form::DespawnIfAlive => despawnifalive_line(alloc, words),
-        Form::Put => put_line(alloc, words),
-        Form::Drop => drop_line(alloc, words),
-        Form::Begin => ended(alloc, form, words, Line::Begin),
-        Form::Queue => ended(alloc, form, words, Line::Queue),
-        Form::Commit => ended(alloc, form, words, Line::Commit),
-        Form::Undo => ended(alloc, form, words, Line::Undo),
-        Form::Redo => ended(alloc, form, words, Line::Redo),
-        Form::Show => ended(alloc, form, words, Line::Show),
-        Form::Get => get_line(alloc, words),
-        Form::Mark => ended(alloc, form, words, Line::Mark),
-        Form::Changed => ended(alloc, form, words, Line::Changed),
-        Form::Added => ended(alloc, form, words, Line::Added),
-        Form::Phase => ended(alloc, form, words, Line::Phase),
-        Form::System => system_line(alloc, schema, words),
-        Form::Clear => ended(alloc, form, words, Line::Clear),
-        Form::Advance => ended(alloc, form, words, Line::Advance),
-        Form::Dump => ended(alloc, form, words, Line::Dump),
-        Form::DumpAll => ended(alloc, form, words, Line::DumpAll),
-        Form::As => as_line(alloc, words),
-        Form::History => ended(alloc, form, words, Line::History),
+        LineForm::Kind => kind_line(alloc, words),
+        LineForm::Slots => slots_line(alloc, words),
+        LineForm::Load => load_line(alloc, line),
+        LineForm::Calls => calls_line(alloc, words),
+        LineForm::Depth => depth_line(alloc, words),
+        LineForm::Spawn => spawn_line(alloc, schema, words),
+        LineForm::Insert => insert_line(alloc, schema, words),
+        LineForm::Despawn => despawn_line(alloc, words),
+        LineForm::Remove => remove_line(alloc, schema, words),
+        LineForm::Parent => parent_line(alloc, words),
+        LineForm::Unparent => unparent_line(alloc, words),
+        LineForm::DespawnAll => despawnall_line(alloc, words),
+        LineForm::DespawnIfAlive => despawnifalive_line(alloc, words),
+        LineForm::Put => put_line(alloc, words),
+        LineForm::Drop => drop_line(alloc, words),
+        LineForm::Begin => ended(alloc, form, words, Line::Begin),
+        LineForm::Queue => ended(alloc, form, words, Line::Queue),
+        LineForm::Commit => ended(alloc, form, words, Line::Commit),
+        LineForm::Undo => ended(alloc, form, words, Line::Undo),
+        LineForm::Redo => ended(alloc, form, words, Line::Redo),
+        LineForm::Show => ended(alloc, form, words, Line::Show),
+        LineForm::Get => get_line(alloc, words),
+        LineForm::Mark => ended(alloc, form, words, Line::Mark),
+        LineForm::Changed => ended(alloc, form, words, Line::Changed),
+        LineForm::Added => ended(alloc, form, words, Line::Added),
+        LineForm::Phase => ended(alloc, form, words, Line::Phase),
+        LineForm::System => system_line(alloc, schema, words),
+        LineForm::Clear => ended(alloc, form, words, Line::Clear),
+        LineForm::Advance => ended(alloc, form, words, Line::Advance),
+        LineForm::Dump => ended(alloc, form, words, Line::Dump),
+        LineForm::DumpAll => ended(alloc, form, words, Line::DumpAll),
+        LineForm::As => as_line(alloc, words),
+        LineForm::History => ended(alloc, form, words, Line::History),
     }
 }
 
@@ -430,7 +430,7 @@ fn named_line(
 ) -> Result<Line, LineError>
     ensures { Reads result (named_line schema.now line.now first.now rest.entry) }
 {
-    match Form::named(first) {
+    match LineForm::named(first) {
         Some(form) => line_of_form(alloc, schema, form, line, rest),
         None => Err(LineError::Bad(BadLine::UnknownCommand(text_of(alloc, first)?))),
     }

@@ -16,7 +16,7 @@ use Rattle.scene_session.specs.Calls.{asked, told}
 use Rattle.scene_session.specs.State.{StateView, HasEntered, IsLegal, IsStopped, answer_after}
 use Rattle.scene_session.specs.Session.{by_session}
 use Rattle.scene_session.specs.AllPasses.{IsAmong, AreAll, IsOnlyCall, passes_after}
-use Rattle.scene_session.proofs.Alone.{All-left, All-right, first_none, between, nothing_more}
+use Rattle.scene_session.proofs.OneHistory.{All-left, All-right, first_none, between, nothing_more}
 use Rattle.scene_session.proofs.Performances.{IsEntryOf, last_answer, at_state}
 
 abbrev P : Type 0

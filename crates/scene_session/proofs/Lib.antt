@@ -1,9 +1,9 @@
 mod AllPasses
-mod Alone
 mod Bare
 pub mod Crossing
 mod Entered
 mod Machines
+mod OneHistory
 mod Performances
 pub mod Places
 mod Props

@@ -167,12 +167,12 @@ impl From<AllocError> for StoreFault {
 /// A fault and the path of the file that it is of. `Display` says both, and the cause:
 /// `fault 64 StoreUnopened "level.db": there is no such file`.
 #[derive(Clone, Copy)]
-pub struct FileFault<'a> {
+pub struct StoreFileFault<'a> {
     pub path: &'a str,
     pub fault: StoreFault,
 }
 
-impl<'a> fmt::Display for FileFault<'a> {
+impl<'a> fmt::Display for StoreFileFault<'a> {
     fn fmt<W: fmt::Write>(&self, f: &mut fmt::Formatter<W>) -> fmt::Result {
         let (path, fault, reason) = (self.path, self.fault, self.fault.reason());
         write!(f, "{fault} {path:?}: {reason}")

@@ -15,7 +15,7 @@ mod store;
 mod version;
 
 pub use backup::{BackupFault, back_up};
-pub use fault::{FileFault, OpenFault, StoreFault};
+pub use fault::{OpenFault, StoreFault, StoreFileFault};
 pub use file_lines::{FileLines, lines_at};
 pub use rows::StoredLines;
 pub use snapshot::Snapshot;

@@ -4,7 +4,7 @@ use Rattle.serde_json.specs.Written.{compact_text}
 use Rattle.scene_json_forms.proofs.ListsWritten.{accepted, chain}
 use Rattle.scene_interpreter.specs.Answer.{said_of}
 use Rattle.scene_interpreter.specs.JsonAnswer.{answer_json}
-use Rattle.scene_interpreter.proofs.answer.Answer.write_json.Goals as goal
+use Rattle.scene_interpreter.proofs.answer.LineAnswer.write_json.Goals as goal
 
 pub returns : goal.returns
 returns c = accepted c.push_str.result _ _ _ c.push_str.ensures.bytes (λ last. (
