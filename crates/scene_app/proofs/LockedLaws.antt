@@ -1,4 +1,4 @@
--- The hand of a script has a lock.
+-- The owner of a script has a lock.
 use Rattle.std.proofs.Common.{◌≡◌, ℕ, ◌+◌, List, [], ◌∷◌, ◌∙◌, false, refl}
 use Rattle.std.specs.Str.Lines.{lines}
 use Rattle.scene_interpreter.specs.Interpreter.{Interpreter, first_interpreter, owner_of, interpreter_reply}

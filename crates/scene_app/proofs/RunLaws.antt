@@ -10,7 +10,8 @@ use Rattle.scene_interpreter.proofs.LockLaws.{bad_alike, interpreter_alike, text
 use Rattle.scene_shell.specs.Shell.{IsSaid, bad_count, plain_style, said_of}
 use Rattle.scene_shell.proofs.SaidLaws.{said_plainly}
 
--- a run has a lock, and a shell none: the answers to lines are what a run of them prints; no text says the number of a line
+-- a run has a lock, and a shell none: the answers to lines are what a run of them prints; no text says the number of a
+-- line
 said_printed : (p : Interpreter) (number : ℕ) (ls : List (List ℕ)) → said_of (alone_as p) ls ≡ (printed_from number p ls).text
 said_printed p number [] = refl
 said_printed p number (l ∷ ls) =

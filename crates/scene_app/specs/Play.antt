@@ -6,7 +6,7 @@ use Rattle.scene_script.specs.declared.bad_line.BadLine.{BadLine}
 use Rattle.scene_interpreter.specs.Interpreter.{Interpreter, LineReply, first_interpreter, owner_of, interpreter_reply}
 use Rattle.scene_app.specs.declared.report.BadLineReport.{BadLineReport}
 
--- what lines print, their bad ones, each by its number from 1, with the reason, and the hand at their end
+-- what lines print, their bad ones, each by its number from 1, with the reason, and the owner at their end
 pub record Printed : Type 0 where
   pub text : List ℕ
   pub bad : List BadLineReport
@@ -42,6 +42,6 @@ output script = (printed script).text
 abbrev pub bad_lines : List ℕ → List BadLineReport
 bad_lines script = (printed script).bad
 
--- the hand that it leaves: the calls of all its sessions, with their answers
+-- the owner that it leaves: the calls of all its sessions, with their answers
 abbrev pub owner_after : List ℕ → OwnerState
 owner_after script = (printed script).owner

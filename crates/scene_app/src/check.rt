@@ -80,9 +80,9 @@ fn printed(alloc: Global, text: &[u8]) -> Result<(String, bool), AppFault>
 /// scene, or else the line of its first fault (docs/SCRIPTS.md, "Scene texts"). It answers whether it is a scene.
 ///
 /// Refused, and then nothing is written: `ReadFault` exactly where the source has failed, now or before, and where it
-/// hadn't then in a call of its reader; `TooLong` where the text is longer than 67,108,864 bytes or its end doesn't come
-/// in the turns of the source; `NoMemory`. `WriteFault` where the sink has failed, now or before; then a prefix of the
-/// line is written. It costs what the load of the text costs.
+/// hadn't then in a call of its reader; `TooLong` where the text is longer than 67,108,864 bytes or its end doesn't
+/// come in the turns of the source; `NoMemory`. `WriteFault` where the sink has failed, now or before; then a prefix of
+/// the line is written. It costs what the load of the text costs.
 pub fn check_scene<R: Read, W: Write>(
     alloc: Global,
     source: &mut Source<R>,
@@ -111,8 +111,8 @@ pub fn check_scene<R: Read, W: Write>(
     Ok(accepted)
 }
 
-/// Reads a scene text to its end, and writes its world as `show` does where it is a scene, or else the line of its first
-/// fault (docs/SCRIPTS.md, "Scene texts"). It answers whether it is a scene.
+/// Reads a scene text to its end, and writes its world as `show` does where it is a scene, or else the line of its
+/// first fault (docs/SCRIPTS.md, "Scene texts"). It answers whether it is a scene.
 ///
 /// Refused as `check_scene` is, where `WriteFault` leaves a prefix of the lines. It costs what the load of the text and
 /// `show` cost.

@@ -5,8 +5,8 @@ ghost use Rattle.scene_app.specs.Play.{bad_lines, output};
 ghost use Rattle.scene_interpreter.specs.Interpreter.{lone_interpreter};
 ghost use Rattle.scene_shell.specs.Shell.{IsSaid, bad_count, plain_style};
 
-/// A law: with the settings of a run (`InterpreterSettings::of_a_run`) the answers to the lines of a script, one after another,
-/// neither JSON nor framed, are what `scene run` prints of it, and as many lines are bad.
+/// A law: with the settings of a run (`InterpreterSettings::of_a_run`) the answers to the lines of a script, one after
+/// another, neither JSON nor framed, are what `scene run` prints of it, and as many lines are bad.
 #[tactic(auto, using(crate::proofs::RunLaws::said_is_output, crate::proofs::RunLaws::counted_bad))]
 pub fn a_shell_says_what_a_run_says()
     ensures said { (script : List ℕ) → (text : List ℕ)

@@ -62,8 +62,8 @@ fn play_lines<P: Performer>(
 
 /// Plays a script from its first line, adds what it prints, and notes its bad lines (docs/SCRIPTS.md, "Lines").
 ///
-/// Want of memory ends it with an error, and then a part of the text may be there. Each line costs what it asks for. It gives
-/// the sessions with their state, and the bad lines.
+/// Want of memory ends it with an error, and then a part of the text may be there. Each line costs what it asks for. It
+/// gives the sessions with their state, and the bad lines.
 pub(crate) fn play_script<P: Performer>(
     performer: &P,
     alloc: Global,

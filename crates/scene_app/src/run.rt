@@ -50,7 +50,7 @@ fn played<P: Performer>(
 {
     let mut out = String::new(alloc);
     let (owner, reports) = play_script(performer, alloc, script, &mut out)?;
-    // The hand of a script has a lock.
+    // The owner of a script has a lock.
     let Some((lock, passes)) = owner.into_parts() else {
         unreachable!()
     };
@@ -64,15 +64,15 @@ fn played<P: Performer>(
 }
 
 /// Reads a script to its end, plays it, and writes what it prints (docs/SCRIPTS.md, "Output"). Nothing is written
-/// before the whole script is played. An advance has so many workers, 1 to 16, on which nothing that is written depends; a
-/// number below is taken as 1, and one above as 16. The passes that come back have seen the calls of the script with their
-/// answers, each of the session that `as` named (docs/SCRIPTS.md, "Sessions").
+/// before the whole script is played. An advance has so many workers, 1 to 16, on which nothing that is written
+/// depends; a number below is taken as 1, and one above as 16. The passes that come back have seen the calls of the
+/// script with their answers, each of the session that `as` named (docs/SCRIPTS.md, "Sessions").
 ///
 /// Refused: `ReadFault` exactly where the source has failed, now or before, and where it hadn't then in a call of
 /// its reader; `TooLong` where the script is longer than 67,108,864 bytes or its end doesn't come in the turns of the
 /// source; `NoMemory`; and then nothing is written. `WriteFault` where the sink has failed, now or before; then a
-/// prefix of the output is written. A run costs what its lines ask for, some thirty loads of a word a line, and the memory of
-/// the script, of the output, of its calls and of the records of its frames.
+/// prefix of the output is written. A run costs what its lines ask for, some thirty loads of a word a line, and the
+/// memory of the script, of the output, of its calls and of the records of its frames.
 pub fn run_script<T: Threads + Wait + Sync, R: Read, W: Write>(
     rt: &T,
     alloc: Global,

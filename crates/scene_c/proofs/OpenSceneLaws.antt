@@ -1,4 +1,4 @@
--- A open_scene's interpreter stays alone, and what want of memory leaves of a open_scene.
+-- An open scene's interpreter stays alone, and what want of memory leaves of an open scene.
 use Rattle.std.proofs.Common.{◌≡◌, ◌≢◌, ℕ, arith, true, Result, Ok, Err, sym, ap, ◌∙◌, subst}
 use Rattle.std.specs.Prelude.{IfOk, IfErr, OnOk}
 use Rattle.scene_script.specs.declared.bad_line.BadLine.{BadLine}

@@ -134,7 +134,8 @@ DropsFrame (Some old) (Some new) code = (code ≡ (if frame_is_open (interpreter
     × (interpreter_of new.interpreter ≡ without_frame (interpreter_of old.interpreter)) × KeepsAnswer old new × (new.cells.items ≡ old.cells.items)
 DropsFrame old new code = ⊥
 
--- by whether the last line was bad: the text is why, or no memory was found for that; or else there is nothing to say, and the text stays
+-- by whether the last line was bad: the text is why, or no memory was found for that; or else there is nothing to say,
+-- and the text stays
 abbrev pub SaysWhy : Bool → OpenScene → OpenScene → ℕ → Type 0
 SaysWhy true old new code = (code ≡ 0) ⊎ ((code ≡ 1) × (string_bytes new.text ≡ string_bytes old.text))
 SaysWhy false old new code = (code ≡ 4) × (string_bytes new.text ≡ string_bytes old.text)

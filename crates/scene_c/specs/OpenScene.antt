@@ -1,4 +1,4 @@
--- What a open_scene keeps of its last call, and what it reads of its scene.
+-- What an open scene keeps of its last call, and what it reads of its scene.
 use Rattle.std.specs.Prelude.{◌≡◌, ⊤, ℕ, ℤ, List, [], ◌∷◌, Option, Some, None, Result, Ok, Err, pos, string_bytes}
 use Rattle.scene_kinds.specs.declared.cell.Cell.{Cell}
 use Rattle.scene_kinds.specs.declared.value.Value.{Value}
@@ -26,8 +26,8 @@ fresh_interpreter = lone_interpreter 1048576 18446744073709551615
 abbrev pub KeepsAnswer : OpenScene → OpenScene → Type 0
 KeepsAnswer old new = (new.answer ≡ old.answer) × (string_bytes new.text ≡ string_bytes old.text)
 
--- A call that would have come to a reply was halted. Where it is done, its answer is that of the reply, and the text alone is wanting;
--- else the last answer stays
+-- A call that would have come to a reply was halted. Where it is done, its answer is that of the reply, and the text
+-- alone is wanting; else the last answer stays
 abbrev pub HasHalted : Halt → (old new : OpenScene) → LineReply → Type 0
 HasHalted After old new r = Tells new.answer (interpreter_of new.interpreter) r × (string_bytes new.text ≡ [])
 HasHalted h old new r = (interpreter_of new.interpreter ≡ halted h (interpreter_of old.interpreter) r.interpreter) × KeepsAnswer old new

@@ -1,5 +1,5 @@
-//! Calls on the scene that a handle holds. Those of a line that is a value are inlined, so that each call of C pays for its own
-//! line alone.
+//! Calls on the scene that a handle holds. Those of a line that is a value are inlined, so that each call of C pays for
+//! its own line alone.
 ghost use Rattle.std.specs.Prelude.{◌≡◌, ℕ, List, None};
 ghost use Rattle.scene_interpreter.specs.Interpreter.{interpreter_reply};
 ghost use Rattle.scene_c.specs.Calls.{Asks, Does, DropsFrame, Explains, Gives, Plays, Spawns, says};

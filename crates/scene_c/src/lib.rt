@@ -1,7 +1,9 @@
-//! Scenes for C: an opaque pointer that holds one scene (`include/scene.h` has C's side; docs/LIBRARY.md, "From C").
+//! Scenes for C: an opaque pointer that holds one scene (`include/scene.h` has C's side; docs/BINDINGS.md, "From C").
 //!
-//! A call takes the pointer's own place, so that it can leave null behind, and gives a code. What it does is that of a line of
-//! a script (docs/SCRIPTS.md, "Lines"): the bytes of one by `scene_line`, a value by the others, with no text on the way.
+//! The pointer is a `Handle`, of an `OpenScene` on the heap: an interpreter without a lock, so that no call starts a
+//! thread or waits, with the last answer, which is asked for as one likes. A call takes the pointer's own place, so
+//! that it can leave null behind, and gives a code. What it does is that of a line of a script (docs/SCRIPTS.md,
+//! "Lines"): the bytes of one by `scene_line`, a value by the others, with no text on the way.
 #![tactic(auto)]
 
 ghost use Rattle.std.specs.Borrow.{full_share, sem};
@@ -81,7 +83,8 @@ pub extern "C" fn scene_version() -> u32
     VERSION
 }
 
-/// Makes a scene, and writes its pointer to `out`, or null where no memory was found (`NO_MEMORY`). What is at `out` isn't read.
+/// Makes a scene, and writes its pointer to `out`, or null where no memory was found (`NO_MEMORY`). What is at `out`
+/// isn't read.
 #[unsafe(no_mangle)]
 pub unsafe extern "C" fn scene_open(alloc: Global, out: *mut Handle) -> u32
     requires* { sem 𝓛 (room_at the_row out) }
@@ -108,8 +111,8 @@ pub extern "C" fn scene_line(alloc: Global, scene: &mut Handle, bytes: &[u8]) ->
     line(alloc, scene, bytes)
 }
 
-/// How long the text of the last answer is, and as much of it as there is room for at `at`; 0 for null. `at` may be null where there
-/// is no room.
+/// How long the text of the last answer is, and as much of it as there is room for at `at`; 0 for null. `at` may be
+/// null where there is no room.
 #[unsafe(no_mangle)]
 pub unsafe extern "C" fn scene_answer(
     alloc: Global,
@@ -129,8 +132,8 @@ pub unsafe extern "C" fn scene_answer(
     copy_text(alloc, scene, std::slice::from_raw_parts_mut(at, room))
 }
 
-/// Puts into words why the last line was bad, as the text of its answer (docs/SCRIPTS.md, "Bad lines"). `BAD` where it wasn't, and
-/// `NO_MEMORY`: then the text stays.
+/// Puts into words why the last line was bad, as the text of its answer (docs/SCRIPTS.md, "Bad lines"). `BAD` where it
+/// wasn't, and `NO_MEMORY`: then the text stays.
 #[unsafe(no_mangle)]
 pub extern "C" fn scene_bad_reason(alloc: Global, scene: &mut Handle) -> u32
     ensures { Explains scene.old.value scene.new.value result }
@@ -138,8 +141,8 @@ pub extern "C" fn scene_bad_reason(alloc: Global, scene: &mut Handle) -> u32
     explain(alloc, scene)
 }
 
-/// How long the name of a fault is, by its number, and as much of it as there is room for at `at`; 0 where no fault of a scene has the
-/// number. `at` may be null where there is no room.
+/// How long the name of a fault is, by its number, and as much of it as there is room for at `at`; 0 where no fault of
+/// a scene has the number. `at` may be null where there is no room.
 #[unsafe(no_mangle)]
 pub unsafe extern "C" fn scene_fault_name(fault: u32, at: *mut u8, room: usize) -> usize
     ghost before: { List ℕ }
@@ -153,7 +156,8 @@ pub unsafe extern "C" fn scene_fault_name(fault: u32, at: *mut u8, room: usize) 
     copy_name(fault, std::slice::from_raw_parts_mut(at, room))
 }
 
-/// Loads a scene text in the setup, as the line `load` does. Its answer is kept with its text. `BAD` for bytes that are no UTF-8.
+/// Loads a scene text in the setup, as the line `load` does. Its answer is kept with its text. `BAD` for bytes that are
+/// no UTF-8.
 #[unsafe(no_mangle)]
 pub extern "C" fn scene_load(alloc: Global, scene: &mut Handle, bytes: &[u8]) -> u32
     ensures { Loads (text_of bytes.now) scene.old.value scene.new.value result }

@@ -1,4 +1,4 @@
-//! Calls of a open_scene: lines, by their bytes and as values.
+//! Calls of an open scene: lines, by their bytes and as values.
 ghost use Rattle.std.specs.Prelude.{◌≡◌, ◌≢◌, [], IfErr, IfOk, OnErr, OnOk, Ok, false, is_some, string_bytes, true};
 ghost use Rattle.scene_interpreter.specs.Answer.{said_of};
 ghost use Rattle.scene_interpreter.specs.Changes.{frame_is_open};
@@ -37,9 +37,11 @@ impl OpenScene {
         }
     }
 
-    /// Plays a line, which is given without its line break, and keeps its answer with its text (docs/SCRIPTS.md, "Lines").
+    /// Plays a line, which is given without its line break, and keeps its answer with its text (docs/SCRIPTS.md,
+    /// "Lines").
     ///
-    /// Halted as `Interpreter::line` is. Where the line is done, its answer is kept without a text; else the last answer stays.
+    /// Halted as `Interpreter::line` is. Where the line is done, its answer is kept without a text; else the last
+    /// answer stays.
     pub fn line(&mut self, alloc: Global, bytes: &[u8]) -> Result<(), Halt>
         ensures answer { OnOk result (Tells self.new.answer (interpreter_of self.new.interpreter) (interpreter_reply (interpreter_of self.old.interpreter) bytes.now)) }
         ensures text { OnOk result (string_bytes self.new.text ≡ (interpreter_reply (interpreter_of self.old.interpreter) bytes.now).text) }
@@ -79,8 +81,8 @@ impl OpenScene {
         Ok(())
     }
 
-    /// Drops the frame that is open, with its commands, and makes no call. It says whether there was one. The last answer stays,
-    /// and so do the components of the next spawn. It takes no memory.
+    /// Drops the frame that is open, with its commands, and makes no call. It says whether there was one. The last
+    /// answer stays, and so do the components of the next spawn. It takes no memory.
     pub fn drop_frame(&mut self) -> bool
         ensures open { result ≡ frame_is_open (interpreter_of self.old.interpreter) }
         ensures dropped { interpreter_of self.new.interpreter ≡ without_frame (interpreter_of self.old.interpreter) }
@@ -89,8 +91,8 @@ impl OpenScene {
         self.interpreter.drop_frame()
     }
 
-    /// Says in words why the last line was bad (docs/SCRIPTS.md, "Bad lines"): they are the text of its answer then. It says whether
-    /// the last line was bad; where it wasn't, the text stays.
+    /// Says in words why the last line was bad (docs/SCRIPTS.md, "Bad lines"): they are the text of its answer then. It
+    /// says whether the last line was bad; where it wasn't, the text stays.
     ///
     /// `AllocError` where the line was bad, and no memory was found: then the text stays too.
     pub fn explain(&mut self, alloc: Global) -> Result<bool, AllocError>

@@ -1,4 +1,4 @@
-//! The open_scene: an interpreter and its last answer.
+//! The open scene: an interpreter and its last answer.
 ghost use Rattle.std.specs.Prelude.{◌≡◌, ◌++◌, ◌∷◌, [], OnErr, OnOk, true, string_bytes};
 ghost use Rattle.scene_interpreter.specs.Interpreter.{owner_of, lone_interpreter, interpreter_of};
 ghost use Rattle.scene_interpreter.specs.declared.answer.LineAnswer.TheVariants.{Nothing};
@@ -8,8 +8,8 @@ use scene_kinds::Value;
 use std::alloc::{AllocError, Global};
 use std::mem;
 
-/// An interpreter that is alone, its last answer, the text of that answer where one was asked for, and the components that the next
-/// spawn is given.
+/// An interpreter that is alone, its last answer, the text of that answer where one was asked for, and the components
+/// that the next spawn is given.
 #[derive(Drop)]
 pub struct OpenScene {
     pub(crate) interpreter: Interpreter,
@@ -20,7 +20,8 @@ pub struct OpenScene {
 }
 
 impl OpenScene {
-    /// The open_scene before its first line. Its calls are counted in 64 bits, and as many as that can be made. It takes no memory.
+    /// The open scene before its first line. Its calls are counted in 64 bits, and as many as that can be made. It
+    /// takes no memory.
     pub fn new(alloc: Global) -> Self
         ensures interpreter { interpreter_of result.interpreter ≡ lone_interpreter 1048576 18446744073709551615 }
         ensures answer { result.answer ≡ Nothing }

@@ -1,4 +1,4 @@
-//! A call on a open_scene, by its code.
+//! A call on an open scene, by its code.
 ghost use Rattle.std.specs.Prelude.{◌≡◌, ◌≢◌, ◌++◌, ◌∷◌, [], if◌then◌else◌, is_some};
 ghost use Rattle.scene_commands.specs.declared.command.Command.TheVariants.{Spawn};
 ghost use Rattle.scene_script.specs.declared.script_line.Line.TheVariants.{Do};
@@ -41,7 +41,7 @@ pub(crate) fn halt_code(halt: Halt) -> u32
     }
 }
 
-/// The code of a call that a open_scene has answered, or that was halted.
+/// The code of a call that an open scene has answered, or that was halted.
 fn code_of(came: Result<(), Halt>, answer: &LineAnswer) -> u32
     ensures { result ≡ code_of came (said_of answer.now) }
 {

@@ -5,8 +5,8 @@ ghost use Rattle.scene_c.specs.OpenScene.{numbers_of, text_in};
 use scene_kinds::{Shape, Value};
 use std::alloc::{AllocError, Global};
 
-/// A value by its shape and three numbers: an integer is the first, the parts of a vector are all three, and of a link the first
-/// is the index and the second the generation; what the shape hasn't is 0.
+/// A value by its shape and three numbers: an integer is the first, the parts of a vector are all three, and of a link
+/// the first is the index and the second the generation; what the shape hasn't is 0.
 #[derive(Clone, Copy, Debug, PartialEq, Eq)]
 pub struct Reading {
     pub shape: Shape,

@@ -1,4 +1,4 @@
-//! What a open_scene reads: components of its scene, and its last answer.
+//! What an open scene reads: components of its scene, and its last answer.
 ghost use Rattle.std.specs.Prelude.{◌≡◌, ◌≢◌, IfErr, IfNone, IfOk, IfSome, MatchResult, OnErr, OnOk, Ok, Err, slice_get};
 ghost use Rattle.scene_kinds.specs.Cells.{shown};
 ghost use Rattle.scene_model.specs.World.{component_of};
@@ -16,11 +16,13 @@ use scene_session::Reply;
 use std::alloc::{AllocError, Global};
 
 impl OpenScene {
-    /// Shows a component of an entity: its value by numbers, and a text as the text of the open_scene. It ends the setup, where it isn't
-    /// over. `None` where there is no such component: then the last answer is the refusal, `NoSuchEntity`, `NoSuchKind` or
-    /// `NotPresent`, in this order. It costs a walk over the entity's kinds, and a copy of a text.
+    /// Shows a component of an entity: its value by numbers, and a text as the text of the open scene. It ends the
+    /// setup, where it isn't over. `None` where there is no such component: then the last answer is the refusal,
+    /// `NoSuchEntity`, `NoSuchKind` or `NotPresent`, in this order. It costs a walk over the entity's kinds, and a copy
+    /// of a text.
     ///
-    /// Halted as `Interpreter::end_setup` is, or `Begun` where there is no memory for the text; then the last answer stays.
+    /// Halted as `Interpreter::end_setup` is, or `Begun` where there is no memory for the text; then the last answer
+    /// stays.
     pub fn read(&mut self, alloc: Global, entity: Entity, kind: u8) -> Result<Option<Reading>, Halt>
         ensures read { IfOk result (λ found. HasRead found self.new (component_of (world_of self.old) entity kind)) }
         ensures begun { OnOk result (interpreter_of self.new.interpreter ≡ begun (interpreter_of self.old.interpreter)) }
@@ -50,8 +52,8 @@ impl OpenScene {
         }
     }
 
-    /// A component of an entity, which is lent, or why there is none: `NoSuchEntity`, `NoSuchKind` or `NotPresent`, in this order.
-    /// `None` only in the setup. It takes no memory, and costs a walk over the entity's kinds.
+    /// A component of an entity, which is lent, or why there is none: `NoSuchEntity`, `NoSuchKind` or `NotPresent`, in
+    /// this order. `None` only in the setup. It takes no memory, and costs a walk over the entity's kinds.
     pub fn cell(&self, entity: Entity, kind: u8) -> Option<Result<CellRef<'_>, Refusal>>
         ensures found { IfSome result (λ found. MatchResult found (λ c. component_of (world_of self.now) entity kind ≡ Ok (shown c))
             (λ r. component_of (world_of self.now) entity kind ≡ Err r)) }

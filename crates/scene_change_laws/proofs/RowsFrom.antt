@@ -1,4 +1,5 @@
--- The rows that commands leave, against a world from before the frame: what a command writes is new, and all else was there.
+-- The rows that commands leave, against a world from before the frame: what a command writes is new, and all else was
+-- there.
 use Rattle.std.proofs.Common.{◌≡◌, ◌≤◌, ◌<◌, ℕ, true, false, cond, List, [], ◌∷◌, refl, sym, ◌∙◌, subst, arith, Option, Some, None}
 use Rattle.std.specs.Ordering.{nat_cmp, eq_by_cmp}
 use Rattle.std.specs.FinMap.{nat_cmp-IsAntisymmetric}

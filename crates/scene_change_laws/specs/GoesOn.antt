@@ -15,8 +15,8 @@ use Rattle.scene_model.specs.Valid.{IsValid}
 abbrev pub HasAdded : World → Entity → ℕ → ℕ → Type 0
 HasAdded w e kind tick = (cell : Cell) × ((component_of w e kind ≡ Ok cell) × (cell.added ≡ tick))
 
--- a cell against an earlier world: unless it was changed since, that world holds an equal one, and unless it was added since, one
--- that was added at the same tick
+-- a cell against an earlier world: unless it was changed since, that world holds an equal one, and unless it was added
+-- since, one that was added at the same tick
 pub record IsFrom (before : World) (e : Entity) (kind : ℕ) (cell : Cell) : Type 0 where
   pub kept : cell.changed ≤ before.tick → component_of before e kind ≡ Ok cell
   pub added : cell.added ≤ before.tick → HasAdded before e kind cell.added
@@ -32,8 +32,8 @@ pub record GoesOn (before after : World) : Type 0 where
 abbrev pub bare : World → World
 bare w = record w { resources = map.empty }
 
--- A world whose slots, rows and links are sound, whatever its resources hold. Commands keep it so, given any values: only resources
--- take a value that isn't looked at
+-- A world whose slots, rows and links are sound, whatever its resources hold. Commands keep it so, given any values:
+-- only resources take a value that isn't looked at
 abbrev pub HasSoundRows : World → Type 0
 HasSoundRows w = IsValid (bare w)
 

@@ -30,8 +30,8 @@ world_after s before = (machine_after s before).now
 abbrev pub world_now : StateView → World
 world_now s = (machine_at s).now
 
--- A moment that a cursor may be of: the history of the state begins with these entries, and the machine after them has the cursor's
--- count of undos and its tick
+-- A moment that a cursor may be of: the history of the state begins with these entries, and the machine after them has
+-- the cursor's count of undos and its tick
 pub record IsMoment (s : StateView) (before : List Entry) (cursor : Cursor) : Type 0 where
   pub after : List Entry
   pub begins : s.history ≡ before ++ after

@@ -7,8 +7,9 @@ pub fn frames_go_on()
     ensures { FramesGoOn }
 {}
 
-/// A law of calls of the machine of saved worlds: each of its worlds goes on from the one before it, and so does the world
-/// after calls from the world before them, unless an undo raised the count of rewinds (docs/SESSIONS.md, "What it has seen").
+/// A law of calls of the machine of saved worlds: each of its worlds goes on from the one before it, and so does the
+/// world after calls from the world before them, unless an undo raised the count of rewinds (docs/SESSIONS.md, "What it
+/// has seen").
 pub fn machines_go_on()
     ensures { MachinesGoOn }
 {}

@@ -1,9 +1,12 @@
-//! What frames and undos do to the ticks of cells. There is no code here, but for the functions whose contracts say the laws.
+//! What lists of changes rely on, as laws: there is no code here, but for the functions whose contracts say them.
 //!
-//! `GoesOn` in `specs/GoesOn.antt` says of two worlds what a list of changes since a tick relies on: each cell of the later
-//! one was changed after the tick of the earlier one, or the earlier one holds an equal cell. `frames_go_on` says that of an
-//! accepted frame. Calls of the machine of saved worlds lead from world to world in this way too, unless one of them is an
-//! undo, which the count of rewinds tells: `machines_go_on`.
+//! `GoesOn` in `specs/GoesOn.antt` says of two worlds that each cell of the later one was changed after the tick of the
+//! earlier one, or the earlier one holds an equal cell: so it is after an accepted frame (`frames_go_on`), and after
+//! calls of the machine of saved worlds unless one of them is an undo, which the count of rewinds tells
+//! (`machines_go_on`).
+//!
+//! So the answers to `ChangedSince` and `AddedSince` tell the world of then and that of now apart, for each moment at
+//! which the cursor could have been taken: `lists_tell_two_worlds_apart`, of states like that of `new_state`.
 #![tactic(auto)]
 
 mod laws;

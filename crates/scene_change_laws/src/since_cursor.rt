@@ -13,12 +13,12 @@ ghost use Rattle.scene_session.specs.State.{StateView};
 ghost use Rattle.scene_session.specs.Queries.{ListsSince, machine_at};
 ghost use Rattle.scene_change_laws.specs.Since.{IsNew, IsMoment, world_now, world_after, HasNoneAdded};
 
-/// A law: where a state answers a list since a cursor, and `before` is any beginning of its history whose machine has the
-/// cursor's count of undos and its tick, the list tells the world of then and that of now apart (docs/SESSIONS.md, "What it
-/// has seen").
+/// A law: where a state answers a list since a cursor, and `before` is any beginning of its history whose machine has
+/// the cursor's count of undos and its tick, the list tells the world of then and that of now apart (docs/SESSIONS.md,
+/// "What it has seen").
 ///
-/// `ChangedSince` lists exactly the cells of matching rows of now that the world of then doesn't hold equal, ticks included;
-/// `AddedSince` exactly those of which it holds none that was added at the same tick.
+/// `ChangedSince` lists exactly the cells of matching rows of now that the world of then doesn't hold equal, ticks
+/// included; `AddedSince` exactly those of which it holds none that was added at the same tick.
 pub fn lists_tell_two_worlds_apart()
     ensures changed { (s : StateView) (before : List Entry) (cursor : Cursor) (f : Filter) (names : Vec CellName) (n : CellName)
         → IsNew s.opening.editor → IsMoment s before cursor → ListsSince changed_since cursor f (machine_at s) (Ok names)

@@ -1,4 +1,5 @@
--- Laws of the deltas of commands: each command that a valid world accepts is its deltas, made one after another; and how many they are.
+-- Laws of the deltas of commands: each command that a valid world accepts is its deltas, made one after another; and
+-- how many they are.
 use Rattle.std.specs.Prelude.{◌≡◌, ℕ, ◌+◌, ◌≤◌, List, [], ◌∷◌, true, Option, Ok, length, sum, if◌then◌else◌}
 use Rattle.std.specs.List.{flat_map}
 use Rattle.scene_kinds.specs.declared.entity.Entity.{Entity}

@@ -1,4 +1,5 @@
--- What each delta does to a world, and what taking it back does; and on which worlds it fits. The same of lists of deltas.
+-- What each delta does to a world, and what taking it back does; and on which worlds it fits. The same of lists of
+-- deltas.
 use Rattle.std.specs.Prelude.{List}
 use Rattle.scene_model.specs.World.{World}
 use Rattle.scene_model.specs.Raw.{put_row, drop_last, cut_row, uncut_row, shift_row, unshift_row, set_cell, set_link, set_resource}

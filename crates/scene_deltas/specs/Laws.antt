@@ -1,5 +1,5 @@
--- Laws of deltas: where one fits on a valid world, the world after it is valid, it fits back there, and taking it back gives the very
--- world from before; and the other way round.
+-- Laws of deltas: where one fits on a valid world, the world after it is valid, it fits back there, and taking it back
+-- gives the very world from before; and the other way round.
 use Rattle.scene_model.specs.RawLaws.{TakeEachOtherBack}
 use Rattle.scene_model.specs.RawLists.{ListsComeBack}
 use Rattle.scene_deltas.specs.declared.delta.Delta.{Delta}

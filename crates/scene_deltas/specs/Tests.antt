@@ -1,4 +1,5 @@
--- Where each raw change may be made, as tests that compute: each decides the record of its name in `Can` of scene_model.
+-- Where each raw change may be made, as tests that compute: each decides the record of its name in `Can` of
+-- scene_model.
 use Rattle.std.specs.Prelude.{ℕ, ◌+◌, Bool, true, false, not, if◌then◌else◌, ◌&&◌, List, Option, Some, None, is_none, length, nat_eq, nat_le, slice_get}
 use Rattle.std.specs.Bool.{beq}
 use Rattle.std.specs.List.{list_all}

@@ -1,4 +1,5 @@
--- Whether the cells of rows and of resources were added no later than they were changed, and changed no later than a tick.
+-- Whether the cells of rows and of resources were added no later than they were changed, and changed no later than a
+-- tick.
 use Rattle.std.specs.Prelude.{◌≡◌, ℕ, Bool, true, List, Option, Some, None}
 use Rattle.std.specs.List.{list_all}
 use Rattle.scene_kinds.specs.declared.cell.Cell.{Cell}

@@ -68,11 +68,11 @@ impl Delta {
         self.clone()
     }
 
-    /// Whether the delta fits on a world, so that it can be made there: the world has what the delta takes away, and may
-    /// get what it brings (docs/JOURNAL.md, "Where a delta fits").
+    /// Whether the delta fits on a world, so that it can be made there: the world has what the delta takes away, and
+    /// may get what it brings (docs/JOURNAL.md, "Where a delta fits").
     ///
-    /// It takes no memory. It costs a look at the delta's cells, and for a link a walk up from the parent and one over the
-    /// children there.
+    /// It takes no memory. It costs a look at the delta's cells, and for a link a walk up from the parent and one over
+    /// the children there.
     pub fn fits_on(&self, world: &World) -> bool
         ensures { IsTrue result ↔ FitsOn self.now world.now.world }
     {
@@ -115,7 +115,8 @@ impl Delta {
         }
     }
 
-    /// Whether the delta fits back on a world, so that it can be taken back there (docs/JOURNAL.md, "Where a delta fits").
+    /// Whether the delta fits back on a world, so that it can be taken back there (docs/JOURNAL.md, "Where a delta
+    /// fits").
     ///
     /// It takes no memory. It costs what `fits_on` costs, and for a despawn a look over the free list.
     pub fn fits_back(&self, world: &World) -> bool

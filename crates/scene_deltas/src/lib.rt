@@ -1,13 +1,13 @@
-//! One change of a world, which can be made again and taken back.
+//! One change of a world, which can be made again and taken back, and tested for whether it fits.
 //!
 //! A `Delta` is a change of one entity's row and link, of one cell, of one link or of one resource. It holds what the
-//! change brings and what it took away, so the world after it has all that is needed to go back, and the world before
-//! it all that is needed to go on (docs/JOURNAL.md).
+//! change brings and what it took away, so each world has all that is needed to come to the other (docs/JOURNAL.md).
 //!
-//! `specs/Deltas.antt` says what each delta does to a world and where it fits, which `Delta::fits_on` and `fits_back`
-//! test, and `specs/Notes.antt` which deltas a command makes. `laws` says that each takes the other direction back
-//! exactly. `make_again` and `take_back` do a delta to a `World` that has room for it; `redo_delta` and `undo_delta` make
-//! the room, and copy the cells.
+//! `specs/Deltas.antt` says what each does to a world and where it fits, `specs/Tests.antt` the tests of that, which
+//! compute and which `fits_on` and `fits_back` answer, and `specs/Notes.antt` which deltas a command makes. `laws` says
+//! that each takes the other direction back exactly, `test_laws` that the tests pass just where a delta fits.
+//! `make_again` and `take_back` need a `World` with room; `redo_delta` and `undo_delta` make the room, and copy the
+//! cells.
 #![tactic(auto)]
 
 mod delta;

@@ -1,19 +1,19 @@
 //! The one door for tools: an editor, what it takes, what it gives, and why it refuses.
 //!
-//! A tool lists this crate alone, and names nothing below it. The crate has no code: a type comes with its methods and their
-//! contracts, and `specs/` passes on the definitions that a tool's own clauses may lean on (docs/LIBRARY.md).
+//! A tool lists this crate alone, and names nothing below it. The crate has no code: a type comes with its methods and
+//! their contracts, and `specs/` passes on the definitions that a tool's own clauses may lean on (docs/LIBRARY.md).
 //!
 //! A tool makes a `Schema` of its kinds and an `Editor` of a `World`; or it loads the world. A change is a `Queue` of
-//! `Command`s, in which a `Target` is an entity or the k-th that the queue spawns; `Editor::submit` does queues as one frame
-//! and gives `Made`, the new entities. `undo` and `redo` are the editor's. A `SystemRule` says what is done with each matching
-//! row, in `Step`s; a `Schedule` is made of `Phase`s of such rules, and `Editor::advance_alone` does it as one frame, as
-//! `Editor::advance` does on several threads. `Editor::world` is read by `World::get`, which
-//! lends a `CellRef`, and by the passes, whose `Filter` says which entities they look at. What was written since a `Cursor`
-//! comes as `CellName`s. A `Refusal` says by a `Fault` why, and by a `Place` at which command; `Returned` hands back what a
-//! queue didn't take. A scene text goes through a `Source` or a `Sink`, and is refused by a `FileFault`.
+//! `Command`s, in which a `Target` is an entity or the k-th that the queue spawns; `Editor::submit` does queues as one
+//! frame and gives `Made`, the new entities. `undo` and `redo` are the editor's. A `SystemRule` says what is done with
+//! each matching row, in `Step`s; a `Schedule` is made of `Phase`s of such rules, and `Editor::advance_alone` does it
+//! as one frame, as `Editor::advance` does on several threads. `Editor::world` is read by `World::get`, which lends a
+//! `CellRef`, and by the passes, whose `Filter` says which entities they look at. What was written since a `Cursor`
+//! comes as `CellName`s. A `Refusal` says by a `Fault` why, and by a `Place` at which command; `Returned` hands back
+//! what a queue didn't take. A scene text goes through a `Source` or a `Sink`, and is refused by a `FileFault`.
 //!
-//! Where several threads work on one scene, each has a `Session` through a `Pass` of a `WordLock` over a `State`, which is an
-//! editor with its history (docs/SESSIONS.md).
+//! Where several threads work on one scene, each has a `Session` through a `Pass` of a `WordLock` over a `State`, which
+//! is an editor with its history (docs/SESSIONS.md).
 #![tactic(auto)]
 
 // Editors: frames, undo and redo.

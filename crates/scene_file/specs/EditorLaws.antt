@@ -13,8 +13,8 @@ pub record IsWorldText (bytes : List ℕ) (e : EditorState) : Type 0 where
   pub no_past : e.past ≡ []
   pub no_future : e.future ≡ []
 
--- the bytes are a text of version 2: their value is that of the world, of a past of which the editor keeps the newest records, and of the
--- future, of which it keeps all
+-- the bytes are a text of version 2: their value is that of the world, of a past of which the editor keeps the newest
+-- records, and of the future, of which it keeps all
 pub record IsEditorText (bytes : List ℕ) (e : EditorState) : Type 0 where
   pub past : List Record
   pub value : read bytes ≡ Some (editor_text e.world past e.future)

@@ -33,8 +33,8 @@ spawned_row = codes "{\"cells\":[[5,1,1]],\"entity\":\"0v1\"}"
 abbrev pub spawn_frame : List ℕ
 spawn_frame = frame_of (codes "[0,5,1,1]") (codes "0")
 
--- a text with and without its spawn is read, with the depth that is asked for: no record is kept at depth 0, but a future isn't cut; a
--- text of version 1 is read as an editor without records
+-- a text with and without its spawn is read, with the depth that is asked for: no record is kept at depth 0, but a
+-- future isn't cut; a text of version 1 is read as an editor without records
 abbrev pub SpawnIsLoaded : Type 0
 SpawnIsLoaded =
     (after_with spawned_row [] spawn_frame ≡ spawned_text)
@@ -45,7 +45,8 @@ SpawnIsLoaded =
     × (loaded_editor 0 undone_text ≡ Ok (editor_of 0 [] spawn (world_of before_spawn)))
     × (loaded_editor 8 small_text ≡ Ok (new_editor (world_of small) 8))
 
--- records that don't fit, of the past and of the future; a depth drops none before it is tried, and the world comes before them
+-- records that don't fit, of the past and of the future; a depth drops none before it is tried, and the world comes
+-- before them
 abbrev pub RecordFaults : Type 0
 RecordFaults =
     (loaded_editor 8 (after_with spawned_row [] (frame_of (codes "[0,5,1,1]") (codes "3"))) ≡ Err (BadRecord 0 1))
@@ -61,7 +62,8 @@ RecordFaults =
     × (loaded_editor 8 (after_with spawned_row [] (frame_of (codes "[0,5,1,1]") (codes "3") ++ codes "," ++ spawn_frame)) ≡ Err (BadRecord 1 1))
     × (loaded_editor 8 (after_with [] [] (frame_of (codes "[0,5,1,1]") (codes "3"))) ≡ Err (BadWorld 6))
 
--- faults of the form: the versions and their keys; an unknown key comes first, and `redo` before `resources`, and these before `undo`
+-- faults of the form: the versions and their keys; an unknown key comes first, and `redo` before `resources`, and these
+-- before `undo`
 abbrev pub EditorFaults : Type 0
 EditorFaults =
     (loaded_editor 8 (codes "{\"scene\":2}") ≡ Err (BadField (codes "children")))

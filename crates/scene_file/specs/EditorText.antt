@@ -1,4 +1,5 @@
--- The JSON value of a world with the records of its past and of its future (docs/SCENE_FILES.md, "Version 2"). The keys stand by their bytes.
+-- The JSON value of a world with the records of its past and of its future (docs/SCENE_FILES.md, "Version 2"). The keys
+-- stand by their bytes.
 use Rattle.std.specs.Prelude.{ℕ, List, [], ◌∷◌, ◌++◌, codes}
 use Rattle.serde_json.specs.Data.{Data}
 use Rattle.serde_json.specs.Written.{compact_text}

@@ -1,5 +1,5 @@
--- The walk through a scene text of version 1 or 2 (docs/SCENE_FILES.md, "The walk"): the parts and the records that it says, or the
--- first fault.
+-- The walk through a scene text of version 1 or 2 (docs/SCENE_FILES.md, "The walk"): the parts and the records that it
+-- says, or the first fault.
 use Rattle.std.specs.Prelude.{ℕ, List, [], ◌∷◌, codes, Result, Ok, Err, nat_eq, if◌then◌else◌}
 use Rattle.serde_json.specs.Data.{Data, Members}
 use Rattle.scene_validate.specs.Parts.{Parts}

@@ -16,6 +16,7 @@ if_short text = if nat_le (length text) most_bytes then Ok text else Err TooLong
 abbrev pub save_of : World → Result (List ℕ) FileFault
 save_of w = if_short (saved w)
 
--- the text of a world and of its records, with its newline: the past has the oldest first, the future the next one first
+-- the text of a world and of its records, with its newline: the past has the oldest first, the future the next one
+-- first
 abbrev pub save_editor_of : World → (past future : List Record) → Result (List ℕ) FileFault
 save_editor_of w past future = if_short (editor_saved w past future)

@@ -1,4 +1,5 @@
--- The JSON value of a world, by its parts (docs/SCENE_FILES.md, "Version 1"). The keys of each object stand by their bytes.
+-- The JSON value of a world, by its parts (docs/SCENE_FILES.md, "Version 1"). The keys of each object stand by their
+-- bytes.
 use Rattle.std.specs.Prelude.{ℕ, List, [], ◌∷◌, ◌++◌, codes, filter}
 use Rattle.std.specs.List.{range_with_len}
 use Rattle.serde_json.specs.Data.{Data, string}

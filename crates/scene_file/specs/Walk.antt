@@ -1,4 +1,5 @@
--- The walk through a scene text of version 1 (docs/SCENE_FILES.md, "The walk"): the parts that it says, or the first fault.
+-- The walk through a scene text of version 1 (docs/SCENE_FILES.md, "The walk"): the parts that it says, or the first
+-- fault.
 use Rattle.std.specs.Prelude.{ℕ, ◌+◌, ◌^◌, List, [], ◌∷◌, codes, Bool, ◌&&◌, Result, Ok, Err, nat_eq, nat_le, nat_lt, length, if◌then◌else◌, sum_by}
 use Rattle.std.specs.List.{filter_map, zip}
 use Rattle.std.specs.Ordering.{is_lt}

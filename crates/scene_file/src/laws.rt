@@ -15,9 +15,9 @@ pub fn only_texts_of_worlds_are_read()
     ensures { OnlyTextsAreRead }
 {}
 
-/// Law: nothing but the texts of editors is read as an editor. Where bytes are read as one, they are JSON, of which the value
-/// is that editor's own: of version 1, where it has no records, or of version 2, with records of which the depth may have
-/// dropped the oldest of the past (docs/SCENE_FILES.md, "Reading").
+/// Law: nothing but the texts of editors is read as an editor. Where bytes are read as one, they are JSON, of which the
+/// value is that editor's own: of version 1, where it has no records, or of version 2, with records of which the depth
+/// may have dropped the oldest of the past (docs/SCENE_FILES.md, "Reading").
 pub fn only_texts_of_editors_are_read()
     ensures { OnlyTextsOfEditorsAreRead }
 {}

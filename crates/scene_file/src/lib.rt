@@ -1,15 +1,15 @@
 //! The text of a world, or of an editor: what a scene file says, and which fault it has first (docs/SCENE_FILES.md).
 //!
-//! `specs/Text.antt` has the JSON value of a world and the bytes that a save writes, `specs/Walk.antt` the walk through a
-//! value, which gives the parts that it says or the first fault with its path, and `specs/Scene.antt` the world that
-//! bytes say; `specs/EditorText.antt`, `specs/EditorWalk.antt` and `specs/EditorScene.antt` have the same of an editor. All
-//! of them compute: `worked_texts`, `worked_editors` and `worked_readings` have them read and write texts byte by byte.
-//! `laws` says that the value of each valid world is read as that world, and that nothing but the values of worlds and
-//! editors is read; `saved_laws` that the bytes of a save are loaded as what was saved.
+//! `specs/Text.antt` has the JSON value of a world and the bytes that a save writes, `specs/Walk.antt` the walk through
+//! a value, which gives the parts that it says or the first fault with its path, and `specs/Scene.antt` the world that
+//! bytes say; `specs/EditorText.antt`, `specs/EditorWalk.antt` and `specs/EditorScene.antt` have the same of an editor.
+//! All of them compute: `worked_texts`, `worked_editors` and `worked_readings` have them read and write texts byte by
+//! byte. `laws` says that the value of each valid world is read as that world, and that nothing but the values of
+//! worlds and editors is read; `saved_laws` that the bytes of a save are loaded as what was saved.
 //!
-//! `save` writes the text of a world, by printers of its parts, and `save_text` answers it. `load_text` and `load` read one,
-//! by a `Form` for each word of the walk. `save_editor`, `save_editor_text`, `load_editor_text` and `load_editor` do the
-//! same of an editor.
+//! `save` writes the text of a world, by printers of its parts, and `save_text` answers it. `load_text` and `load` read
+//! one, by a `Form` for each word of the walk. `save_editor`, `save_editor_text`, `load_editor_text` and `load_editor`
+//! do the same of an editor.
 #![tactic(auto)]
 
 mod editor_examples;

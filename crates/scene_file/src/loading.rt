@@ -40,7 +40,8 @@ pub(crate) fn document_of<'a>(
     }
 }
 
-/// The parts of a text. What is read of the text besides is given back with them, since it takes more memory than a world.
+/// The parts of a text. What is read of the text besides is given back with them, since it takes more memory than a
+/// world.
 #[tactic(auto, using(scene_json_forms::proofs::Walking::walking, crate::proofs::TextFaults::loading))]
 fn parts_of_text(alloc: Global, text: &[u8]) -> Result<WorldParts, FileFault>
     ensures found { IfOk result (λ parts. loaded text.now ≡ if_unbroken (first_broken (seen parts)) (seen parts)) }
@@ -79,12 +80,12 @@ fn world_in(alloc: Global, text: &[u8]) -> Result<World, FileFault>
 /// The world that a scene text of version 1 says (docs/SCENE_FILES.md, "Reading"). Where there is one, the text is its
 /// text: the text's JSON value is the world's own.
 ///
-/// Refused, in this order: `NotJson`; `BadField` and `BadVersion` of the head; `UnknownKey` and `BadField`, the first that
-/// the walk through the text meets, with its path; `BadWorld` with the first rule that is broken. `NoMemory` may stand in
-/// place of any answer, and does where the text has more than 4,294,967,040 bytes. It costs the text's length, and for the
-/// kind sets of tables and the names of resources their number times its logarithm. No tree of values is made: while it
-/// lasts it takes up to five bytes for each byte of the text, 24 for each bracket, comma, colon, string and number, and
-/// what the parts take.
+/// Refused, in this order: `NotJson`; `BadField` and `BadVersion` of the head; `UnknownKey` and `BadField`, the first
+/// that the walk through the text meets, with its path; `BadWorld` with the first rule that is broken. `NoMemory` may
+/// stand in place of any answer, and does where the text has more than 4,294,967,040 bytes. It costs the text's length,
+/// and for the kind sets of tables and the names of resources their number times its logarithm. No tree of values is
+/// made: while it lasts it takes up to five bytes for each byte of the text, 24 for each bracket, comma, colon, string
+/// and number, and what the parts take.
 #[tactic(auto, using(crate::proofs::TextFaults::loading, crate::proofs::OnlyTexts::texts))]
 pub fn load_text(alloc: Global, text: &[u8]) -> Result<World, FileFault>
     ensures world { IfOk result (λ world. loaded text.now ≡ Ok world.world) }
@@ -98,8 +99,8 @@ pub fn load_text(alloc: Global, text: &[u8]) -> Result<World, FileFault>
 /// The world that a reader's text says: `load_text` of all its bytes (docs/SCENE_FILES.md, "Reading").
 ///
 /// Refused: `ReadFault` exactly where the source has failed, now or before, and where it hadn't then in a call of its
-/// reader; `TooLong` where there are more than 67,108,864 bytes, or the end doesn't come in the turns of the source; and
-/// then as `load_text` refuses.
+/// reader; `TooLong` where there are more than 67,108,864 bytes, or the end doesn't come in the turns of the source;
+/// and then as `load_text` refuses.
 #[tactic(auto, using(crate::proofs::TextFaults::loading, crate::proofs::OnlyTexts::texts))]
 pub fn load<R: Read>(alloc: Global, source: &mut Source<R>) -> Result<World, FileFault>
     ensures world { IfOk result (λ world. IfSome (R.remaining (reader_of source.old)) (λ text. loaded text ≡ Ok world.world)) }

@@ -82,12 +82,13 @@ fn editor_in(alloc: Global, text: &[u8], depth: u32) -> Result<Editor, FileFault
 /// The editor that a scene text of version 1 or 2 says, which keeps the newest `depth` records of its past
 /// (docs/SCENE_FILES.md, "Reading"). A text of version 1 has no records. No undos were made so far.
 ///
-/// Refused, in this order: `NotJson`; `BadField` and `BadVersion` of the head; `UnknownKey` and `BadField`, the first that
-/// the walk through the text meets, with its path; `BadWorld` with the first rule that is broken; `BadRecord` with the
-/// first record that doesn't fit at its turn, and its fault, as `Editor::from_parts` names them: all are tried, and then
-/// the depth drops the oldest. `NoMemory` may stand in place of any answer, and does where the text has more than
-/// 4,294,967,040 bytes. It costs what `load_text` costs, and what `Editor::from_parts` does: twice what the records changed,
-/// and one look at all cells, however many frames there are. The text's document is given back before the world is made.
+/// Refused, in this order: `NotJson`; `BadField` and `BadVersion` of the head; `UnknownKey` and `BadField`, the first
+/// that the walk through the text meets, with its path; `BadWorld` with the first rule that is broken; `BadRecord` with
+/// the first record that doesn't fit at its turn, and its fault, as `Editor::from_parts` names them: all are tried, and
+/// then the depth drops the oldest. `NoMemory` may stand in place of any answer, and does where the text has more than
+/// 4,294,967,040 bytes. It costs what `load_text` costs, and what `Editor::from_parts` does: twice what the records
+/// changed, and one look at all cells, however many frames there are. The text's document is given back before the
+/// world is made.
 #[tactic(auto, using(crate::proofs::TextFaults::loading))]
 pub fn load_editor_text(alloc: Global, text: &[u8], depth: u32) -> Result<Editor, FileFault>
     ensures editor { IfOk result (λ editor. loaded_editor depth text.now ≡ Ok editor) }
@@ -101,8 +102,8 @@ pub fn load_editor_text(alloc: Global, text: &[u8], depth: u32) -> Result<Editor
 /// The editor that a reader's text says: `load_editor_text` of all its bytes (docs/SCENE_FILES.md, "Reading").
 ///
 /// Refused: `ReadFault` exactly where the source has failed, now or before, and where it hadn't then in a call of its
-/// reader; `TooLong` where there are more than 67,108,864 bytes, or the end doesn't come in the turns of the source; and
-/// then as `load_editor_text` refuses.
+/// reader; `TooLong` where there are more than 67,108,864 bytes, or the end doesn't come in the turns of the source;
+/// and then as `load_editor_text` refuses.
 #[tactic(auto, using(crate::proofs::TextFaults::loading))]
 pub fn load_editor<R: Read>(
     alloc: Global,

@@ -38,8 +38,8 @@ fn short_text(alloc: Global, world: &World) -> Result<String, FileFault>
     Ok(text)
 }
 
-/// The text of a world as a save writes it, with its newline (docs/SCENE_FILES.md, "Writing"). Loading it gives just this
-/// world, so equal texts come from equal worlds.
+/// The text of a world as a save writes it, with its newline (docs/SCENE_FILES.md, "Writing"). Loading it gives just
+/// this world, so equal texts come from equal worlds.
 ///
 /// Refused: `TooLong` where text and newline are more than `MOST_BYTES` bytes, which no load reads; or `NoMemory`. It
 /// costs a walk over the world, with a look for each kind set, parent and resource, and the memory of the text alone.
@@ -52,12 +52,12 @@ pub fn save_text(alloc: Global, world: &World) -> Result<String, FileFault>
     short_text(alloc, world)
 }
 
-/// Writes the text of a world, with its newline, to a sink (docs/SCENE_FILES.md, "Writing"). Loading what was written gives
-/// just this world.
+/// Writes the text of a world, with its newline, to a sink (docs/SCENE_FILES.md, "Writing"). Loading what was written
+/// gives just this world.
 ///
-/// Refused, in this order: `TooLong` or `NoMemory` as by `save_text`, and then nothing was written; `WriteFault` where a
-/// call of the writer fails or takes no byte, or did so before, and then a prefix of the text was written. It costs what
-/// `save_text` costs, and a call of the writer for each part that it takes.
+/// Refused, in this order: `TooLong` or `NoMemory` as by `save_text`, and then nothing was written; `WriteFault` where
+/// a call of the writer fails or takes no byte, or did so before, and then a prefix of the text was written. It costs
+/// what `save_text` costs, and a call of the writer for each part that it takes.
 pub fn save<W: Write>(alloc: Global, sink: &mut Sink<W>, world: &World) -> Result<(), FileFault>
     ensures written { OnOk result (Appends (W.contents (writer_of sink.old)) (W.contents (writer_of sink.new)) (saved world.now.world)) }
     ensures loads { OnOk result (loaded (saved world.now.world) ≡ Ok world.now.world) }

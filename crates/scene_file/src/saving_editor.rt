@@ -35,9 +35,9 @@ fn whole_text(alloc: Global, editor: &Editor) -> Result<String, AllocError>
     Ok(text)
 }
 
-/// The text of an editor as a save writes it, with its newline: its world and its records, but neither its depth nor how many
-/// undos there were (docs/SCENE_FILES.md, "Writing" and "Version 2"). Loading it at any depth gives just this editor, with
-/// that depth, the newest of its past that the depth keeps, and no undos so far.
+/// The text of an editor as a save writes it, with its newline: its world and its records, but neither its depth nor
+/// how many undos there were (docs/SCENE_FILES.md, "Writing" and "Version 2"). Loading it at any depth gives just this
+/// editor, with that depth, the newest of its past that the depth keeps, and no undos so far.
 ///
 /// Refused: `TooLong` where text and newline are more than `MOST_BYTES` bytes, which no load reads; or `NoMemory`. It
 /// costs a walk over the world, with a look for each kind set, parent and resource, a walk over the records, and the
@@ -59,8 +59,8 @@ pub fn save_editor_text(alloc: Global, editor: &Editor) -> Result<String, FileFa
 /// gives just this editor, as `save_editor_text` says.
 ///
 /// Refused, in this order: `TooLong` or `NoMemory` as by `save_editor_text`, and then nothing was written; `WriteFault`
-/// where a call of the writer fails or takes no byte, or did so before, and then a prefix of the text was written. It costs
-/// what `save_editor_text` costs, and a call of the writer for each part that it takes.
+/// where a call of the writer fails or takes no byte, or did so before, and then a prefix of the text was written. It
+/// costs what `save_editor_text` costs, and a call of the writer for each part that it takes.
 pub fn save_editor<W: Write>(
     alloc: Global,
     sink: &mut Sink<W>,

@@ -49,7 +49,8 @@ first_delta = codes "undo[0].deltas[0]"
 abbrev pub at_key : List ℕ → List ℕ
 at_key key = first_delta ++ (codes "." ++ key)
 
--- a spawn of one Int: its text, also in another order of keys, with white space, with a further cell and with a later tick
+-- a spawn of one Int: its text, also in another order of keys, with white space, with a further cell and with a later
+-- tick
 abbrev pub SpawnIsWrittenAndRead : Type 0
 SpawnIsWrittenAndRead =
     let spawn : ℕ → ℕ → List Record = λ changed tick. record_of tick (Spawned (ent 0 1) ((0, cell (value.Int (pos 5)) 1 changed) ∷ []) true ∷ []) ∷ [] in
@@ -87,7 +88,8 @@ RecordFaults =
     × IsFaulty (codes "[{\"deltas\":[],\"tick\":0},{\"deltas\":[],\"tick\":-1}]") (BadField (codes "undo[1].tick"))
     × IsFaulty (of_delta (codes "[]")) (BadField first_delta)
 
--- `op` is looked at before the unknown keys, and these before the others; of a key that stands twice the last value counts
+-- `op` is looked at before the unknown keys, and these before the others; of a key that stands twice the last value
+-- counts
 abbrev pub OpFaults : Type 0
 OpFaults =
     IsFaulty (of_delta (codes "{\"cells\":[],\"x\":0}")) (BadField (at_key (codes "op")))

@@ -1,4 +1,5 @@
--- The JSON values of records, by their parts (docs/SCENE_FILES.md, "Version 2"). The keys of each object stand by their bytes.
+-- The JSON values of records, by their parts (docs/SCENE_FILES.md, "Version 2"). The keys of each object stand by their
+-- bytes.
 use Rattle.std.specs.Prelude.{ℕ, List, [], ◌∷◌, Bool, codes, Option, Some, None}
 use Rattle.serde_json.specs.Data.{Data, null, boolean, string}
 use Rattle.scene_kinds.specs.declared.entity.Entity.{Entity}

@@ -1,4 +1,5 @@
--- The walk through the records of a scene text of version 2 (docs/SCENE_FILES.md, "The walk"): what they say, or the first fault.
+-- The walk through the records of a scene text of version 2 (docs/SCENE_FILES.md, "The walk"): what they say, or the
+-- first fault.
 use Rattle.std.specs.Prelude.{ℕ, List, [], ◌∷◌, codes, Bool, Option, Some, None, is_some, Result, Ok, Err, option_and_then, nat_eq, nat_lt, length, if◌then◌else◌}
 use Rattle.serde_json.specs.Data.{Data, Members}
 use Rattle.serde_json.specs.Find.{as_bool, as_null, as_object, as_str}

@@ -1,5 +1,5 @@
--- Which records have a text that is read again: each number lies in the range of its type, each kind is in the schema and its cell has
--- its shape, the kinds of a list of cells ascend, and names are good. A tick may be any number.
+-- Which records have a text that is read again: each number lies in the range of its type, each kind is in the schema
+-- and its cell has its shape, the kinds of a list of cells ascend, and names are good. A tick may be any number.
 use Rattle.std.specs.Prelude.{◌≡◌, ℕ, ◌<◌, ◌^◌, List, true, IfSome}
 use Rattle.std.specs.List.{list_all, AllByRecursion}
 use Rattle.scene_kinds.specs.declared.entity.Entity.{Entity}

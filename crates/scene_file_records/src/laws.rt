@@ -1,8 +1,8 @@
 //! Laws of the text of records.
 ghost use Rattle.scene_file_records.specs.Laws.{OnlyTextsAreRead, RecordsAreReadAgain};
 
-/// Law: the JSON value of records whose numbers lie in the ranges of their types, whose kinds are in the schema and ascend,
-/// whose cells have their kinds' shapes and whose names are good is read as those very records, with no fault
+/// Law: the JSON value of records whose numbers lie in the ranges of their types, whose kinds are in the schema and
+/// ascend, whose cells have their kinds' shapes and whose names are good is read as those very records, with no fault
 /// (docs/SCENE_FILES.md, "Version 2").
 pub fn written_records_are_read_again()
     ensures { RecordsAreReadAgain }

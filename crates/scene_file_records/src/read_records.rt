@@ -45,12 +45,12 @@ impl Form for RecordForm<'_> {
     }
 }
 
-/// The form of a list of records, as those of the past or of the future, over a schema (docs/SCENE_FILES.md, "Version 2").
-/// They are read in the order in which they stand; whether they fit a world isn't asked. It costs a walk over the value, with
-/// a look for each key, and for the keys of an object their number times that of the keys known.
+/// The form of a list of records, as those of the past or of the future, over a schema (docs/SCENE_FILES.md, "Version
+/// 2"). They are read in the order in which they stand; whether they fit a world isn't asked. It costs a walk over the
+/// value, with a look for each key, and for the keys of an object their number times that of the keys known.
 ///
-/// Refused: the first `UnknownKey` or `BadField` that the walk meets, with its path (docs/SCENE_FILES.md, "The walk"); or
-/// `NoMemory`.
+/// Refused: the first `UnknownKey` or `BadField` that the walk meets, with its path (docs/SCENE_FILES.md, "The walk");
+/// or `NoMemory`.
 #[derive(Drop)]
 pub struct RecordsForm<'a> {
     /// The kinds of the world, whose numbers and shapes the cells have.

@@ -24,8 +24,8 @@ fn a_failed_read_is_a_read_fault(rt: HostRuntime) -> Result<(), Fail> {
     Ok(())
 }
 
-/// Saves to a writer that stops at a call, counted from 1, and whether that is told just where the text needs that call,
-/// and leaves what the calls before took.
+/// Saves to a writer that stops at a call, counted from 1, and whether that is told just where the text needs that
+/// call, and leaves what the calls before took.
 fn stops_at(alloc: Global, world: &World, text: &[u8], call: u32, fails: bool) -> bool {
     let mut sink = Sink::new(Taker::new(alloc, call, fails));
     let before = 2 * (call as usize).saturating_sub(1);

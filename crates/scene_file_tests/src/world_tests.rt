@@ -74,8 +74,8 @@ fn prints_as(alloc: Global, world: &World, text: &str) -> bool {
     save_text(alloc, world).is_ok_and(|found| found.as_str() == text)
 }
 
-/// Whether a load of a text, of which a reader gives little at a time, gives the world with the moved rows, which prints so
-/// again.
+/// Whether a load of a text, of which a reader gives little at a time, gives the world with the moved rows, which
+/// prints so again.
 fn loads_moved(alloc: Global, text: &str) -> bool {
     let mut source = Source::new(Pieces::new(text.as_bytes(), 7, 0, ErrorKind::Other));
     match load(alloc, &mut source) {

@@ -35,7 +35,7 @@ pub told_both : {A E P : Type 0} (r : Result A E) (x : A) (Q : A → Type 0) →
 told_both (Ok a) x Q f is p = subst Q (sym is) (f p)
 told_both (Err e) x Q f is p = tt
 
--- a state whose hand is as it was is as it was
+-- a state whose owner is as it was is as it was
 pub owner_kept : (s : PlayState) (h : OwnerState) → h ≡ s.owner → with_owner s h ≡ s
 owner_kept s h same =
     (λ i. record { owner = same i; schema = s.schema; cursor = s.cursor; frame = s.frame; phases = s.phases })

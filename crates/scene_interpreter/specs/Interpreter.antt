@@ -45,7 +45,7 @@ abbrev pub interpreter_kinds : Interpreter → Kinds
 interpreter_kinds (Setting s) = setup_kinds s
 interpreter_kinds (Playing s) = s.schema
 
--- the hand that the lines so far leave
+-- the owner that the lines so far leave
 abbrev pub owner_of : Interpreter → OwnerState
 owner_of (Setting s) = first_owner s
 owner_of (Playing s) = s.owner

@@ -5,7 +5,7 @@ use Rattle.scene_interpreter.specs.declared.play_state.PlayState.{PlayState}
 use Rattle.scene_interpreter.specs.Play.{SetupState, with_owner}
 use Rattle.scene_interpreter.specs.Interpreter.{Interpreter, Setting, Playing, interpreter_reply}
 
--- the same hand without a lock
+-- the same owner without a lock
 abbrev pub owner_alone : OwnerState → OwnerState
 owner_alone h = record h { is_alone = true }
 

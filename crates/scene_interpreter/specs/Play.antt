@@ -37,11 +37,11 @@ use Rattle.scene_print.specs.Shown.{show_text}
 
 -- ---- the state between two lines, and cursors
 
--- the hand at first, the kinds, the cursor from before the first mark, no frame and no phases
+-- the owner at first, the kinds, the cursor from before the first mark, no frame and no phases
 abbrev pub opening_state : OwnerState → Kinds → PlayState
 opening_state h kinds = record { owner = h; schema = kinds; cursor = record { rewinds = 0; tick = 0 }; frame = None; phases = [] }
 
--- the state with another hand
+-- the state with another owner
 abbrev pub with_owner : PlayState → OwnerState → PlayState
 with_owner s h = record s { owner = h }
 
@@ -224,7 +224,7 @@ abbrev pub first_editor : Base → ℕ → EditorState
 first_editor (Declared kinds limit) depth = new_editor (new_world kinds limit) depth
 first_editor (Loaded e) depth = at_depth depth e
 
--- the hand with which the run begins
+-- the owner with which the run begins
 abbrev pub first_owner : SetupState → OwnerState
 first_owner s = opening_owner (whole_of (first_editor s.base s.depth)) s.calls s.is_alone
 
@@ -277,8 +277,8 @@ calls_reply s n = setup_answer Taken (record s { calls = n })
 abbrev pub depth_reply : SetupState → ℕ → SetupReply
 depth_reply s n = setup_answer Taken (record s { depth = n })
 
--- the reply to a line of the setup, and none where the line ends it; an empty one and a comment don't end it, nor does a line
--- of a frame, which is bad here
+-- the reply to a line of the setup, and none where the line ends it; an empty one and a comment don't end it, nor does
+-- a line of a frame, which is bad here
 abbrev pub setup_reply : SetupState → Line → Option SetupReply
 setup_reply s Empty = Some (setup_answer Nothing s)
 setup_reply s (Kind name shape) = Some (kind_reply s s.base name shape)

@@ -20,8 +20,8 @@ use scene_session::Reply;
 use scene_undo::Cursor;
 use std::alloc::{AllocError, Global};
 
-/// What a line is answered with (docs/SCRIPTS.md, "Lines"). `write_text` says it as a script does. Contracts see what it means:
-/// `said_of` in `specs/Answer.antt`.
+/// What a line is answered with (docs/SCRIPTS.md, "Lines"). `write_text` says it as a script does. Contracts see what
+/// it means: `said_of` in `specs/Answer.antt`.
 #[derive(Drop)]
 pub enum LineAnswer {
     /// Nothing: the line is empty or a comment.
@@ -101,8 +101,8 @@ fn write_reply(out: &mut String, reply: &Reply) -> Result<(), AllocError>
 }
 
 impl LineAnswer {
-    /// Adds the answer as a script prints it, where these are the kinds. It costs the text. An error only where no memory was
-    /// found; a part may be added then.
+    /// Adds the answer as a script prints it, where these are the kinds. It costs the text. An error only where no
+    /// memory was found; a part may be added then.
     pub fn write_text(
         &self,
         alloc: Global,

@@ -49,8 +49,8 @@ fn answer_queue(
     Ok(LineAnswer::Taken)
 }
 
-/// The queues of a frame that is to be committed; or the frame, where no memory was found. One of more queues than 32 bits count
-/// is as one for which there is no memory.
+/// The queues of a frame that is to be committed; or the frame, where no memory was found. One of more queues than 32
+/// bits count is as one for which there is no memory.
 fn queues_to_commit(frame: OpenFrame) -> Result<Vec<Queue>, OpenFrame>
     ensures queues { IfOk result (λ queues. queues.items ≡ queues_of frame) }
     ensures count { IfOk result (λ queues. length queues.items ≤ 4294967295) }
@@ -92,8 +92,8 @@ fn answer_commit<P: Performer>(
     }
 }
 
-/// Answers a line in a frame that was taken out of the state. The frame is there again where the line doesn't end it, and where no
-/// memory is found.
+/// Answers a line in a frame that was taken out of the state. The frame is there again where the line doesn't end it,
+/// and where no memory is found.
 pub(crate) fn answer_in_frame<P: Performer>(
     performer: &P,
     alloc: Global,

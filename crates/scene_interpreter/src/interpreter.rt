@@ -35,8 +35,8 @@ pub(crate) enum Mode {
     Playing(PlayState),
 }
 
-/// What the lines of a script so far have come to: the setup, or the sessions of the state, the frame that is open, the systems
-/// and the cursor (docs/SCRIPTS.md, "Lines"). It takes a line at a time, and keeps none of them.
+/// What the lines of a script so far have come to: the setup, or the sessions of the state, the frame that is open, the
+/// systems and the cursor (docs/SCRIPTS.md, "Lines"). It takes a line at a time, and keeps none of them.
 #[derive(Drop)]
 pub struct Interpreter {
     pub(crate) alloc: Global,
@@ -58,8 +58,8 @@ pub(crate) fn said_in(
     }
 }
 
-/// Ends the setup by a line, and answers it in the state that follows. The state is there also where no memory is found for the
-/// line itself.
+/// Ends the setup by a line, and answers it in the state that follows. The state is there also where no memory is found
+/// for the line itself.
 fn begin<P: Performer>(
     performer: &P,
     alloc: Global,
@@ -117,7 +117,8 @@ fn after_begin(answered: Result<LineAnswer, AllocError>) -> Result<LineAnswer, H
 }
 
 impl Interpreter {
-    /// The interpreter before its first line, whose sessions will have a lock. `OnThreads` performs its lines. It takes no memory.
+    /// The interpreter before its first line, whose sessions will have a lock. `OnThreads` performs its lines. It takes
+    /// no memory.
     pub fn new(alloc: Global) -> Interpreter
         ensures { interpreter_of result ≡ first_interpreter }
     {
@@ -127,9 +128,9 @@ impl Interpreter {
         }
     }
 
-    /// The interpreter before its first line, whose sessions will have no lock, with these limits: `ThisThread` performs its lines. What
-    /// they are answered with doesn't depend on the lock (`a_lock_changes_no_answer`). Its calls are only counted, and so may be
-    /// more than a lock keeps. It takes no memory.
+    /// The interpreter before its first line, whose sessions will have no lock, with these limits: `ThisThread`
+    /// performs its lines. What they are answered with doesn't depend on the lock (`a_lock_changes_no_answer`). Its
+    /// calls are only counted, and so may be more than a lock keeps. It takes no memory.
     pub fn alone(alloc: Global, settings: InterpreterSettings) -> Interpreter
         ensures { interpreter_of result ≡ lone_interpreter settings.depth settings.calls }
     {
@@ -163,8 +164,8 @@ impl Interpreter {
         }
     }
 
-    /// The systems that the lines so far have given, phase by phase (docs/SCRIPTS.md, "Systems"). In the setup there are none. It
-    /// takes no memory.
+    /// The systems that the lines so far have given, phase by phase (docs/SCRIPTS.md, "Systems"). In the setup there
+    /// are none. It takes no memory.
     pub fn systems(&self) -> &[Phase]
         ensures { result.now ≡ systems_of (interpreter_of self.now) }
     {
@@ -194,8 +195,8 @@ impl Interpreter {
         }
     }
 
-    /// Drops the frame that is open, with its commands, and makes no call. It says whether there was one; all else stays. It takes
-    /// no memory.
+    /// Drops the frame that is open, with its commands, and makes no call. It says whether there was one; all else
+    /// stays. It takes no memory.
     pub fn drop_frame(&mut self) -> bool
         ensures open { result ≡ frame_is_open (interpreter_of self.old) }
         ensures dropped { interpreter_of self.new ≡ without_frame (interpreter_of self.old) }
@@ -206,9 +207,10 @@ impl Interpreter {
         }
     }
 
-    /// Whether a line, given without its line break, may change the interpreter. One of which this is false only asks, is empty
-    /// or is bad: who keeps lines to play them again can leave it out (`a_line_that_changes_nothing_leaves_the_interpreter`). It
-    /// is true of each line that ends the setup, and of one that is refused. The line isn't played; it costs a walk over it.
+    /// Whether a line, given without its line break, may change the interpreter. One of which this is false only asks,
+    /// is empty or is bad: who keeps lines to play them again can leave it out
+    /// (`a_line_that_changes_nothing_leaves_the_interpreter`). It is true of each line that ends the setup, and of one
+    /// that is refused. The line isn't played; it costs a walk over it.
     ///
     /// `AllocError` where no memory was found for what it says.
     pub fn changes(&self, bytes: &[u8]) -> Result<bool, AllocError>
@@ -250,8 +252,8 @@ impl Interpreter {
         }
     }
 
-    /// Plays what a line says, or why it is bad, as `play` does with the line: for callers that make a `Line` themselves. No text
-    /// is read. `interpreter_said` is its meaning, of which that of `play` is a case.
+    /// Plays what a line says, or why it is bad, as `play` does with the line: for callers that make a `Line`
+    /// themselves. No text is read. `interpreter_said` is its meaning, of which that of `play` is a case.
     ///
     /// Halted as `play` is.
     #[tactic(auto, using(crate::proofs::InterpreterLaws::told))]
@@ -275,12 +277,12 @@ impl Interpreter {
         }
     }
 
-    /// Plays a line, which is given without its line break (docs/SCRIPTS.md, "Lines"). A bad line, and one that is refused, is
-    /// answered, and changes nothing. It costs what the line asks for, over a lock some thirty loads of a word, and the memory of
-    /// a call.
+    /// Plays a line, which is given without its line break (docs/SCRIPTS.md, "Lines"). A bad line, and one that is
+    /// refused, is answered, and changes nothing. It costs what the line asks for, over a lock some thirty loads of a
+    /// word, and the memory of a call.
     ///
-    /// Halted only for want of memory: `Before` and `Begun`, where the line isn't done; `Lost`, where it would have ended the setup,
-    /// whose kinds or scene are lost.
+    /// Halted only for want of memory: `Before` and `Begun`, where the line isn't done; `Lost`, where it would have
+    /// ended the setup, whose kinds or scene are lost.
     pub fn play<P: Performer>(&mut self, performer: &P, bytes: &[u8]) -> Result<LineAnswer, Halt>
         ensures answer { IfOk result (λ answer. Tells answer (interpreter_of self.new) (interpreter_reply (interpreter_of self.old) bytes.now)) }
         ensures halted { IfErr result (λ h. interpreter_of self.new
@@ -295,7 +297,8 @@ impl Interpreter {
 
     /// Plays a line, and adds its answer as a script prints it. It gives why the line is bad, where it is.
     ///
-    /// Halted only for want of memory, as `play` is, or `After`, where the line is done. A part of the answer may be added then.
+    /// Halted only for want of memory, as `play` is, or `After`, where the line is done. A part of the answer may be
+    /// added then.
     pub fn line<P: Performer>(
         &mut self,
         performer: &P,
@@ -321,7 +324,8 @@ impl Interpreter {
         leave(mem::replace(&mut self.mode, Mode::Playing(state)));
     }
 
-    /// Ends the setup, where it isn't over: what follows is as behind a line that ends it. It costs what that line costs.
+    /// Ends the setup, where it isn't over: what follows is as behind a line that ends it. It costs what that line
+    /// costs.
     ///
     /// Halted only for want of memory: `Before`; `Lost`, where the kinds or the scene of the setup are lost.
     pub fn end_setup(&mut self) -> Result<(), Halt>
@@ -340,8 +344,8 @@ impl Interpreter {
         }
     }
 
-    /// The editor behind the setup of an interpreter that is alone, to read without a copy. `None` only in the setup, and where a lock is
-    /// over the editor. It takes no memory.
+    /// The editor behind the setup of an interpreter that is alone, to read without a copy. `None` only in the setup,
+    /// and where a lock is over the editor. It takes no memory.
     pub fn editor(&self) -> Option<&Editor>
         ensures editor { IfSome result (λ editor. whole_of editor.now ≡ whole_at (owner_of (interpreter_of self.now))) }
         ensures missing { IfNone result (HasNoEditor (interpreter_of self.now)) }
@@ -352,8 +356,8 @@ impl Interpreter {
         }
     }
 
-    /// Drops the interpreter, as the end of its owner would. Who says it has the drop checked here, where it is dear, and not once
-    /// more in a crate of its own.
+    /// Drops the interpreter, as the end of its owner would. Who says it has the drop checked here, where it is dear,
+    /// and not once more in a crate of its own.
     pub fn close(self) {
         let Interpreter { mode, .. } = self;
         leave(mode);

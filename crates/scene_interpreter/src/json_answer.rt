@@ -117,8 +117,8 @@ impl LineAnswer {
     }
 
     /// Adds the answer as one line of JSON (docs/SHELL.md, "JSON"), where these are the kinds. A text stands in it as
-    /// a string: `Interpreter::line_json` asks for the JSON of what a line shows instead. Why a line is bad stands in the
-    /// words of `BadLine`, of which the contract says nothing. It costs the text. An error only where no memory was
+    /// a string: `Interpreter::line_json` asks for the JSON of what a line shows instead. Why a line is bad stands in
+    /// the words of `BadLine`, of which the contract says nothing. It costs the text. An error only where no memory was
     /// found; a part may be added then.
     pub fn write_json(
         &self,

@@ -1,9 +1,9 @@
-//! The interpreter of a script's lines, one at a time.
+//! The interpreter of a script's lines: what each line answers.
 //!
-//! A `Interpreter` takes the bytes of a line and gives its `LineAnswer`, which says itself as a script prints it; all else it keeps: the
-//! setup, the sessions of the state, the frame that is open, the systems and the cursor. What a line says is scene_script's; what
-//! it does and answers is here, exact against `interpreter_reply` in `specs/Interpreter.antt`, which speaks of the machine of saved worlds
-//! (docs/SCRIPTS.md explains the language).
+//! An `Interpreter` takes the bytes of a line and gives its `LineAnswer`, which says itself as a script prints it; all
+//! else it keeps: the setup, the sessions of the state, the frame that is open, the systems and the cursor. What a line
+//! says is scene_script's; what it does and answers is here, exact against `interpreter_reply` in
+//! `specs/Interpreter.antt`, which speaks of the machine of saved worlds (docs/SCRIPTS.md explains the language).
 #![tactic(auto)]
 
 mod answer;

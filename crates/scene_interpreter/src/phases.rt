@@ -59,8 +59,8 @@ impl Phases {
         Ok(())
     }
 
-    /// Puts a system last in the last phase, which it makes where there is none; or finds no memory, and then the phases are as
-    /// they were.
+    /// Puts a system last in the last phase, which it makes where there is none; or finds no memory, and then the
+    /// phases are as they were.
     #[tactic(auto, using(crate::proofs::PhaseLaws::put_last))]
     pub(crate) fn add_system(&mut self, rule: Rule) -> Result<(), AllocError>
         ensures added { OnOk result (self.new ≡ with_system self.old rule) }

@@ -9,8 +9,8 @@ use scene_session::SessionOwner;
 use scene_undo::Cursor;
 use std::alloc::Global;
 
-/// The sessions of the state, the kinds of its world, the cursor that the last mark took, the frame that is open, and the phases
-/// of systems.
+/// The sessions of the state, the kinds of its world, the cursor that the last mark took, the frame that is open, and
+/// the phases of systems.
 #[derive(Drop)]
 pub(crate) struct PlayState {
     pub(crate) owner: SessionOwner,
@@ -21,7 +21,8 @@ pub(crate) struct PlayState {
 }
 
 impl PlayState {
-    /// The state in which a run begins: no frame, no phases, and the cursor from before the first mark. It takes no memory.
+    /// The state in which a run begins: no frame, no phases, and the cursor from before the first mark. It takes no
+    /// memory.
     pub(crate) fn new(alloc: Global, owner: SessionOwner, schema: Schema) -> Self
         ensures { result ≡ opening_state owner schema }
     {

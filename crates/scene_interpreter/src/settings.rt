@@ -3,8 +3,8 @@ ghost use Rattle.std.specs.Prelude.{◌≡◌};
 
 use scene_script::Limit;
 
-/// The limits with which an interpreter without a lock begins (docs/SCRIPTS.md, "Setup"). The lines `depth` and `calls` set them
-/// anew.
+/// The limits with which an interpreter without a lock begins (docs/SCRIPTS.md, "Setup"). The lines `depth` and `calls`
+/// set them anew.
 #[derive(Drop, Debug)]
 pub struct InterpreterSettings {
     /// How many frames can be undone.

@@ -24,7 +24,8 @@ pub(crate) enum Base {
 }
 
 impl Base {
-    /// The editor with which the run begins, of a depth: of a world without entities, or the loaded one. It takes no memory.
+    /// The editor with which the run begins, of a depth: of a world without entities, or the loaded one. It takes no
+    /// memory.
     fn into_editor(self, alloc: Global, depth: u32) -> Editor
         ensures { result ≡ first_editor (base_of self) depth }
     {
@@ -75,8 +76,8 @@ impl Calls {
     }
 }
 
-/// The setup of a script between two lines (docs/SCRIPTS.md, "Setup"), with the number of calls that there may be, and of
-/// frames that can be undone.
+/// The setup of a script between two lines (docs/SCRIPTS.md, "Setup"), with the number of calls that there may be, and
+/// of frames that can be undone.
 #[derive(Drop)]
 pub(crate) struct Setup {
     pub(crate) base: Base,
@@ -106,7 +107,7 @@ impl Setup {
         }
     }
 
-    /// The hand with which the run begins. It leaves a setup without kinds, also where no memory is found.
+    /// The owner with which the run begins. It leaves a setup without kinds, also where no memory is found.
     pub(crate) fn take_owner(&mut self, alloc: Global) -> Result<SessionOwner, AllocError>
         ensures owner { IfOk result (λ owner. owner ≡ first_owner (setup_of self.old)) }
         ensures left { setup_of self.new ≡ without_base (setup_of self.old) }

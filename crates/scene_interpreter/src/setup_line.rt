@@ -86,7 +86,8 @@ fn answer_depth(setup: &mut Setup, depth: Limit) -> LineAnswer
     LineAnswer::Taken
 }
 
-/// Answers what a line of the setup says, or hands a line back that ends it. Where no memory is found, the setup is as it was.
+/// Answers what a line of the setup says, or hands a line back that ends it. Where no memory is found, the setup is as
+/// it was.
 pub(crate) fn answer_setup(
     alloc: Global,
     setup: &mut Setup,

@@ -1,5 +1,5 @@
--- The tick of a world may be set to the one before it just where no cell was changed at the world's own tick, and such a cell stands at a
--- spot that is listed.
+-- The tick of a world may be set to the one before it just where no cell was changed at the world's own tick, and such
+-- a cell stands at a spot that is listed.
 use Rattle.std.proofs.Common.{◌≡◌, ℕ, zero, suc, ◌+◌, ◌≤◌, Bool, true, false, cond, ◌&&◌, List, [], ◌∷◌, refl, ap, sym, ◌∙◌, arith, Option, Some, None}
 use Rattle.std.specs.Prelude.{◌↔◌, Contains, nat_le, option_map, slice_get}
 use Rattle.std.specs.List.{list_all}

@@ -72,7 +72,8 @@ with_one = world 1 (1 ∷ []) [] ((1, (int_row (ent 0 1) 5 1 1, [])) ∷ []) tt
 abbrev pub spawned_int : ℕ → Delta
 spawned_int n = Spawned (ent 0 1) ((0, cell (int n) 1 1) ∷ []) true
 
--- the record of a spawn doesn't fit back where its tick is another, nor with another cell; and no entity fits as its own parent
+-- the record of a spawn doesn't fit back where its tick is another, nor with another cell; and no entity fits as its
+-- own parent
 abbrev pub OthersAreRefused : Type 0
 OthersAreRefused =
     (frame_record ((spawn_int 5 ∷ []) ∷ []) empty ≡ record_of 0 (spawned_int 5 ∷ []))

@@ -18,8 +18,9 @@ first = record { index = 0; generation = 1 }
 abbrev pub linked_to_itself : Record
 linked_to_itself = record_of 1 (Linked first None (Some (first, 0)) ∷ [])
 
--- on the world of one spawn: its record has no fault; with another tick it has one, named by the number of deltas; and with another cell
--- its delta has one. After it the numbers go on: a record that fits is redone, and then the next one has the fault
+-- on the world of one spawn: its record has no fault; with another tick it has one, named by the number of deltas; and
+-- with another cell its delta has one. After it the numbers go on: a record that fits is redone, and then the next one
+-- has the fault
 abbrev pub OneSpawn : Type 0
 OneSpawn =
     (first_fault (spawned 0 5 ∷ []) [] with_one ≡ None)
@@ -30,7 +31,8 @@ OneSpawn =
     × (first_fault (spawned 0 5 ∷ []) (record_of 1 [] ∷ record_of 1 [] ∷ []) with_one ≡ Some (2, 0))
     × (first_fault [] (record_of 1 [] ∷ spawned 2 5 ∷ []) with_one ≡ Some (1, 0))
 
--- a chain of three tags that is felled: the two records fit together at each of the three worlds; and no chain is felled twice
+-- a chain of three tags that is felled: the two records fit together at each of the three worlds; and no chain is
+-- felled twice
 abbrev pub FelledChain : Type 0
 FelledChain =
     (first_fault [] (chain_record ∷ felling_record ∷ []) empty ≡ None)

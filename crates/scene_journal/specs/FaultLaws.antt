@@ -1,4 +1,5 @@
--- The laws: each test passes just where the record that it decides holds, and each function finds just the fault that its relation names.
+-- The laws: each test passes just where the record that it decides holds, and each function finds just the fault that
+-- its relation names.
 use Rattle.std.specs.Prelude.{◌≡◌, ◌↔◌, IsTrue, List, Option, Some, None}
 use Rattle.scene_model.specs.World.{World}
 use Rattle.scene_deltas.specs.declared.delta.Delta.{Delta}

@@ -1,4 +1,5 @@
--- The first fault that a record has on a world. A fault of the tick has the number of deltas in place of a delta's number.
+-- The first fault that a record has on a world. A fault of the tick has the number of deltas in place of a delta's
+-- number.
 use Rattle.std.specs.Prelude.{◌≡◌, ◌≢◌, ℕ, ◌+◌, ◌<◌, List, ◌∷◌, ◌++◌, length}
 use Rattle.scene_kinds.specs.declared.fault.Fault.TheVariants.{BadRecord, NoMemory}
 use Rattle.scene_kinds.specs.declared.refusal.Refusal.{Refusal}
@@ -39,8 +40,8 @@ pub record IsFaultOn (r : Record) (w : World) (k : ℕ) : Type 0 where
   pub tick : (CanRaiseFor r w → ⊥) → k ≡ length r.deltas
   pub delta : CanRaiseFor r w → IsFirstUnfit r.deltas (raised w) k
 
--- the first fault of a record that is undone: the tick, then the deltas from the last to the first, then a cell that was changed
--- later than the tick before the record
+-- the first fault of a record that is undone: the tick, then the deltas from the last to the first, then a cell that
+-- was changed later than the tick before the record
 pub record IsFaultBack (r : Record) (w : World) (k : ℕ) : Type 0 where
   pub tick : w.tick ≢ r.tick_before + 1 → k ≡ length r.deltas
   pub delta : w.tick ≡ r.tick_before + 1 → (AllFitBack r.deltas w → ⊥) → IsLastUnfit r.deltas w k
@@ -68,7 +69,8 @@ pub record IsBeforeSome (ds : List Delta) (w v : World) : Type 0 where
   pub cut : ds ≡ left ++ taken
   pub before : v ≡ back_all taken w
 
--- what a refused redo leaves: the very world where its tick is at fault, else the raised one after the first of the deltas
+-- what a refused redo leaves: the very world where its tick is at fault, else the raised one after the first of the
+-- deltas
 pub record IsRedoneInPart (r : Record) (w v : World) : Type 0 where
   pub same : (CanRaiseFor r w → ⊥) → v ≡ w
   pub part : CanRaiseFor r w → IsAfterSome r.deltas (raised w) v

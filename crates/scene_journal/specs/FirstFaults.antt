@@ -11,7 +11,8 @@ use Rattle.scene_journal.specs.Unfit.{first_unfit_on, first_unfit_back}
 
 -- records that go one after another: where each leads, where it fits, and which fault it has where it doesn't
 module _ (step : Record → World → World) (Fits : Record → World → Type 0) (IsFault : Record → World → ℕ → Type 0) where
-  -- the record of this number, counted from 0, is the first that doesn't fit at its turn, and this is its fault, by the number of a delta
+  -- the record of this number, counted from 0, is the first that doesn't fit at its turn, and this is its fault, by the
+  -- number of a delta
   pub record IsFirstFault (rs : List Record) (w : World) (frame delta : ℕ) : Type 0 where
     pub before : List Record
     pub unfit : Record

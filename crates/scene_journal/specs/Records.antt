@@ -34,8 +34,8 @@ pub record RecordFitsOn (r : Record) (w : World) : Type 0 where
   pub low : w.tick < highest_tick
   pub deltas : AllFitOn r.deltas (raised w)
 
--- where a record may be undone: the tick is the frame's, the deltas fit back, and no cell is left that was changed later than the
--- tick before the frame
+-- where a record may be undone: the tick is the frame's, the deltas fit back, and no cell is left that was changed
+-- later than the tick before the frame
 pub record RecordFitsBack (r : Record) (w : World) : Type 0 where
   pub tick : w.tick ≡ r.tick_before + 1
   pub deltas : AllFitBack r.deltas w

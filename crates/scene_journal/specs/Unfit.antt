@@ -27,12 +27,13 @@ last_unfit (d ∷ ds) w = option_or (option_map (λ k. suc k) (last_unfit ds w))
 abbrev pub can_raise_for : Record → World → Bool
 can_raise_for r w = nat_eq w.tick r.tick_before && nat_lt w.tick highest_tick
 
--- the first fault of a record that is redone: the tick, by the number of deltas, and then the first delta that doesn't fit
+-- the first fault of a record that is redone: the tick, by the number of deltas, and then the first delta that doesn't
+-- fit
 abbrev pub first_unfit_on : Record → World → Option ℕ
 first_unfit_on r w = option_or (unless (can_raise_for r w) (length r.deltas)) (first_unfit r.deltas (raised w))
 
--- the first fault of a record that is undone: the tick, by the number of deltas, then the last delta that doesn't fit back, and then, by
--- the number of deltas, a cell that was changed later than the tick before the record
+-- the first fault of a record that is undone: the tick, by the number of deltas, then the last delta that doesn't fit
+-- back, and then, by the number of deltas, a cell that was changed later than the tick before the record
 abbrev pub first_unfit_back : Record → World → Option ℕ
 first_unfit_back r w =
     option_or (unless (nat_eq w.tick (r.tick_before + 1)) (length r.deltas))

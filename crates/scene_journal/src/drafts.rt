@@ -42,7 +42,8 @@ impl FrameRecord {
     /// Redoes the record on a draft, where it fits: the tick is raised, and the deltas are made (docs/JOURNAL.md,
     /// "Records"). It copies the cells that come.
     ///
-    /// It fails only where no memory was found: then the tick is raised, and some of the deltas are made, the first ones.
+    /// It fails only where no memory was found: then the tick is raised, and some of the deltas are made, the first
+    /// ones.
     pub fn redo_on(&self, draft: &mut World) -> Result<(), AllocError>
         requires { RecordFitsOn self.now draft.old.world }
         ensures done { OnOk result (draft.new.world ≡ redone self.now draft.old.world) }

@@ -73,8 +73,8 @@ impl FrameRecord {
     ///
     /// Refused: `BadRecord` with frame 0 and the number of the first delta that doesn't fit at its turn, or, where the
     /// draft's tick isn't the one before the record or can't be raised, with the number of deltas (docs/JOURNAL.md,
-    /// "Records"); `NoMemory`. Where the tick is at fault, the draft stays. Else its tick is raised then, and some of the
-    /// deltas are made, the first ones.
+    /// "Records"); `NoMemory`. Where the tick is at fault, the draft stays. Else its tick is raised then, and some of
+    /// the deltas are made, the first ones.
     #[tactic(auto, using(scene_deltas::proofs::Turns::ready_fits))]
     pub fn redo_checked(&self, draft: &mut World) -> Result<(), Refusal>
         ensures fits { OnOk result (RecordFitsOn self.now draft.old.world) }
@@ -92,13 +92,13 @@ impl FrameRecord {
         redo_fitting(draft, self.deltas())
     }
 
-    /// Undoes the record on a draft, as `undo_on` does, where it fits back. Beside the deltas it costs a look at all cells of
-    /// the draft.
+    /// Undoes the record on a draft, as `undo_on` does, where it fits back. Beside the deltas it costs a look at all
+    /// cells of the draft.
     ///
-    /// Refused: `BadRecord` with frame 0 and the number of the last delta that doesn't fit back at its turn, or, where the
-    /// draft's tick isn't one above the one before the record, or a cell would be left that was changed later than that,
-    /// with the number of deltas (docs/JOURNAL.md, "Records"); `NoMemory`. Where the tick is at fault, the draft stays. Else
-    /// some of the deltas are taken back then, the last ones.
+    /// Refused: `BadRecord` with frame 0 and the number of the last delta that doesn't fit back at its turn, or, where
+    /// the draft's tick isn't one above the one before the record, or a cell would be left that was changed later than
+    /// that, with the number of deltas (docs/JOURNAL.md, "Records"); `NoMemory`. Where the tick is at fault, the draft
+    /// stays. Else some of the deltas are taken back then, the last ones.
     pub fn undo_checked(&self, draft: &mut World) -> Result<(), Refusal>
         ensures fits { OnOk result (RecordFitsBack self.now draft.old.world) }
         ensures ready { OnOk result (AreReady draft.new.room self.now.deltas draft.old.world) }
@@ -110,9 +110,10 @@ impl FrameRecord {
         self.undo_checked_with(draft, &mut NewestCells::none(self.alloc()))
     }
 
-    /// Undoes the record on a draft, as `undo_checked` does, and is refused as it is. It looks for cells that were changed too
-    /// late only where they are listed, and lists those that come back: so many records are tried one after another on one
-    /// draft, and all together cost what their deltas cost, and at first one look at all cells (docs/JOURNAL.md, "In code").
+    /// Undoes the record on a draft, as `undo_checked` does, and is refused as it is. It looks for cells that were
+    /// changed too late only where they are listed, and lists those that come back: so many records are tried one after
+    /// another on one draft, and all together cost what their deltas cost, and at first one look at all cells
+    /// (docs/JOURNAL.md, "In code").
     #[tactic(auto, using(scene_deltas::proofs::Turns::ready_fits))]
     pub fn undo_checked_with(
         &self,
@@ -143,8 +144,8 @@ impl FrameRecord {
         Ok(())
     }
 
-    /// Whether the record fits on a world: an error where it doesn't. It works on a copy of the world, and costs that, and
-    /// what the deltas cost.
+    /// Whether the record fits on a world: an error where it doesn't. It works on a copy of the world, and costs that,
+    /// and what the deltas cost.
     ///
     /// Refused: as `redo_checked`.
     pub fn fits_on(&self, world: &World) -> Result<(), Refusal>
@@ -155,8 +156,8 @@ impl FrameRecord {
         self.redo_checked(&mut draft)
     }
 
-    /// Whether the record fits back on a world: an error where it doesn't. It works on a copy of the world, and costs that,
-    /// what the deltas cost, and a look at all cells.
+    /// Whether the record fits back on a world: an error where it doesn't. It works on a copy of the world, and costs
+    /// that, what the deltas cost, and a look at all cells.
     ///
     /// Refused: as `undo_checked`.
     pub fn fits_back(&self, world: &World) -> Result<(), Refusal>

@@ -1,12 +1,13 @@
 //! What frames did to a world, in records that can be made again and taken back.
 //!
 //! A `FrameRecord` holds the deltas of one frame, and the tick before it (docs/JOURNAL.md, "Records"). It is redone and
-//! undone on a draft, where it fits, and else it has a fault, which says where it doesn't. `specs/Records.antt` says what
-//! that does, and `laws` that each takes the other direction back exactly.
+//! undone on a draft, where it fits: `specs/Records.antt` says what that does, and `laws` that each takes the other
+//! back exactly. Else it has a first fault, which `specs/Faults.antt` computes: just the one that the relations name,
+//! says `fault_laws`. `NewestCells` knows by tick where changed cells stand, so that not each of many records costs a
+//! look at the whole world.
 //!
 //! A `Recorder` makes the record of a frame while the frame is made: it takes commands as a world does, notes their
-//! deltas, and can always go back without memory. One recorder serves many frames, one after another, and its world stays
-//! where it is.
+//! deltas, and can always go back without memory. One recorder serves many frames, and its world stays where it is.
 #![tactic(auto)]
 
 mod cuts;

@@ -36,7 +36,8 @@ impl Model for NewestCells {
 }
 
 impl NewestCells {
-    /// The cells of no tick: a look for late cells goes over the whole world (docs/JOURNAL.md, "In code"). It takes no memory.
+    /// The cells of no tick: a look for late cells goes over the whole world (docs/JOURNAL.md, "In code"). It takes no
+    /// memory.
     pub fn none(alloc: Global) -> NewestCells
         ensures covers { CoversAny result }
         ensures ages { result.by_age ≡ [] }
@@ -47,8 +48,8 @@ impl NewestCells {
         }
     }
 
-    /// The cells of a world that were changed in its newest ticks, or an error where no memory was found. It costs a look at
-    /// all cells, and a place for each tick and for each cell that is listed.
+    /// The cells of a world that were changed in its newest ticks, or an error where no memory was found. It costs a
+    /// look at all cells, and a place for each tick and for each cell that is listed.
     pub fn new(alloc: Global, world: &World, ticks: usize) -> Result<NewestCells, AllocError>
         ensures covers { IfOk result (λ n. Covers n world.now.world) }
         ensures ages { IfOk result (λ n. HasAges n world.now.world.tick ticks) }
@@ -62,8 +63,8 @@ impl NewestCells {
         Ok(newest)
     }
 
-    /// Lists the cells that come back where deltas are taken back, or answers an error where no memory was found. It costs a
-    /// look at these cells.
+    /// Lists the cells that come back where deltas are taken back, or answers an error where no memory was found. It
+    /// costs a look at these cells.
     pub fn take_back(&mut self, deltas: &[Delta]) -> Result<(), AllocError>
         ensures back { OnOk result (GoesBack deltas.now self.old self.new) }
         ensures ages { OnOk result (KeepsAges self.old self.new) }
@@ -74,9 +75,9 @@ impl NewestCells {
         Ok(())
     }
 
-    /// Whether the tick of a world may be set to the one before it, since no cell was changed later. It costs a look at the
-    /// spots that are listed of the world's tick. Where none are kept of it, it costs a look at all cells, and may answer an
-    /// error, where no memory was found.
+    /// Whether the tick of a world may be set to the one before it, since no cell was changed later. It costs a look at
+    /// the spots that are listed of the world's tick. Where none are kept of it, it costs a look at all cells, and may
+    /// answer an error, where no memory was found.
     pub fn can_set_tick(&self, world: &World, tick: u64) -> Result<bool, AllocError>
         requires covered { Covers self.now world.now.world }
         requires one_before { world.now.world.tick ≡ tick + 1 }

@@ -109,8 +109,8 @@ impl Recorder {
         is_sound(&self.world);
     }
 
-    /// Begins the record of a further frame, where the record has no deltas: the world's tick is raised by one, and the record
-    /// is of the tick before. It takes no memory.
+    /// Begins the record of a further frame, where the record has no deltas: the world's tick is raised by one, and the
+    /// record is of the tick before. It takes no memory.
     ///
     /// Refused: `TickFull` where the tick is the greatest of 64 bits; then world and record are as they were.
     pub fn begin(&mut self) -> Result<(), Refusal>
@@ -126,8 +126,8 @@ impl Recorder {
         Ok(())
     }
 
-    /// The record of the frame that is done, with no more memory than its deltas need. They can be taken back in the world as
-    /// it is now, which the recorder keeps, with a record that has no deltas. It takes no memory.
+    /// The record of the frame that is done, with no more memory than its deltas need. They can be taken back in the
+    /// world as it is now, which the recorder keeps, with a record that has no deltas. It takes no memory.
     pub fn finish(&mut self) -> FrameRecord
         ensures record { result ≡ self.old.frame }
         ensures ready { AreReady self.new.room result.deltas self.new.world }
@@ -140,8 +140,8 @@ impl Recorder {
         FrameRecord::new(self.tick_before, deltas)
     }
 
-    /// Takes the frame back: its deltas, the last first, and then the tick is the one from before. The record has no deltas
-    /// then. It takes no memory, and costs what the deltas changed.
+    /// Takes the frame back: its deltas, the last first, and then the tick is the one from before. The record has no
+    /// deltas then. It takes no memory, and costs what the deltas changed.
     pub fn cancel(&mut self)
         requires { CanSetTick (opening_of self.old) self.old.frame.tick_before }
         ensures world { self.new.world ≡ undone self.old.frame self.old.world }
@@ -153,8 +153,8 @@ impl Recorder {
         self.world.set_tick(self.tick_before);
     }
 
-    /// Undoes a record between two frames, in a world that has room for that. It copies the deltas first, and takes no memory
-    /// besides; where none is found for the copy, the world stays as it was.
+    /// Undoes a record between two frames, in a world that has room for that. It copies the deltas first, and takes no
+    /// memory besides; where none is found for the copy, the world stays as it was.
     pub fn undo_record(&mut self, frame: &FrameRecord) -> Result<(), AllocError>
         requires empty { self.old.frame.deltas ≡ [] }
         requires fits { RecordFitsBack frame.now self.old.world }
@@ -167,8 +167,8 @@ impl Recorder {
         frame.undo_reserved(&mut self.world)
     }
 
-    /// Redoes a record between two frames, in a world that has room for that. It copies the deltas first, and takes no memory
-    /// besides; where none is found for the copy, the world stays as it was.
+    /// Redoes a record between two frames, in a world that has room for that. It copies the deltas first, and takes no
+    /// memory besides; where none is found for the copy, the world stays as it was.
     pub fn redo_record(&mut self, frame: &FrameRecord) -> Result<(), AllocError>
         requires empty { self.old.frame.deltas ≡ [] }
         requires fits { RecordFitsOn frame.now self.old.world }

@@ -9,9 +9,9 @@ use scene_world::{RawChanges, World};
 use std::alloc::AllocError;
 
 impl FrameRecord {
-    /// Undoes the record in a world that has room for that: its deltas are taken back, the last first, and the tick is the one
-    /// before the frame. It copies the deltas first, and takes no memory besides; where none is found for the copy, the world
-    /// stays as it was.
+    /// Undoes the record in a world that has room for that: its deltas are taken back, the last first, and the tick is
+    /// the one before the frame. It copies the deltas first, and takes no memory besides; where none is found for the
+    /// copy, the world stays as it was.
     pub fn undo_reserved(&self, world: &mut World) -> Result<(), AllocError>
         requires fits { RecordFitsBack self.now world.old.world }
         requires ready { AreReady world.old.room self.now.deltas world.old.world }
@@ -25,8 +25,9 @@ impl FrameRecord {
         Ok(())
     }
 
-    /// Redoes the record in a world that has room for that: the tick is raised, and its deltas are made, the first first. It
-    /// copies the deltas first, and takes no memory besides; where none is found for the copy, the world stays as it was.
+    /// Redoes the record in a world that has room for that: the tick is raised, and its deltas are made, the first
+    /// first. It copies the deltas first, and takes no memory besides; where none is found for the copy, the world
+    /// stays as it was.
     pub fn redo_reserved(&self, world: &mut World) -> Result<(), AllocError>
         requires fits { RecordFitsOn self.now world.old.world }
         requires ready { AreReadyOn world.old.room self.now.deltas (raised world.old.world) }

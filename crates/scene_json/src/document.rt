@@ -55,10 +55,10 @@ impl<'a> Document<'a> {
 
     /// Reads a text: what `serde_json` reads of it as a `Value`.
     ///
-    /// Refused: `NotJson` where the bytes aren't UTF-8, or aren't JSON, or where arrays and objects nest deeper than 127
-    /// levels, or a number is beyond the finite floats; `TooLong` only where there are more than 4,294,967,040 bytes;
-    /// `NoMemory`, which may stand in place of any answer. It costs the text's length, in time and memory: up to five bytes
-    /// of the scratch for each byte of the text, and 24 bytes for each token, comma and colon.
+    /// Refused: `NotJson` where the bytes aren't UTF-8, or aren't JSON, or where arrays and objects nest deeper than
+    /// 127 levels, or a number is beyond the finite floats; `TooLong` only where there are more than 4,294,967,040
+    /// bytes; `NoMemory`, which may stand in place of any answer. It costs the text's length, in time and memory: up to
+    /// five bytes of the scratch for each byte of the text, and 24 bytes for each token, comma and colon.
     pub fn read(
         alloc: Global,
         text: &'a [u8],

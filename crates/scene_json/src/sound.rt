@@ -22,8 +22,8 @@ fn deeper(level: u8) -> Option<u8>
     }
 }
 
-/// How many arrays and objects are open after a token, where so many were before it; nothing where they are too many, or
-/// the token is a number that is out of range.
+/// How many arrays and objects are open after a token, where so many were before it; nothing where they are too many,
+/// or the token is a number that is out of range.
 fn level_after(level: u8, node: &Node<'_>) -> Option<u8>
     ensures { result ≡ level_after level (node_token node.now) }
 {

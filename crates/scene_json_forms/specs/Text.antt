@@ -1,4 +1,5 @@
--- The JSON values of numbers, texts, values and cells (docs/SCENE_FILES.md, "Version 1"), and of lists and objects that are made of others.
+-- The JSON values of numbers, texts, values and cells (docs/SCENE_FILES.md, "Version 1"), and of lists and objects that
+-- are made of others.
 use Rattle.std.specs.Prelude.{ℕ, ℤ, List, [], ◌∷◌, true, map as each}
 use Rattle.serde_json.specs.Data.{Data, boolean, number, string, array, object, unsigned, Items, no_items, item, Members, no_members, member}
 use Rattle.serde_json.specs.Find.{of_integer}

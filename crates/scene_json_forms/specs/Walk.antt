@@ -1,5 +1,5 @@
--- The walk through the values of a scene text (docs/SCENE_FILES.md, "The walk"): what numbers, texts, values and cells say, or the first
--- fault.
+-- The walk through the values of a scene text (docs/SCENE_FILES.md, "The walk"): what numbers, texts, values and cells
+-- say, or the first fault.
 use Rattle.std.specs.Prelude.{ℕ, ℤ, ◌+◌, ◌^◌, List, [], ◌∷◌, Result, Ok, Err, option_and_then}
 use Rattle.serde_json.specs.Data.{Data}
 use Rattle.serde_json.specs.Find.{as_bool, as_number, as_i64, as_str, as_u64}

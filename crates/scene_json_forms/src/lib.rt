@@ -1,12 +1,12 @@
 //! The forms of a scene text: what the values in it say, and which fault they have first (docs/SCENE_FILES.md).
 //!
-//! `specs/Reading.antt` has the words of a walk, in which each step says something or has the first fault with its path,
-//! and `specs/Walk.antt` the walk through numbers, texts, values and cells; `specs/Text.antt` has their JSON values. A `Form`
-//! reads a value as a word of the walk does, and reports a fault by its `Path`; the printers add the compact text of a
-//! value to a text.
+//! `specs/Reading.antt` has the words of a walk, in which each step says something or has the first fault with its
+//! path, and `specs/Walk.antt` the walk through numbers, texts, values and cells; `specs/Text.antt` has their JSON
+//! values. A `Form` reads a value as a word of the walk does, and reports a fault by its `Path`; the printers add the
+//! compact text of a value to a text.
 //!
-//! `proofs/` has for each word that what is written is read again (`ValuesBack`, `ListsBack`), and that what is read is just
-//! what stands there (`ValuesExact`, `ListsExact`).
+//! `proofs/` has for each word that what is written is read again (`ValuesBack`, `ListsBack`), and that what is read is
+//! just what stands there (`ValuesExact`, `ListsExact`).
 #![tactic(auto)]
 
 mod fault;

@@ -15,8 +15,8 @@ use std::alloc::Global;
 /// Sees that a value is an object of just these keys, of which none need be there (docs/SCENE_FILES.md, "The walk"). It
 /// costs the number of its keys times that of the keys known.
 ///
-/// Refused: `BadField` at the path where it is no object; `UnknownKey` for the first key, by bytes, that is none of them,
-/// with the path that ends in it; or `NoMemory` in place of either.
+/// Refused: `BadField` at the path where it is no object; `UnknownKey` for the first key, by bytes, that is none of
+/// them, with the path that ends in it; or `NoMemory` in place of either.
 #[tactic(auto, using(crate::proofs::Walking::walking))]
 pub fn object_at(
     alloc: Global,
@@ -36,8 +36,8 @@ pub fn object_at(
     }
 }
 
-/// The value of a key of an object, which must be there, read as a form. It costs a walk over the keys of the object, and
-/// the reading.
+/// The value of a key of an object, which must be there, read as a form. It costs a walk over the keys of the object,
+/// and the reading.
 ///
 /// Refused: `BadField` at the path of the key where it is missing; the first fault of its value; or `NoMemory`.
 #[tactic(auto, using(crate::proofs::Walking::walking))]

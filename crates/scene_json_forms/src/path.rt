@@ -9,8 +9,8 @@ use scene_kinds::Text;
 use std::alloc::{AllocError, Global};
 use std::fmt::Write;
 
-/// A path to a value, as a list of steps from it up to the whole. It takes no memory, so a walk makes one for each value,
-/// and writes it as a text only where there is a fault (docs/SCENE_FILES.md, "The walk").
+/// A path to a value, as a list of steps from it up to the whole. It takes no memory, so a walk makes one for each
+/// value, and writes it as a text only where there is a fault (docs/SCENE_FILES.md, "The walk").
 #[derive(Clone, Copy)]
 pub enum Path<'a> {
     /// The whole.
@@ -55,8 +55,8 @@ pub fn bad_field(alloc: Global, path: &Path<'_>) -> FileFault
     }
 }
 
-/// The fault that an object has a key that it may not have, where the path ends in the key: `UnknownKey`, or `NoMemory` in
-/// its place.
+/// The fault that an object has a key that it may not have, where the path ends in the key: `UnknownKey`, or `NoMemory`
+/// in its place.
 pub fn unknown_key(alloc: Global, path: &Path<'_>) -> FileFault
     ensures { Means result (UnknownKey (path_bytes path.now)) }
 {

@@ -107,7 +107,8 @@ impl Form for ShapeForm {
     }
 }
 
-/// The form of names of resources: strings that are good names (docs/MODEL.md, "The rule of names"). The name read is a copy.
+/// The form of names of resources: strings that are good names (docs/MODEL.md, "The rule of names"). The name read is a
+/// copy.
 #[derive(Drop)]
 pub struct NameForm;
 

@@ -29,7 +29,8 @@ fn may_follow<F: Ordered>(form: &F, before: &[F::Item], item: &F::Item) -> bool
     }
 }
 
-/// Each element of a list, read as a form; one that may not follow the one before it is a bad field, after its own parts.
+/// Each element of a list, read as a form; one that may not follow the one before it is a bad field, after its own
+/// parts.
 #[tactic(auto, using(crate::proofs::Walking::walking))]
 fn rising_at<F: Ordered>(
     alloc: Global,

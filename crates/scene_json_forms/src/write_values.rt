@@ -9,8 +9,8 @@ use scene_json::write_json_text;
 use scene_kinds::{Cell, CellRef, Entity, Value};
 use std::alloc::{AllocError, Global};
 
-/// Adds to a text the comma before an element that isn't the first of its list, or nothing. Of all printers only want of
-/// memory is an error, and then a part may have been added.
+/// Adds to a text the comma before an element that isn't the first of its list, or nothing. Of all printers only want
+/// of memory is an error, and then a part may have been added.
 pub fn write_comma(out: &mut String, later: bool) -> Result<(), AllocError>
     ensures { OnOk result (Adds out.old out.new (comma_if later)) }
 {

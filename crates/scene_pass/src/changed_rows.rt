@@ -34,12 +34,12 @@ fn push_changes(
     Ok(())
 }
 
-/// What the steps make of each matching row, by ascending kind set, then by place (docs/MODEL.md, "The rule of systems").
-/// The world stays as it is. There must be fewer than 2 ^ 32 steps.
+/// What the steps make of each matching row, by ascending kind set, then by place (docs/MODEL.md, "The rule of
+/// systems"). The world stays as it is. There must be fewer than 2 ^ 32 steps.
 ///
 /// An error only where no memory was found. It costs the number of kind sets times its logarithm, and for each matching
-/// row a walk over its cells for each step. No row is copied: of a row only the values that are written are held. A step
-/// that is alone reads of a row just the values that it names.
+/// row a walk over its cells for each step. No row is copied: of a row only the values that are written are held. A
+/// step that is alone reads of a row just the values that it names.
 pub fn map_rows_alone(
     alloc: Global,
     world: &World,
@@ -113,8 +113,8 @@ fn push_parted(
 }
 
 /// What `map_rows_alone` answers, the same rows in the same order, from as many threads as there are processors
-/// (docs/MODEL.md, "The rule of systems"). A table of fewer than 2,048 rows (`PARTED_ROWS`) isn't parted, so that a small
-/// pass starts no thread. There must be fewer than 2 ^ 32 steps.
+/// (docs/MODEL.md, "The rule of systems"). A table of fewer than 2,048 rows (`PARTED_ROWS`) isn't parted, so that a
+/// small pass starts no thread. There must be fewer than 2 ^ 32 steps.
 ///
 /// An error only where no memory was found.
 pub fn map_rows(

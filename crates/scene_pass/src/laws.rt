@@ -11,8 +11,8 @@ ghost use Rattle.scene_pass.specs.Pass.{matching, changed_since, added_since};
 ghost use Rattle.scene_pass.specs.Changes.{change_of, changes, first_fault};
 ghost use Rattle.scene_pass.specs.Examples.{three_tables, ent, name, filter, row_of_four, int, vector, add_vector, add_int, greatest, up_from_7, changed, overflow};
 
-/// A law: in a valid world the passes list just what they are for. An entity is listed where it is alive and its kind set
-/// matches, and a cell where its entity is listed and the cell's tick is above the given one.
+/// A law: in a valid world the passes list just what they are for. An entity is listed where it is alive and its kind
+/// set matches, and a cell where its entity is listed and the cell's tick is above the given one.
 pub fn passes_list_just_what_matches()
     ensures matching { (w : World) (f : Filter) (e : Entity) → IsValid w
         → Contains (matching w f) e ↔ Matches w f e }
@@ -23,8 +23,8 @@ pub fn passes_list_just_what_matches()
 {}
 
 /// Worked examples. In `three_tables` the entity 2 has kind 0 alone, added at tick 3 and changed at 6; the entity 3 has
-/// kind 1 alone, of tick 4; and the entities 1 and 0, in this order, have both: all of tick 2, and kind 0 of tick 1 with
-/// kind 1 of tick 5.
+/// kind 1 alone, of tick 4; and the entities 1 and 0, in this order, have both: all of tick 2, and kind 0 of tick 1
+/// with kind 1 of tick 5.
 pub fn worked_passes()
     ensures all { matching three_tables (filter 0 0) ≡ ent 2 ∷ ent 3 ∷ ent 1 ∷ ent 0 ∷ [] }
     ensures need { matching three_tables (filter 1 0) ≡ ent 2 ∷ ent 1 ∷ ent 0 ∷ [] }
@@ -41,9 +41,9 @@ pub fn worked_passes()
     ensures added_at_all { added_since three_tables (filter 0 0) 0 ≡ name 2 0 ∷ name 3 1 ∷ name 1 0 ∷ name 1 1 ∷ name 0 0 ∷ name 0 1 ∷ [] }
 {}
 
-/// Worked examples of row steps. In `row_of_four` the entity 4 has the vectors 1 2 3 and 10 -2 0 of the kinds 0 and 1, the
-/// number 7 of kind 2 and a tag of kind 3. In `three_tables` the rows of the entities 2, 1 and 0, in this order, have kind 0,
-/// which is the number 0 in each.
+/// Worked examples of row steps. In `row_of_four` the entity 4 has the vectors 1 2 3 and 10 -2 0 of the kinds 0 and 1,
+/// the number 7 of kind 2 and a tag of kind 3. In `three_tables` the rows of the entities 2, 1 and 0, in this order,
+/// have kind 0, which is the number 0 in each.
 pub fn worked_changes()
     ensures vector { change_of (add_vector 0 1 ∷ []) row_of_four ≡ changed 4 ((0, vector (pos 11) (pos 0) (pos 3)) ∷ []) }
     ensures twice { change_of (add_vector 0 1 ∷ add_vector 0 1 ∷ []) row_of_four ≡ changed 4 ((0, vector (pos 21) (negsuc 1) (pos 3)) ∷ []) }

@@ -44,8 +44,8 @@ fn vector_sum(vector: &[i64; 3], by: &[i64; 3]) -> Option<Value>
     Some(Value::Vec3(sums(vector, by)?))
 }
 
-/// A value with another added to it: numbers to numbers and vectors to vectors, where each sum fits a 64-bit number with
-/// sign, and else `None`. No step adds other values: of those it is an equal value.
+/// A value with another added to it: numbers to numbers and vectors to vectors, where each sum fits a 64-bit number
+/// with sign, and else `None`. No step adds other values: of those it is an equal value.
 ///
 /// An error only where no memory was found, which only a text takes.
 pub(crate) fn value_sum(value: &Value, by: &Value) -> Result<Option<Value>, AllocError>

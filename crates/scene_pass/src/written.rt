@@ -38,8 +38,8 @@ fn push_written(
     Ok(())
 }
 
-/// The row's values of the kinds that are written, as they stand before the steps, ascending by kind. The list has no room
-/// for more than there are steps, and for no more than the row has.
+/// The row's values of the kinds that are written, as they stand before the steps, ascending by kind. The list has no
+/// room for more than there are steps, and for no more than the row has.
 pub(crate) fn written_of(
     alloc: Global,
     row: &RowInPlace<'_>,

@@ -59,8 +59,8 @@ children_member forest e = (entity_text e.index e.generation, list_text entity_j
 abbrev pub resource_member : List ℕ × Cell → List ℕ × Data
 resource_member r = (r.0, resource_cell_text r.1)
 
--- a world as an answer: its tick, the generation of each slot, the free list, its tables, ascending by kind set, the entities with
--- children, by index, and the resources, by the bytes of their names
+-- a world as an answer: its tick, the generation of each slot, the free list, its tables, ascending by kind set, the
+-- entities with children, by index, and the resources, by the bytes of their names
 abbrev pub world_answer : World → Data
 world_answer w = answer_of (codes "world") (
     (codes "tick", count_text w.tick) ∷ (codes "generations", list_text count_text w.slots.generations)

@@ -24,7 +24,8 @@ use Rattle.scene_print.specs.JsonShown.{cell_member, children_member, resource_m
 abbrev pub member_text : List ℕ × Data → List ℕ
 member_text m = quoted m.0 ++ (58 ∷ compact_text m.1)
 
--- the members of an object that are still to come, with its closing brace; a comma stands before one that isn't the first
+-- the members of an object that are still to come, with its closing brace; a comma stands before one that isn't the
+-- first
 abbrev pub left_text : {A : Type 0} → Bool → (A → List ℕ × Data) → List A → List ℕ
 left_text later member xs = members_text later (members_of (each member xs))
 

@@ -75,7 +75,7 @@ head_text w =
     codes "tick " ++ (decimal w.tick ++ (codes "\ngens" ++ (numbers_text w.slots.generations
     ++ (codes "\nfree" ++ (numbers_text w.slots.free ++ codes "\n")))))
 
--- then the tables of the kind sets with rows, ascending, the links of the entities with children, by index, and the resources,
--- by the bytes of their names
+-- then the tables of the kind sets with rows, ascending, the links of the entities with children, by index, and the
+-- resources, by the bytes of their names
 abbrev pub show_text : World → List ℕ
 show_text w = head_text w ++ (tables_text w (kind_sets w) ++ (links_text w.children (parents w.children) ++ resources_text w.resources.entries))

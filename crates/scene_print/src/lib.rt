@@ -1,8 +1,9 @@
-//! How worlds print: whole, as the lines of `show`, or a row or a list of cells of one.
+//! How what is in a world prints, as text (docs/SCRIPTS.md, "Output") and as JSON (docs/SHELL.md, "JSON").
 //!
-//! Each function adds to a text, and what it adds is one definition of what is printed: `specs/Shown.antt` has worlds
-//! and their parts, `specs/Listed.antt` lists of cells. How a value, a cell and a row print by themselves is
-//! scene_script's (docs/SCRIPTS.md, "Output").
+//! Each function adds to a text, and what it adds is one definition: `specs/Printed.antt` has values, cells, rows and
+//! refusals, `specs/Shown.antt` worlds as the lines of `show`, `specs/Listed.antt` lists of cells.
+//! `specs/JsonShown.antt` has worlds and their parts as JSON, `specs/JsonTold.antt` refusals and the faults of scene
+//! texts; values and cells are written there as in scene texts, by scene_json_forms.
 #![tactic(auto)]
 
 mod json_listed;

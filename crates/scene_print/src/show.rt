@@ -111,7 +111,8 @@ fn write_row_cells(
 }
 
 /// Adds the row at a place of a table, from 0: `row`, its entity, and its cells by kind, each after a space
-/// (docs/SCRIPTS.md, "Output"). It adds no line feed. An error only where no memory was found; a part may be added then.
+/// (docs/SCRIPTS.md, "Output"). It adds no line feed. An error only where no memory was found; a part may be added
+/// then.
 pub fn write_row(
     alloc: Global,
     out: &mut String,

@@ -14,8 +14,9 @@ use Rattle.scene_replay.specs.declared.fault.CompactFault.TheVariants.{Lines}
 abbrev pub unrewound : Whole → Whole
 unrewound w = record w { machine = record w.machine { rewinds = 0 } }
 
--- Two interpreters agree in all but the calls so far, the count of rewinds and the cursor: in the world, the past and the future with
--- their records and the depth; in the kinds, the systems, whose turn it is and how many calls there may be. No frame is open.
+-- Two interpreters agree in all but the calls so far, the count of rewinds and the cursor: in the world, the past and
+-- the future with their records and the depth; in the kinds, the systems, whose turn it is and how many calls there may
+-- be. No frame is open.
 pub record Agrees (p q : Interpreter) : Type 0 where
   pub machine : unrewound (whole_at (owner_of p)) ≡ unrewound (whole_at (owner_of q))
   pub kinds : interpreter_kinds p ≡ interpreter_kinds q

@@ -10,7 +10,8 @@ use Rattle.scene_replay.specs.declared.fault.KeptLineFault.TheVariants.{Bad, Hal
 abbrev pub NoneIsBad : Interpreter → List (List ℕ) → Type 0
 NoneIsBad p ls = bad_count p ls ≡ 0
 
--- The lines before that of a number, from 1, are played, and none of them is bad; of that line and the interpreter before it this holds.
+-- The lines before that of a number, from 1, are played, and none of them is bad; of that line and the interpreter
+-- before it this holds.
 pub record StopsAt (first : Interpreter) (ls : List (List ℕ)) (number : ℕ) (Holds : Interpreter → List ℕ → Type 0) : Type 0 where
   pub front : List (List ℕ)
   pub line : List ℕ
@@ -29,8 +30,8 @@ abbrev pub NamesFirst : Interpreter → List (List ℕ) → KeptLineFault → Ty
 NamesFirst first ls (Bad number reason) = IsFirstBad first ls number reason
 NamesFirst first ls fault = ⊤
 
--- what stopped lines before their end, and the interpreter that it left: the first bad line, which was played; or no memory was found for
--- a line, behind lines of which none is bad
+-- what stopped lines before their end, and the interpreter that it left: the first bad line, which was played; or no
+-- memory was found for a line, behind lines of which none is bad
 abbrev pub StopsBy : (first left : Interpreter) → List (List ℕ) → KeptLineFault → Type 0
 StopsBy first left ls (Bad number reason) =
     StopsAt first ls number (λ p l. ((interpreter_reply p l).bad ≡ Some reason) × (left ≡ (interpreter_reply p l).interpreter))

@@ -26,8 +26,8 @@ pub record IsRead {S : Type 0} (is_store : S → Type 0) (keeps : S → List ℕ
   pub kept : keeps read text
   pub is_played : plays text calls
 
--- A shell went on with the interpreter that the lines of a store led to, none of which is bad, and ended so: it answers as that interpreter,
--- and the store keeps its lines behind those.
+-- A shell went on with the interpreter that the lines of a store led to, none of which is bad, and ended so: it answers
+-- as that interpreter, and the store keeps its lines behind those.
 pub record HasGoneOn {S W F : Type 0} (is_store : S → Type 0) (keeps : S → List ℕ → Type 0) (plays : List ℕ → ℕ → Type 0)
     (contents : W → Option (List ℕ)) (style : AnswerStyle) (now : S) (old new : W) (script rest : Option (List ℕ))
     (r : Result ℕ (KeptFault F)) : Type 0 where
@@ -53,8 +53,8 @@ pub record IsUnplayed {S : Type 0} (is_store : S → Type 0) (keeps : S → List
   pub left : Interpreter
   pub stopped : StopsBy (kept_interpreter calls) left (lines text) fault
 
--- How a shell on a store ends: it was opened, its lines were played, the shell went on and ended, and the store was closed; or it
--- stopped on the way, and where no line was to be read yet, none was and nothing was written.
+-- How a shell on a store ends: it was opened, its lines were played, the shell went on and ended, and the store was
+-- closed; or it stopped on the way, and where no line was to be read yet, none was and nothing was written.
 abbrev pub EndsStored : {S W F : Type 0} → (S → Type 0) → (S → List ℕ → Type 0) → (List ℕ → ℕ → Type 0) → (S → Type 0)
     → (W → Option (List ℕ)) → AnswerStyle → (old new : W) → (script rest : Option (List ℕ)) → Result ℕ (StoreShellFault F) → Type 0
 EndsStored {F = F} is_store keeps plays closes contents style old new script rest (Ok count) =

@@ -58,8 +58,8 @@ fn joined(
     Ok(lines)
 }
 
-/// Plays lines in another interpreter, and says whether they lead it to what an interpreter has, which has this editor, whose text
-/// this is.
+/// Plays lines in another interpreter, and says whether they lead it to what an interpreter has, which has this editor,
+/// whose text this is.
 fn leads_to_same(
     alloc: Global,
     interpreter: &Interpreter,
@@ -101,7 +101,8 @@ fn lead_to_same(
     same
 }
 
-/// Lines that lead to what an interpreter has, which has this editor, and whose systems these lines give. They were played too.
+/// Lines that lead to what an interpreter has, which has this editor, and whose systems these lines give. They were
+/// played too.
 fn lines_to(
     alloc: Global,
     interpreter: &Interpreter,
@@ -177,17 +178,18 @@ fn compacted_in(
     Ok(Some(fewer))
 }
 
-/// Fewer lines that lead to what the lines of a text lead to, of at most `most` bytes: to the same world, past and future with
-/// their records, kinds, systems, session and limits. The calls so far, the count of rewinds and the cursor begin anew with
-/// them. They are a scene text and what it doesn't hold. `Ok(None)` just where the lines are still in the setup. What is given was
-/// played too, and compared. The lines of the text are played from an interpreter without a lock and with `settings` on, those that
-/// are given from one with the settings `again`.
+/// Fewer lines that lead to what the lines of a text lead to, of at most `most` bytes: to the same world, past and
+/// future with their records, kinds, systems, session and limits. The calls so far, the count of rewinds and the cursor
+/// begin anew with them. They are a scene text and what it doesn't hold. `Ok(None)` just where the lines are still in
+/// the setup. What is given was played too, and compared. The lines of the text are played from an interpreter without
+/// a lock and with `settings` on, those that are given from one with the settings `again`.
 ///
 /// It costs what the lines cost in a script and a save, and then a load, a save and a comparison of the systems.
 ///
-/// Refused: `Lines` at the first line that is bad, or for want of memory; `FrameOpen` where a frame is open behind the lines;
-/// `TooLong` where the text of the scene would have more than 67,108,864 bytes; `OverMost` where there would be more than `most`
-/// bytes; `NoMemory`; and `Differs` where a limit of the interpreter can't be said by a line, as that of more than 1,048,576 calls.
+/// Refused: `Lines` at the first line that is bad, or for want of memory; `FrameOpen` where a frame is open behind the
+/// lines; `TooLong` where the text of the scene would have more than 67,108,864 bytes; `OverMost` where there would be
+/// more than `most` bytes; `NoMemory`; and `Differs` where a limit of the interpreter can't be said by a line, as that
+/// of more than 1,048,576 calls.
 #[tactic(auto, using(crate::proofs::Agreement::only_setup))]
 pub fn compacted(
     alloc: Global,

@@ -1,5 +1,5 @@
-//! What is made of lines that a store has kept: the interpreter that they lead to, a log of what each did, fewer lines that
-//! lead to the same scene, and a shell that goes on behind them (docs/SHELL.md, "A store").
+//! What is made of lines that a store has kept: the interpreter that they lead to, a log of what each did, fewer lines
+//! that lead to the same scene, and a shell that goes on behind them (docs/SHELL.md, "A store").
 #![tactic(auto)]
 
 mod agree;

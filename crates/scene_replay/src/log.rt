@@ -186,9 +186,9 @@ fn write_lines<W: Write>(
     Ok(log.counts)
 }
 
-/// Plays the lines of a text from a new interpreter with these settings on, which has no lock, and writes for each its number,
-/// whose call it is, what it says, and the first line of its answer. It gives how many calls came to what. It costs what
-/// the lines cost in a script.
+/// Plays the lines of a text from a new interpreter with these settings on, which has no lock, and writes for each its
+/// number, whose call it is, what it says, and the first line of its answer. It gives how many calls came to what. It
+/// costs what the lines cost in a script.
 ///
 /// Refused: `Halted` for want of memory, and `Unwritten`. The entries of the lines before are written then.
 pub fn write_log<W: Write>(

@@ -87,7 +87,8 @@ impl fmt::Display for Opening {
     }
 }
 
-/// Says on a stream of errors how a store was opened, where that was long. A stream that can't be written changes nothing.
+/// Says on a stream of errors how a store was opened, where that was long. A stream that can't be written changes
+/// nothing.
 pub fn tell_opening<E: Write>(errors: &mut E, opening: Opening, limits: OpeningLimits) {
     if opening.is_long(limits) {
         let _told = writeln!(errors, "scene: {opening}");

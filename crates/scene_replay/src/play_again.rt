@@ -87,11 +87,11 @@ pub(crate) fn play_noted<P: Performer, N: Note>(
     Ok(number)
 }
 
-/// Plays the lines of a text, whose answers aren't asked for. It costs what the lines cost in a script, and gives how many
-/// lines there were.
+/// Plays the lines of a text, whose answers aren't asked for. It costs what the lines cost in a script, and gives how
+/// many lines there were.
 ///
-/// Refused: `Bad` at the first line that is bad, which is played, and changes nothing; and `Halted` for want of memory, as
-/// the line itself says it. The lines before are played then, and none of them is bad.
+/// Refused: `Bad` at the first line that is bad, which is played, and changes nothing; and `Halted` for want of memory,
+/// as the line itself says it. The lines before are played then, and none of them is bad.
 pub fn replay<P: Performer>(
     performer: &P,
     alloc: Global,

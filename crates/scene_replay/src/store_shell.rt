@@ -125,11 +125,12 @@ fn go_on<P: Performer, R: Read, W: Write + Drop, E: Write, S: KeptLines + Drop, 
 }
 
 /// Opens a store, plays the lines that it kept, answers each line of a reader behind them and keeps it, as
-/// `run_kept_shell` does, and closes the store. It gives how many lines of the reader were bad, and the writer back. Where
-/// the opening takes long, it is told on the stream of errors, with what a compaction would do.
+/// `run_kept_shell` does, and closes the store. It gives how many lines of the reader were bad, and the writer back.
+/// Where the opening takes long, it is told on the stream of errors, with what a compaction would do.
 ///
-/// It costs what the lines cost in a script, and then what the shell costs. Refused: `Unopened`, and `Lines` as `replay`
-/// is refused, where nothing is read or written; `Shell` as `run_kept_shell` is; and `Unclosed` behind the input's end.
+/// It costs what the lines cost in a script, and then what the shell costs. Refused: `Unopened`, and `Lines` as
+/// `replay` is refused, where nothing is read or written; `Shell` as `run_kept_shell` is; and `Unclosed` behind the
+/// input's end.
 pub fn run_store_shell<P: Performer, R: Read, W: Write + Drop, E: Write, S: StorePlace, C: Clock>(
     performer: &P,
     alloc: Global,

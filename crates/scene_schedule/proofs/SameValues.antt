@@ -1,4 +1,5 @@
--- Rows with the same kinds, and with the same values of some of them: steps that read and write those alone make the same of both.
+-- Rows with the same kinds, and with the same values of some of them: steps that read and write those alone make the
+-- same of both.
 use Rattle.std.proofs.Common.{◌≡◌, ℕ, ◌+◌, Bool, true, false, cond, ◌||◌, List, [], ◌∷◌, map, refl, ap, subst, sym, ◌∙◌, nat_eq, Option, Some, None, Ok}
 use Rattle.std.specs.Prelude.{⊤, Result, Err, option_map, filter, is_some}
 use Rattle.std.specs.List.{AllZip, list_any}

@@ -55,7 +55,7 @@ module _ {E : Type 0} (passed : Passed) (w : World) (at : ℕ) (rules : List Sys
           let within : worker < length left = omega (arith, less, length-set left k (emptied at slot)) in
           later_slot passed (length left) worker w at rules s (h worker s within is)
 
-  -- the turn of a place, which is in the hands of just one worker
+  -- the turn of a place, which just one worker has
   pub turn_made : (workers worker : ℕ) (rule : SystemRule) (slot : Result (List (Option SystemMade)) E) (made : SystemMade) → IfOk slot (AreTurns passed workers worker w at rules)
       → slice_get rules at ≡ Some rule → turn_in slot at ≡ Some made → (at % workers ≡ worker) × passed worker at × IsMade w at rule made
   turn_made workers worker rule (Ok turns) made h there is = subst (IsTurn passed workers worker w at rule) is (h at rule (omega arith) there)

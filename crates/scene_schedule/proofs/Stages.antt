@@ -1,5 +1,5 @@
--- What systems do to a state is seen as what they do to what is seen of it. So on a stage they do what they do on its world, whatever
--- the stage notes.
+-- What systems do to a state is seen as what they do to what is seen of it. So on a stage they do what they do on its
+-- world, whatever the stage notes.
 use Rattle.std.proofs.Common.{◌≡◌, ℕ, ◌+◌, List, [], ◌∷◌, Bool, true, false, refl, ap, map, Option, Some, None, Ok}
 use Rattle.std.specs.Prelude.{Err}
 use Rattle.scene_kinds.specs.declared.entity.Entity.{Entity}

@@ -1,5 +1,5 @@
--- A system on a world that agrees with the opening one on what the system touches: what it writes is accepted, and it makes what it
--- makes of the opening world.
+-- A system on a world that agrees with the opening one on what the system touches: what it writes is accepted, and it
+-- makes what it makes of the opening world.
 use Rattle.std.proofs.Common.{◌≡◌, ℕ, ◌+◌, Bool, true, false, cond, not, nat_eq, List, [], ◌∷◌, ◌++◌, map, length, refl, ap, subst, sym, ◌∙◌, Option, Some, None, Ok, Err, if◌then◌else◌}
 use Rattle.std.specs.Prelude.{slice_get, option_map, option_and_then, filter, is_some, pos}
 use Rattle.std.specs.Option.{option_or}

@@ -1,4 +1,5 @@
--- A cell of a live entity's own kind that is written to a valid world: it is accepted, and every other cell stays as it was.
+-- A cell of a live entity's own kind that is written to a valid world: it is accepted, and every other cell stays as it
+-- was.
 use Rattle.std.proofs.Common.{◌≡◌, ℕ, zero, suc, Bool, true, false, cond, not, List, [], ◌∷◌, length, refl, ap, subst, sym, ◌∙◌, Option, Some, None, Ok}
 use Rattle.std.specs.Prelude.{slice_get, slice_set}
 use Rattle.std.specs.List.{AllZip}
@@ -39,8 +40,8 @@ use Rattle.scene_schedule.proofs.SameValues.{IsRowAlike, row_itself, row_over, r
 
 -- ---- tables that are alike
 
--- two tables have the same kind sets, and under each of them rows of the same entities with the same kinds, in the same order, and
--- the same values of the kinds that count
+-- two tables have the same kind sets, and under each of them rows of the same entities with the same kinds, in the same
+-- order, and the same values of the kinds that count
 pub record AreTablesAlike (on : ℕ → Bool) (s t : Tables) : Type 0 where
   pub masks : masks_of s ≡ masks_of t
   pub rows : (mask : KindSet) → AllZip (IsRowAlike on) (rows_at s mask) (rows_at t mask)

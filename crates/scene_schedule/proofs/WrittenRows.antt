@@ -1,4 +1,5 @@
--- Cells of live entities' own kinds that are written to a valid world one after another: each is accepted, and afterwards stands.
+-- Cells of live entities' own kinds that are written to a valid world one after another: each is accepted, and
+-- afterwards stands.
 use Rattle.std.proofs.Common.{◌≡◌, ℕ, ◌+◌, Bool, true, false, List, [], ◌∷◌, ◌++◌, map, refl, ap, subst, sym, ◌∙◌, Option, Some, None, Ok}
 use Rattle.std.specs.Prelude.{is_some, option_map}
 use Rattle.std.specs.List.{Contains, flat_map}

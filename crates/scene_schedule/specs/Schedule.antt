@@ -1,4 +1,5 @@
--- Which lists of phases are schedules: the first rule that is broken, and the first two systems that are in each other's way.
+-- Which lists of phases are schedules: the first rule that is broken, and the first two systems that are in each
+-- other's way.
 use Rattle.std.specs.Prelude.{◌≡◌, ℕ, ◌+◌, List, [], ◌∷◌, Bool, true, false, not, ◌||◌, ◌&&◌, Option, Some, None, is_some, nat_lt, nat_eq, length, if◌then◌else◌}
 use Rattle.std.specs.Option.{option_or}
 use Rattle.std.specs.List.{list_all, list_any}

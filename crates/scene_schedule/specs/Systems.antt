@@ -43,8 +43,8 @@ row_steps (s ∷ ss) = row_steps ss
 abbrev pub changes_of : World → SystemRule → List RowChange
 changes_of w rule = changes w rule.filter (row_steps rule.steps)
 
--- a written cell is an insert of a kind that is there: the value is written, the cell is changed at the world's tick, and the
--- tick at which it was added stays
+-- a written cell is an insert of a kind that is there: the value is written, the cell is changed at the world's tick,
+-- and the tick at which it was added stays
 abbrev pub writes_of_cells : Entity → List (ℕ × Value) → List Request
 writes_of_cells e cells = map (λ c. known (Insert e c.0 c.1)) cells
 

@@ -1,5 +1,5 @@
--- The turns of workers that share the systems of a phase by their places: a worker runs those whose place leaves its number, divided
--- by the number of workers.
+-- The turns of workers that share the systems of a phase by their places: a worker runs those whose place leaves its
+-- number, divided by the number of workers.
 use Rattle.std.specs.Prelude.{◌≡◌, ◌≢◌, ◌≤◌, ◌<◌, ◌%◌, ℕ, List, Option, Some, None, Result, Ok, Err, IfOk, length, slice_get, slice_index_or, slice_set}
 use Rattle.scene_kinds.specs.Answers.{refusal_of}
 use Rattle.scene_kinds.specs.declared.fault.Fault.TheVariants.{NoMemory}

@@ -27,7 +27,8 @@ pub trait PhaseRunner {
 
     /// What the systems of a phase make of a world: their rows and their queues. The world isn't changed.
     ///
-    /// Refused: `Overflow` of the first system that has one, by its row and then by its step, with its place; `NoMemory`.
+    /// Refused: `Overflow` of the first system that has one, by its row and then by its step, with its place;
+    /// `NoMemory`.
     fn run_phase(
         &self,
         alloc: Global,
@@ -57,8 +58,8 @@ fn placed(refusal: Refusal, phase: u32) -> Refusal
     }
 }
 
-/// Runs the systems of a phase on a stage: they all see its world as it is, then their cells are written, and then their
-/// queues are applied.
+/// Runs the systems of a phase on a stage: they all see its world as it is, then their cells are written, and then
+/// their queues are applied.
 fn play_systems<S: Stage, P: PhaseRunner>(
     alloc: Global,
     rules: &[SystemRule],
@@ -136,8 +137,9 @@ fn play_phases<S: Stage, P: PhaseRunner>(
 
 /// An advance by a schedule (docs/MODEL.md, "The rule of schedules"): its phases one after another.
 ///
-/// It spawns the entities of all its phases, in order. Refused: `OtherSchema` where the world has other kinds than those the
-/// schedule was made for; then, phase by phase, `Overflow` or the first refusal of a command, each with its place.
+/// It spawns the entities of all its phases, in order. Refused: `OtherSchema` where the world has other kinds than
+/// those the schedule was made for; then, phase by phase, `Overflow` or the first refusal of a command, each with its
+/// place.
 #[derive(Clone, Copy)]
 pub struct Advance<'a, P> {
     pub schedule: &'a Schedule,

@@ -17,8 +17,8 @@ use scene_systems::Step;
 use scene_world::World;
 use std::alloc::Global;
 
-/// Puts a command last. A queue takes more commands than a system has, since a world has at most 1,048,576 rows and a system 16
-/// steps; so only want of memory is answered.
+/// Puts a command last. A queue takes more commands than a system has, since a world has at most 1,048,576 rows and a
+/// system 16 steps; so only want of memory is answered.
 fn put(queue: &mut Queue, command: Command) -> Result<(), Refusal>
     ensures put { OnOk result (queue.new.commands ≡ queue.old.commands ++ command ∷ []) }
     ensures refused { IfErr result (λ r. r ≡ refusal_of NoMemory) }

@@ -3,8 +3,8 @@ ghost use Rattle.std.specs.Prelude.{◌≡◌, ℕ};
 
 use scene_world::World;
 
-/// A gate, which each worker passes before each of its systems (docs/MODEL.md, "Many threads, one answer"). It sees which worker
-/// runs which system; what the systems make doesn't hang on it.
+/// A gate, which each worker passes before each of its systems (docs/MODEL.md, "Many threads, one answer"). It sees
+/// which worker runs which system; what the systems make doesn't hang on it.
 ///
 /// The meaning that contracts use: `passed` says what holds once a worker has passed before a system.
 pub trait Gate {

@@ -13,14 +13,15 @@ ghost use Rattle.scene_schedule.specs.Schedule.{ScheduleState, IsSchedule, sched
 ghost use Rattle.scene_schedule.specs.Sound.{IsSound};
 ghost use Rattle.scene_schedule.specs.Systems.{overflow_at};
 
-/// A law: schedules are just the lists of at most 64 phases of at most 64 systems that break no rule and of which no two in a
-/// phase are in each other's way: neither writes a kind that the other reads or writes.
+/// A law: schedules are just the lists of at most 64 phases of at most 64 systems that break no rule and of which no
+/// two in a phase are in each other's way: neither writes a kind that the other reads or writes.
 pub fn schedules_are_just_what_is_sound()
     ensures { (s : ScheduleState) → IsSchedule s ↔ IsSound s.schema s.phases }
 {}
 
-/// A law: systems of which none is in another's way make in their turn, each on what those before it wrote, what each of them makes
-/// of the opening world alone; and the first that overflows on the opening world is the one that is refused.
+/// A law: systems of which none is in another's way make in their turn, each on what those before it wrote, what each
+/// of them makes of the opening world alone; and the first that overflows on the opening world is the one that is
+/// refused.
 pub fn systems_see_the_opening_world()
     ensures { SystemsSeeTheOpeningWorld }
 {}
@@ -43,8 +44,8 @@ pub fn worked_schedules()
     ensures bad_first { schedule_fault three_kinds ((move ∷ move ∷ []) ∷ (idle ∷ []) ∷ []) ≡ Some (BadRule 1 0) }
 {}
 
-/// Worked examples of what a system makes of a world by itself. In `three_tables` the entities 2, 1 and 0 have the number 0 as
-/// their kind 0, and match in this order.
+/// Worked examples of what a system makes of a world by itself. In `three_tables` the entities 2, 1 and 0 have the
+/// number 0 as their kind 0, and match in this order.
 pub fn worked_systems()
     ensures at_zero { (output_of three_tables (doing 1 (DespawnAtZero 0 ∷ []))).commands
         ≡ DespawnAllIfAlive (Id (ent 2)) ∷ DespawnAllIfAlive (Id (ent 1)) ∷ DespawnAllIfAlive (Id (ent 0)) ∷ [] }

@@ -1,16 +1,16 @@
 //! Schedules: phases of systems, what is refused of them, and how they are run.
 //!
-//! `Schedule::new` checks a list of phases: `specs/Schedule.antt` says which are schedules, and `specs/Systems.antt` what
-//! systems, phases and schedules do to a world.
+//! `Schedule::new` checks a list of phases: `specs/Schedule.antt` says which are schedules, and `specs/Systems.antt`
+//! what systems, phases and schedules do to a world.
 //!
 //! Since no system of a phase is in another's way, each makes in its turn what it makes of the opening world alone:
 //! `specs/AtOnce.antt` says what that is, and `systems_see_the_opening_world` is the law. So `run_phase_alone` and
-//! `run_phase`, on one thread and on many, answer the same `PhaseOutput`: the rows of each system, and its queue. A `Gate`
-//! sees which worker runs which system.
+//! `run_phase`, on one thread and on many, answer the same `PhaseOutput`: the rows of each system, and its queue. A
+//! `Gate` sees which worker runs which system.
 //!
-//! `Advance` is the frame: phase by phase a `PhaseRunner` makes the output, its rows are written, and its queues are applied.
-//! `Alone` runs phases on the calling thread, and `RunBy` by a closure, as one that calls `run_shared` with threads
-//! (docs/MODEL.md, "Many threads, one answer").
+//! `Advance` is the frame: phase by phase a `PhaseRunner` makes the output, its rows are written, and its queues are
+//! applied. `Alone` runs phases on the calling thread, and `RunBy` by a closure, as one that calls `run_shared` with
+//! threads (docs/MODEL.md, "Many threads, one answer").
 #![tactic(auto)]
 
 mod advance;

@@ -21,7 +21,8 @@ use std::thread::Threads;
 /// The most workers that a phase has.
 const MOST_WORKERS: usize = 16;
 
-/// The least number of slots of a world whose phases are shared among threads: with fewer, the threads cost more than they save.
+/// The least number of slots of a world whose phases are shared among threads: with fewer, the threads cost more than
+/// they save.
 const SHARED_SLOTS: usize = 16_384;
 
 /// Phases on the calling thread.
@@ -64,10 +65,11 @@ impl<F: Fn(&World, &[SystemRule]) -> Result<PhaseOutput, Refusal>> PhaseRunner f
     }
 }
 
-/// What the systems of a phase make of the opening world, on so many workers: a number below 1 is taken as 1, and one above 16 as
-/// 16. No more threads are made than there are systems, and none for one system alone, nor in a world of fewer than 16,384
-/// slots; where there are threads, each worker passes the gate before each of its systems. What they make, and what is refused,
-/// is the same for every number and gate (docs/MODEL.md, "Many threads, one answer").
+/// What the systems of a phase make of the opening world, on so many workers: a number below 1 is taken as 1, and one
+/// above 16 as
+/// 16. No more threads are made than there are systems, and none for one system alone, nor in a world of fewer than
+/// 16,384 slots; where there are threads, each worker passes the gate before each of its systems. What they make, and
+/// what is refused, is the same for every number and gate (docs/MODEL.md, "Many threads, one answer").
 ///
 /// Refused: the first `Overflow`, by system, then by row, placed by the system and the step; `NoMemory`.
 pub fn run_shared<R: Threads + Sync, G: Gate + Sync>(

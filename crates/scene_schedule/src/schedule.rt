@@ -11,8 +11,8 @@ use scene_systems::Phase;
 use std::alloc::{AllocError, Global};
 use std::marker::Model;
 
-/// A list of phases that was checked for the kinds of a schema (docs/MODEL.md, "The rule of schedules"): each system is one
-/// that a schedule may have, and no two systems of a phase are in each other's way.
+/// A list of phases that was checked for the kinds of a schema (docs/MODEL.md, "The rule of schedules"): each system is
+/// one that a schedule may have, and no two systems of a phase are in each other's way.
 ///
 /// Contracts see the kinds and the phases.
 #[derive(Drop, Debug)]
@@ -81,10 +81,10 @@ pub fn clone_phases(alloc: Global, phases: &[Phase]) -> Result<Vec<Phase>, Alloc
 impl Schedule {
     /// A schedule of these phases for worlds with this schema.
     ///
-    /// Refused, in this order: `BadRule` with the place of the first system, by phase and then by place, that breaks a rule
-    /// (docs/MODEL.md, "The rule of schedules"), `Conflict` with the first two systems of a phase of which one writes a kind
-    /// that the other reads or writes, `NoMemory`. Then the phases are dropped. It costs the steps of all systems, and for
-    /// each phase the square of its number of steps.
+    /// Refused, in this order: `BadRule` with the place of the first system, by phase and then by place, that breaks a
+    /// rule (docs/MODEL.md, "The rule of schedules"), `Conflict` with the first two systems of a phase of which one
+    /// writes a kind that the other reads or writes, `NoMemory`. Then the phases are dropped. It costs the steps of all
+    /// systems, and for each phase the square of its number of steps.
     pub fn new(alloc: Global, schema: &Schema, phases: Vec<Phase>) -> Result<Schedule, Refusal>
         ensures answer { IfOk result (λ s. s ≡ record { schema = schema.now; phases = phases.items }) }
         ensures sound { OnOk result (schedule_fault schema.now phases.items ≡ None) }

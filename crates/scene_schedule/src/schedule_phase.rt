@@ -17,10 +17,10 @@ use scene_world::World;
 use std::alloc::Global;
 use std::thread::Threads;
 
-/// What the systems of a phase of a schedule make of a world with the schedule's kinds, in this thread: their rows, and their
-/// queues. It is what they make one after another, each on what those before it wrote; nothing is written yet, and the world
-/// stays as it is (docs/MODEL.md, "The rule of schedules"). It costs the passes over the rows of the systems, and holds what
-/// they write and queue.
+/// What the systems of a phase of a schedule make of a world with the schedule's kinds, in this thread: their rows, and
+/// their queues. It is what they make one after another, each on what those before it wrote; nothing is written yet,
+/// and the world stays as it is (docs/MODEL.md, "The rule of schedules"). It costs the passes over the rows of the
+/// systems, and holds what they write and queue.
 ///
 /// Refused: the first `Overflow`, by system, then by row, placed by the system and the step; `NoMemory`.
 pub fn run_phase_alone(
@@ -39,9 +39,9 @@ pub fn run_phase_alone(
     run_systems_alone(alloc, world, phases[phase].systems())
 }
 
-/// The same on so many workers, each in a thread of its own where one can be made, else one after another: worker w runs the
-/// systems whose places leave w, divided by the number of workers, in order, and passes the gate before each. What is answered
-/// hangs neither on the number of workers nor on the gate (docs/MODEL.md, "Many threads, one answer").
+/// The same on so many workers, each in a thread of its own where one can be made, else one after another: worker w
+/// runs the systems whose places leave w, divided by the number of workers, in order, and passes the gate before each.
+/// What is answered hangs neither on the number of workers nor on the gate (docs/MODEL.md, "Many threads, one answer").
 pub fn run_phase<R: Threads + Sync, G: Gate + Sync>(
     rt: &R,
     alloc: Global,

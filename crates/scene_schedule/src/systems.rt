@@ -68,12 +68,12 @@ fn changes_of(alloc: Global, world: &World, rule: &SystemRule) -> Result<Vec<Row
     }
 }
 
-/// What the system at a place of a phase makes of the opening world alone: the changes of its rows, and its queue. The world
-/// stays as it is (docs/MODEL.md, "The rule of schedules"). Systems of a phase need nothing of each other, so they may be done in
-/// any order, or at once.
+/// What the system at a place of a phase makes of the opening world alone: the changes of its rows, and its queue. The
+/// world stays as it is (docs/MODEL.md, "The rule of schedules"). Systems of a phase need nothing of each other, so
+/// they may be done in any order, or at once.
 ///
-/// Refused: `Overflow` with the first row's entity whose sum is outside of the 64-bit numbers with sign, placed by the system
-/// and the step; `NoMemory`.
+/// Refused: `Overflow` with the first row's entity whose sum is outside of the 64-bit numbers with sign, placed by the
+/// system and the step; `NoMemory`.
 pub(crate) fn system_output(
     alloc: Global,
     world: &World,
@@ -92,12 +92,12 @@ pub(crate) fn system_output(
     Ok((RowChanges::from(changes), queue))
 }
 
-/// What the systems of a phase make of the opening world, in this thread: their rows, and their queues. It is what they make one
-/// after another, each on what those before it wrote, since none is in another's way; nothing is written yet, and the world
-/// stays as it is (docs/MODEL.md, "The rule of schedules").
+/// What the systems of a phase make of the opening world, in this thread: their rows, and their queues. It is what they
+/// make one after another, each on what those before it wrote, since none is in another's way; nothing is written yet,
+/// and the world stays as it is (docs/MODEL.md, "The rule of schedules").
 ///
-/// Refused: the first `Overflow`, by system, then by row, placed by the system and the step; `NoMemory`. It costs the passes over
-/// the rows of the systems, and holds what they write and queue.
+/// Refused: the first `Overflow`, by system, then by row, placed by the system and the step; `NoMemory`. It costs the
+/// passes over the rows of the systems, and holds what they write and queue.
 pub(crate) fn run_systems_alone(
     alloc: Global,
     world: &World,

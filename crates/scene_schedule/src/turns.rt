@@ -12,7 +12,8 @@ use scene_systems::SystemRule;
 use std::alloc::{AllocError, Global};
 use std::marker::Model;
 
-/// What a worker made of the systems of a phase, by system; the places of others' systems are empty. Contracts see a list.
+/// What a worker made of the systems of a phase, by system; the places of others' systems are empty. Contracts see a
+/// list.
 #[derive(Drop)]
 pub(crate) struct Turns {
     list: Vec<Option<Result<(RowChanges, Queue), Refusal>>>,

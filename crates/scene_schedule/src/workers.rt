@@ -91,9 +91,9 @@ fn gathered<G: Gate>(
 }
 
 /// What the systems of a phase make of the opening world, on as many threads as there are workers: the same as
-/// `run_systems_alone` answers (docs/MODEL.md, "Many threads, one answer"). A worker runs the systems whose places leave its
-/// number, divided by the number of workers, in order, and passes the gate before each. Where no thread can be made, the
-/// workers run one after another.
+/// `run_systems_alone` answers (docs/MODEL.md, "Many threads, one answer"). A worker runs the systems whose places
+/// leave its number, divided by the number of workers, in order, and passes the gate before each. Where no thread can
+/// be made, the workers run one after another.
 pub(crate) fn run_systems<R: Threads + Sync, G: Gate + Sync>(
     rt: &R,
     alloc: Global,

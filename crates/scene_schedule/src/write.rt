@@ -99,13 +99,13 @@ fn write_systems<S: Stage>(rows: &[RowChanges], stage: &mut S) -> Result<(), Ref
     Ok(())
 }
 
-/// Writes on a stage what the systems of a phase made of their rows: system by system, in a system row by row, and in a row by
-/// kind (docs/MODEL.md, "The rule of schedules"). It costs what the inserts cost, and a copy of each value.
+/// Writes on a stage what the systems of a phase made of their rows: system by system, in a system row by row, and in a
+/// row by kind (docs/MODEL.md, "The rule of schedules"). It costs what the inserts cost, and a copy of each value.
 ///
-/// Refused: `NoMemory`, and then the cells before the refused one are written; the room for the notes of all cells is made
-/// before the first, and with it that for `more` notes, of the commands that follow, so that these move none. No cell is
-/// refused for another reason where the rows were made of the stage's own world. The world to which the stage can be taken
-/// back, if it keeps a way back, stays, and no room is lost.
+/// Refused: `NoMemory`, and then the cells before the refused one are written; the room for the notes of all cells is
+/// made before the first, and with it that for `more` notes, of the commands that follow, so that these move none. No
+/// cell is refused for another reason where the rows were made of the stage's own world. The world to which the stage
+/// can be taken back, if it keeps a way back, stays, and no room is lost.
 pub(crate) fn write_all<S: Stage>(
     rows: &[RowChanges],
     more: usize,

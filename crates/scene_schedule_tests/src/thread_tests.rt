@@ -38,7 +38,8 @@ impl Noted {
     }
 }
 
-/// A gate that notes which worker runs which system, and holds each system until so many have come, for a bounded number of turns.
+/// A gate that notes which worker runs which system, and holds each system until so many have come, for a bounded
+/// number of turns.
 #[derive(Drop)]
 struct Watch {
     wanted: u64,
@@ -142,7 +143,8 @@ fn fill(alloc: Global, world: &mut World, number: i64, rest: i64) -> Result<(), 
     spawn_both(alloc, world, number, rest)
 }
 
-/// What the first phase makes on so many workers. A schedule of another world is refused, as is a phase that isn't there.
+/// What the first phase makes on so many workers. A schedule of another world is refused, as is a phase that isn't
+/// there.
 fn on_workers<R: Threads + Sync, G: Gate + Sync>(
     rt: &R,
     alloc: Global,
@@ -274,7 +276,8 @@ impl Trial {
     }
 }
 
-/// Tries the phase of these systems on a world with three rows. No other function here drops a world, which is dear to prove.
+/// Tries the phase of these systems on a world with three rows. No other function here drops a world, which is dear to
+/// prove.
 fn try_phase<R: Threads + Abort + Sync>(
     rt: &R,
     alloc: Global,

@@ -30,8 +30,8 @@ fn vec3(alloc: Global, text: &str) -> Result<[i64; 3], LineError>
     Ok([x, y, z])
 }
 
-/// The value of a shape that a text behind a name is (docs/SCRIPTS.md, "Words"): a whole number, three of them joined by
-/// commas, the text itself, also an empty one, or an entity text. A tag has no value.
+/// The value of a shape that a text behind a name is (docs/SCRIPTS.md, "Words"): a whole number, three of them joined
+/// by commas, the text itself, also an empty one, or an entity text. A tag has no value.
 fn value(alloc: Global, name: &str, shape: Shape, text: &str) -> Result<Value, LineError>
     ensures { Reads result (value_said name.now shape text.now) }
 {

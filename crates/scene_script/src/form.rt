@@ -43,7 +43,8 @@ pub enum LineForm {
 }
 
 impl LineForm {
-    /// The form that a first word names, or `None` only where it names none. It tries those first that long scripts have most.
+    /// The form that a first word names, or `None` only where it names none. It tries those first that long scripts
+    /// have most.
     pub fn named(word: &str) -> Option<LineForm>
         ensures { result ≡ form_named word.now }
     {

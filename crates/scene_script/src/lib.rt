@@ -1,11 +1,12 @@
-//! The language of scripts: what a line says, and how values print.
+//! The language of scripts: what a line says.
 //!
-//! A script's bytes are cut into lines and a line into words. The words are read as numbers, entities, targets,
-//! cells, commands of a queue and systems, and a line becomes one value of the type `Line`, or a `BadLine`, which says its first
-//! mistake.
-//! Values, cells, the parts of a row and refusals print as docs/SCRIPTS.md, "Output", says. Each step is exact against a total
-//! function of bytes in `specs/` (docs/SCRIPTS.md explains the language). The crate calls no world and no queue: what a
-//! line does is scene_app's.
+//! A script's bytes are cut into lines and a line into words. The words are read as numbers, entities, targets, cells,
+//! commands of a queue and systems, and a line becomes one value of the type `Line`, or a `BadLine`, which says its
+//! first mistake. Each step is exact against a total function of bytes in `specs/` (docs/SCRIPTS.md explains the
+//! language).
+//!
+//! The crate calls no world and no queue, and prints nothing: what a line does and answers is scene_interpreter's, and
+//! how values print scene_print's.
 #![tactic(auto)]
 
 mod bad_line;

@@ -249,8 +249,8 @@ fn system_needing(
     }
 }
 
-/// A system of this name, with what the words behind it say: `need=` and `without=`, each of which may be left out, and the
-/// steps (docs/SCRIPTS.md, "Systems").
+/// A system of this name, with what the words behind it say: `need=` and `without=`, each of which may be left out, and
+/// the steps (docs/SCRIPTS.md, "Systems").
 pub(crate) fn system_rule(
     alloc: Global,
     schema: &Schema,

@@ -1,4 +1,4 @@
--- With all passes of a lock in one hand, a call is the only one.
+-- Where all passes of a lock have one owner, a call is the only one.
 use Rattle.std.proofs.Common.{◌≡◌, ◌≢◌, ◌⊎◌, ◌<◌, ℕ, List, [], ◌∷◌, ◌++◌, Result, Ok, Err, IfOk, IfErr, ⊎_elim, inl, inr, sym, ap, subst, ◌∙◌, arith}
 use mathlib.Core.Logic.{dite}
 use mathlib.Core.List.{append-nil, append_assoc}

@@ -1,4 +1,4 @@
--- The machine and the answers of a hand over a lock are those of its state.
+-- The machine and the answers of an owner over a lock are those of its state.
 use Rattle.std.proofs.Common.{◌≡◌, ◌≢◌, ◌<◌, ◌≤◌, ◌+◌, ℕ, List, [], ◌∷◌, ◌++◌, map, length, Result, Ok, Err, IfOk, IfErr, MatchResult, nat_lt, if◌then◌else◌, true, false, Bool, refl, sym, ap, ◌∙◌, arith}
 use Rattle.std.proofs.lemmas.Bool.{lt-ltb, ltb-true}
 use Rattle.std.proofs.lemmas.List.{length-append, length-map, map-append}
@@ -81,7 +81,7 @@ module _ (o : Beginning) (h : List Entry) (n : ℕ) where
     abbrev A : OwnerState
     A = owner_of (record { opening = o; history = after }) n
 
-    -- what an only call came to, told of the hand
+    -- what an only call came to, told of the owner
     pub only_done : (r : Result Reply Stopped) → IsOnlyCall o n c h r after → IfOk r (λ reply. performed H (asked c) ≡ (A, told reply))
     only_done (Ok r) t = performed_done after c r t.0 t.1 t.2
     only_done (Err x) t = tt

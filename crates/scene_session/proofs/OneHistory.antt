@@ -51,7 +51,8 @@ module _ {E : Type 0} where
           let none = added_none (entries_of by (by e) h) (entries_of by (by e) (e ∷ later)) (sym (of-append (by e) h (e ∷ later)) ∙ same (by e) (below 0 e (omega arith))) in
           let n : length (e ∷ entries_of by (by e) later) ≡ 0 = ap length (sym (of-own e later) ∙ none) in absurd (omega (arith, n))
 
-      -- One entry of a session came after a history, and no other session has an entry more: then it came right after it, and last
+      -- One entry of a session came after a history, and no other session has an entry more: then it came right after
+      -- it, and last
       pub between : (h mid later whole : List E) (e : E) → whole ≡ ((h ++ mid) ++ e ∷ []) ++ later → All (λ x. by x < n) whole
           → entries_of by (by e) (h ++ mid) ≡ entries_of by (by e) h → entries_of by (by e) whole ≡ entries_of by (by e) ((h ++ mid) ++ e ∷ [])
           → ((s : ℕ) → s < n → by e ≢ s → entries_of by s whole ≡ entries_of by s h) → whole ≡ h ++ e ∷ []

@@ -1,4 +1,4 @@
--- All passes of a lock in one hand.
+-- All passes of a lock with one owner.
 use Rattle.std.specs.Prelude.{◌≡◌, ◌⊎◌, ◌<◌, ◌++◌, ◌∷◌, [], ℕ, List, Result, MatchResult}
 use Rattle.scene_lock.specs.declared.knowledge.Step.{Step}
 use Rattle.scene_lock.specs.Pass.{PassView, all_seen}

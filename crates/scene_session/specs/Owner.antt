@@ -1,4 +1,5 @@
--- What contracts see of a hand: the machine that its state began as, with its records, and the calls since, each with its answer.
+-- What contracts see of an owner: the machine that its state began as, with its records, and the calls since, each with
+-- its answer.
 use Rattle.std.specs.Prelude.{◌++◌, ◌∷◌, [], Bool, ℕ, List, false, length, map, nat_lt, if◌then◌else◌}
 use Rattle.scene_kinds.specs.declared.fault.Fault.TheVariants.{HistoryFull}
 use Rattle.scene_kinds.specs.Answers.{refusal_of}
@@ -16,8 +17,8 @@ pub record MadeCall : Type 0 where
   pub call : Asked
   pub answer : Answer
 
--- whether it has no lock, the machine at first with its records, how many calls there may be, the calls so far, the oldest first,
--- and whose turn it is
+-- whether it has no lock, the machine at first with its records, how many calls there may be, the calls so far, the
+-- oldest first, and whose turn it is
 pub record OwnerState : Type 0 where
   pub is_alone : Bool
   pub opening : Whole
@@ -59,7 +60,7 @@ performed h a = if nat_lt (length h.history) h.limit then (entered h a, (step (w
 abbrev pub made : Entry → MadeCall
 made e = record { session = e.session; call = asked e.call; answer = told e.reply }
 
--- the hand over a lock with this state, where it is the turn of this session
+-- the owner over a lock with this state, where it is the turn of this session
 abbrev pub owner_of : StateView → ℕ → OwnerState
 owner_of s session =
     record { is_alone = false; opening = whole_of s.opening.editor; limit = s.opening.limit; history = map made s.history; session = session }

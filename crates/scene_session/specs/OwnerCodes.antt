@@ -1,4 +1,4 @@
--- How the values of a hand are told apart.
+-- How the values of an owner are told apart.
 use Rattle.std.specs.Prelude.{◌≡◌, ◌⊎◌, Bool, ℕ, List, refl}
 use mathlib.Core.Logic.{inl, inr}
 use base.Stored.{coded_unit}
@@ -75,7 +75,7 @@ abbrev pub made_code : Coded MadeCall
 made_code = code_by (ℕ × (Asked × Answer)) (coded× coded_ℕ (coded× asked_code answer_code))
     (λ c. (c.session, (c.call, c.answer))) (λ p. record { session = p.0; call = p.1.0; answer = p.1.1 }) (λ _. refl)
 
--- a hand by its parts
+-- an owner by its parts
 abbrev pub owner_code : Coded OwnerState
 owner_code = code_by (Bool × (Whole × (ℕ × (List MadeCall × ℕ))))
     (coded× coded_bool (coded× whole_code (coded× coded_ℕ (coded× (coded_list made_code) coded_ℕ))))

@@ -29,8 +29,8 @@ IsSame before after = (after.lock ≡ before.lock) × (after.pass.session ≡ be
 abbrev pub SeesMore : SessionView → SessionView → Type 0
 SeesMore before after = IsSame before after × Follows IsLegal by_session before.lock before.pass after.pass
 
--- A call was entered after some history, which goes on from what the session had seen, and the answer is the machine's after that
--- history. The session has seen it, and its own entry last
+-- A call was entered after some history, which goes on from what the session had seen, and the answer is the machine's
+-- after that history. The session has seen it, and its own entry last
 pub record Performed (before : SessionView) (c : Call) (given : Answer) (after : SessionView) : Type 0 where
   pub same : IsSame before after
   pub history : List Entry
@@ -44,8 +44,8 @@ pub record Performed (before : SessionView) (c : Call) (given : Answer) (after :
   pub answer : given ≡ answer_after before.lock.terms.opening history (asked c)
   pub still_legal : IsLegalBy IsLegal by_session before.lock.terms after.pass.seen
 
--- The call wasn't entered after the history that the session has seen now, and was handed back: the history was full, or else no
--- memory was found
+-- The call wasn't entered after the history that the session has seen now, and was handed back: the history was full,
+-- or else no memory was found
 pub record NotPerformed (before : SessionView) (c : Call) (x : Stopped) (after : SessionView) : Type 0 where
   pub more : SeesMore before after
   pub stopped : IsStopped before.lock.terms.opening after.pass.seen c x

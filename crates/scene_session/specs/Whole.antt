@@ -17,8 +17,8 @@ use Rattle.scene_undo.specs.Editor.{EditorState, machine_of}
 use Rattle.scene_session.specs.Calls.{Asked, Submit, Advance, Undo, Redo, machine_call, Answer, Refused, accepted_answer, asked, told}
 use Rattle.scene_session.specs.declared.entry.Entry.{Entry}
 
--- the machine, the records that are kept of the frames before, the newest first, and those of the frames that were undone, the next
--- one first
+-- the machine, the records that are kept of the frames before, the newest first, and those of the frames that were
+-- undone, the next one first
 pub record Whole : Type 0 where
   pub machine : Machine World
   pub past : List Record

@@ -1,4 +1,4 @@
-//! Calls and queries through one of all passes of a lock, which are in one hand: no other call can have come between.
+//! Calls and queries through one of all passes of a lock, which have one owner: no other call can have come between.
 ghost use Rattle.std.specs.Prelude.{◌≡◌, ◌<◌, ◌≤◌, ◌++◌, ◌∷◌, [], List, All, vec_len, vec_capacity};
 ghost use Rattle.scene_lock.specs.declared.knowledge.Step.{Step};
 ghost use Rattle.scene_lock.specs.Pass.{IsPassOf};
@@ -15,13 +15,13 @@ use std::alloc::Global;
 use std::sync::Wait;
 use std::thread::Threads;
 
-/// Performs a call through a pass, as `Session::submit` and its like do, where the other passes of the lock are in the same hand
-/// and have seen the same history: so the call is the only one (docs/SESSIONS.md, "What it has seen"). The list comes back with
-/// the pass last, in the room that there must be for it. All of them have now seen one history, the same or the same with this
-/// call.
+/// Performs a call through a pass, as `Session::submit` and its like do, where the other passes of the lock have the
+/// same owner and have seen the same history: so the call is the only one (docs/SESSIONS.md, "What it has seen"). The
+/// list comes back with the pass last, in the room that there must be for it. All of them have now seen one history,
+/// the same or the same with this call.
 ///
-/// Stopped, in this order, and then nothing is entered and the call is handed back: `HistoryFull` with the limit of the history;
-/// `NoMemory`.
+/// Stopped, in this order, and then nothing is entered and the call is handed back: `HistoryFull` with the limit of the
+/// history; `NoMemory`.
 pub fn perform_with_all<R: Threads + Wait + Sync>(
     rt: &R,
     alloc: Global,
@@ -48,9 +48,9 @@ pub fn perform_with_all<R: Threads + Wait + Sync>(
     (passes, reply)
 }
 
-/// Asks a query through a pass, where the other passes of the lock are in the same hand and have seen the same history: the
-/// answer is of the state with just that history (docs/SESSIONS.md, "What it has seen"). The list comes back with the pass last,
-/// in the room that there must be for it. It takes no memory but what the query takes.
+/// Asks a query through a pass, where the other passes of the lock have the same owner and have seen the same history:
+/// the answer is of the state with just that history (docs/SESSIONS.md, "What it has seen"). The list comes back with
+/// the pass last, in the room that there must be for it. It takes no memory but what the query takes.
 pub fn ask_with_all<Q: Query, R: Wait>(
     rt: &R,
     alloc: Global,

@@ -1,4 +1,4 @@
-//! A hand without a lock: an editor that no other thread can reach.
+//! An owner without a lock: an editor that no other thread can reach.
 ghost use Rattle.std.specs.Prelude.{◌≡◌, ◌≢◌, ◌≤◌, ◌<◌, ◌+◌, ◌++◌, ◌∷◌, [], length, IfOk, IfErr, MatchResult, Some, None, true};
 ghost use Rattle.scene_kinds.specs.Answers.{refusal_of};
 ghost use Rattle.scene_kinds.specs.declared.fault.Fault.TheVariants.{HistoryFull, NoMemory};
@@ -19,8 +19,9 @@ use std::marker::Model;
 use std::snapshot::Snapshot;
 use std::thread::Threads;
 
-/// An editor with the session whose turn it is, how many calls there may be, and for how many more there is room. Nobody can
-/// read the calls of such a hand, so it keeps none: clauses alone see them, and what the editor was before them.
+/// An editor with the session whose turn it is, how many calls there may be, and for how many more there is room.
+/// Nobody can read the calls of such an owner, so it keeps none: clauses alone see them, and what the editor was before
+/// them.
 #[derive(Drop)]
 pub(crate) struct Alone {
     opening: Snapshot<Editor>,
@@ -93,7 +94,7 @@ fn turned_back(limit: u64, call: Call) -> Stopped
 }
 
 impl Alone {
-    /// The hand of this editor, with no calls yet; it is the turn of session 0.
+    /// The owner of this editor, with no calls yet; it is the turn of session 0.
     pub(crate) fn new(editor: Editor, limit: u64) -> Alone
         ensures { result ≡ opening_owner (whole_of editor) limit true }
     {

@@ -57,8 +57,8 @@ pub enum Reply {
     Refused(Refusal),
 }
 
-/// A call that wasn't entered, handed back, and why: `HistoryFull`, `NoMemory`, or `Busy` (docs/SESSIONS.md, "History" and
-/// "Busy").
+/// A call that wasn't entered, handed back, and why: `HistoryFull`, `NoMemory`, or `Busy` (docs/SESSIONS.md, "History"
+/// and "Busy").
 #[derive(Drop, Debug)]
 pub struct Stopped {
     pub refusal: Refusal,

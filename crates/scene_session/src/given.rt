@@ -5,8 +5,8 @@ use scene_pass::{CellName, Filter, added_since, changed_since, rows};
 use scene_undo::{Cursor, Editor};
 use std::alloc::{AllocError, Global};
 
-/// The rows that a filter matches, by ascending kind set, then by their places in the table (docs/MODEL.md, "The rule of
-/// queries"). The answer is a copy of them, or an error where no memory was found for it.
+/// The rows that a filter matches, by ascending kind set, then by their places in the table (docs/MODEL.md, "The rule
+/// of queries"). The answer is a copy of them, or an error where no memory was found for it.
 #[derive(Clone, Copy)]
 pub struct RowsOf(pub Filter);
 
@@ -23,8 +23,8 @@ impl EditorQuery for RowsOf {
     }
 }
 
-/// The cursor of now: how many undos there were, and the tick of the world (docs/MODEL.md, "The rule of queries"). It takes
-/// no memory.
+/// The cursor of now: how many undos there were, and the tick of the world (docs/MODEL.md, "The rule of queries"). It
+/// takes no memory.
 #[derive(Clone, Copy)]
 pub struct CursorNow;
 
@@ -41,7 +41,8 @@ impl EditorQuery for CursorNow {
     }
 }
 
-/// The cells of matching rows that were changed since a cursor, by row, then by kind (docs/MODEL.md, "The rule of queries").
+/// The cells of matching rows that were changed since a cursor, by row, then by kind (docs/MODEL.md, "The rule of
+/// queries").
 ///
 /// Refused: `Rewound` with the count of undos now, just where it isn't the cursor's; `NoMemory`.
 #[derive(Clone, Copy)]
@@ -61,7 +62,8 @@ impl EditorQuery for ChangedSince {
     }
 }
 
-/// The cells of matching rows that were added since a cursor, by row, then by kind (docs/MODEL.md, "The rule of queries").
+/// The cells of matching rows that were added since a cursor, by row, then by kind (docs/MODEL.md, "The rule of
+/// queries").
 ///
 /// Refused: `Rewound` with the count of undos now, just where it isn't the cursor's; `NoMemory`.
 #[derive(Clone, Copy)]

@@ -1,13 +1,13 @@
-//! One state that sessions share: an editor with the history of the calls by which it came to be what it is.
+//! One state that sessions share, an editor with the history of its calls, and the owner of all its sessions.
 //!
-//! A `Call` is performed on a `State` for a session, and is entered in the history with its `Reply`, also where the editor
-//! refuses it. Contracts see what the state began as and its history; the editor is what the calls of the history make of
-//! that opening, and each reply is the machine's (`replayed` and `IsLegal` in `specs/State.antt`). A `Query` asks a question
-//! about a state, and an `EditorQuery` one about an editor.
+//! A `Call` is performed on a `State` for a session and entered in the history with its `Reply`, also where the editor
+//! refuses it. Contracts see what the state began as and its history; the editor is what those calls make of that
+//! opening, and each reply is the machine's (`IsLegal` in `specs/State.antt`). A `Query` asks about a state, an
+//! `EditorQuery` about an editor. A `Session` works through one pass of a `WordLock` over the state, beside those of
+//! other threads.
 //!
-//! A `Session` performs calls and asks queries through one pass of a `WordLock` over the state, beside the sessions of other
-//! threads. Who has the passes of all sessions performs and asks by `perform_with_all` and `ask_with_all`, and knows that no
-//! other call came between. docs/SESSIONS.md has all this in words.
+//! A `SessionOwner` has all eight passes, or an editor without a lock, so that no other call comes between its own. A
+//! `Performer` does its calls: `OnThreads` may start threads and wait, `ThisThread` may not (docs/SESSIONS.md).
 #![tactic(auto)]
 
 mod all_passes;

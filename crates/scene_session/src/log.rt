@@ -1,4 +1,4 @@
-//! The calls of a hand without a lock, for clauses alone.
+//! The calls of an owner without a lock, for clauses alone.
 ghost use Rattle.std.specs.Prelude.{◌≡◌, ◌++◌, ◌∷◌, [], List};
 ghost use Rattle.std.specs.Coded.{coded_list};
 ghost use Rattle.scene_session.specs.OwnerCodes.{made_code};
@@ -8,8 +8,8 @@ ghost use base.Fml.{ftrue};
 use crate::entry::Entry;
 use std::marker::Model;
 
-/// The calls that were made, the oldest first. Clauses alone see them: it takes no memory, and its functions do nothing when they
-/// run.
+/// The calls that were made, the oldest first. Clauses alone see them: it takes no memory, and its functions do nothing
+/// when they run.
 #[derive(Drop)]
 pub(crate) struct Log {
     pub(crate) ghost calls: { List MadeCall } by { coded_list made_code },

@@ -1,4 +1,4 @@
-//! The hand: all sessions of one state.
+//! The owner of all sessions of one state.
 ghost use Rattle.std.specs.Prelude.{◌≡◌, ◌≤◌, ◌<◌, length, IfNone, IfOk, IfSome, false, true};
 ghost use Rattle.scene_session.specs.Whole.{whole_of};
 ghost use Rattle.scene_session.specs.Owner.{opening_owner, whole_at, with_session};
@@ -12,7 +12,7 @@ use scene_undo::Editor;
 use std::alloc::{AllocError, Global};
 use std::marker::Model;
 
-/// Where the editor of a hand is.
+/// Where the editor of an owner is.
 #[derive(Drop)]
 pub(crate) enum Ownership {
     /// In a state under a lock, whose passes are all here.
@@ -21,11 +21,11 @@ pub(crate) enum Ownership {
     Alone(Alone),
 }
 
-/// Eight sessions of one state in one hand: over a lock with all its passes, or over an editor that has no lock, which no other
-/// thread can reach (docs/SESSIONS.md, "All in one hand"). A `Performer` performs its calls and asks its queries.
+/// Eight sessions of one state in one owner: over a lock with all its passes, or over an editor that has no lock, which
+/// no other thread can reach (docs/SESSIONS.md, "One owner"). A `Performer` performs its calls and asks its queries.
 ///
-/// Contracts see whether it has no lock, the machine that the state began as with its records, the greatest number of calls,
-/// the calls so far, and whose turn it is.
+/// Contracts see whether it has no lock, the machine that the state began as with its records, the greatest number of
+/// calls, the calls so far, and whose turn it is.
 #[derive(Drop)]
 pub struct SessionOwner {
     pub(crate) ownership: Ownership,
@@ -44,8 +44,8 @@ impl Model for SessionOwner {
 }
 
 impl SessionOwner {
-    /// A hand of the sessions 0 to 7 over a lock with a state of this editor, with no calls yet; it is the turn of session 0.
-    /// There may be `limit` calls, 1 to 1,048,576 (docs/SESSIONS.md, "History").
+    /// An owner of the sessions 0 to 7 over a lock with a state of this editor, with no calls yet; it is the turn of
+    /// session 0. There may be `limit` calls, 1 to 1,048,576 (docs/SESSIONS.md, "History").
     ///
     /// `AllocError` where no memory was found: the editor is dropped then.
     pub fn new(alloc: Global, editor: Editor, limit: u32) -> Result<SessionOwner, AllocError>
@@ -58,9 +58,9 @@ impl SessionOwner {
         })
     }
 
-    /// The same without a lock. `ThisThread` performs its calls. It takes no memory, and its calls take none but what the editor
-    /// takes: it keeps their number alone, since nobody can read the calls of such a hand. So there may be as many as a counter
-    /// holds: `u64::MAX` is no limit but the counter's.
+    /// The same without a lock. `ThisThread` performs its calls. It takes no memory, and its calls take none but what
+    /// the editor takes: it keeps their number alone, since nobody can read the calls of such an owner. So there may be
+    /// as many as a counter holds: `u64::MAX` is no limit but the counter's.
     pub fn alone(editor: Editor, limit: u64) -> SessionOwner
         requires { 1 ≤ limit }
         ensures { result ≡ opening_owner (whole_of editor) limit true }
@@ -125,8 +125,8 @@ impl SessionOwner {
         }
     }
 
-    /// The lock, and the passes of its eight sessions, 0 first: each has seen just these calls. `None` where there is no lock.
-    /// It takes no memory.
+    /// The lock, and the passes of its eight sessions, 0 first: each has seen just these calls. `None` where there is
+    /// no lock. It takes no memory.
     pub fn into_parts(self) -> Option<(WordLock<State>, Vec<Pass<State>>)>
         ensures parts { IfSome result (λ p. AreOf p.0 p.1.items self) }
         ensures alone { IfNone result (self.is_alone ≡ true) }

@@ -1,4 +1,4 @@
-//! Who performs the calls of a hand, and asks its queries.
+//! Who performs the calls of an owner, and asks its queries.
 ghost use Rattle.std.specs.Prelude.{◌≡◌, ◌≢◌, ◌≤◌, ◌<◌, length, IfErr, IfNone, IfOk, IfSome, false};
 ghost use Rattle.std.specs.Thread.{IsSync};
 ghost use Rattle.scene_kinds.specs.Answers.{refusal_of};
@@ -15,10 +15,10 @@ use std::alloc::Global;
 use std::sync::Wait;
 use std::thread::Threads;
 
-/// Who performs calls: one that has threads to start, or the thread that asks for it alone. What a call comes to doesn't
-/// depend on it (docs/SESSIONS.md, "All in one hand").
+/// Who performs calls: one that has threads to start, or the thread that asks for it alone. What a call comes to
+/// doesn't depend on it (docs/SESSIONS.md, "One owner").
 ///
-/// The meaning that contracts use: `misses` says of which hands it can't reach the editor.
+/// The meaning that contracts use: `misses` says of which owners it can't reach the editor.
 pub trait Performer {
     /// By what it starts threads, if it does.
     type Runtime: Sync;
@@ -27,19 +27,22 @@ pub trait Performer {
 
     ghost misses: { OwnerState → Type 0 };
 
-    /// Performs a call of the session whose turn it is. What the editor refuses is entered with the reply `Refused`, and leaves
-    /// the editor as it was; where there are as many calls as may be, the reply is `Refused` with `HistoryFull` and the limit, and
-    /// nothing is entered. It costs what the call costs, and over a lock some thirty loads of a word.
+    /// Performs a call of the session whose turn it is. What the editor refuses is entered with the reply `Refused`,
+    /// and leaves the editor as it was; where there are as many calls as may be, the reply is `Refused` with
+    /// `HistoryFull` and the limit, and nothing is entered. It costs what the call costs, and over a lock some thirty
+    /// loads of a word.
     ///
-    /// Where no memory is found, nothing is entered and the call is handed back. It comes back only where there was room for it.
+    /// Where no memory is found, nothing is entered and the call is handed back. It comes back only where there was
+    /// room for it.
     fn perform(&self, alloc: Global, owner: &mut SessionOwner, call: Call) -> Result<Reply, Call>
         requires few { queue_count call ≤ 4294967295 }
         requires sync { IsSync Self.Runtime.row }
         ensures done { IfOk result (λ reply. performed owner.old (asked call) ≡ (owner.new, told reply)) }
         ensures back { IfErr result (λ back. (back ≡ call) × (owner.new ≡ owner.old) × (length owner.old.history < owner.old.limit)) };
 
-    /// Asks a question of the editor, for the session whose turn it is: what is found is of the editor after just these calls. It
-    /// costs what the question costs, and over a lock some thirty loads of a word; it takes no memory but what the question takes.
+    /// Asks a question of the editor, for the session whose turn it is: what is found is of the editor after just these
+    /// calls. It costs what the question costs, and over a lock some thirty loads of a word; it takes no memory but
+    /// what the question takes.
     ///
     /// `None` only where it can't reach the editor.
     fn ask<Q: EditorQuery>(
@@ -53,9 +56,10 @@ pub trait Performer {
         ensures missed { IfNone result (Self.misses owner.old) };
 }
 
-/// Performs calls on this thread, and the systems of an advance on as many threads as there are workers, 1 to 16. A number below
-/// is taken as 1, and one above as 16.
-// It has the handle by value, which may be a reference: with a lifetime of its own no call could be proved that is given one.
+/// Performs calls on this thread, and the systems of an advance on as many threads as there are workers, 1 to 16. A
+/// number below is taken as 1, and one above as 16.
+// It has the handle by value, which may be a reference: with a lifetime of its own no call could be proved that is
+// given one.
 #[derive(Drop)]
 pub struct OnThreads<R> {
     rt: R,
@@ -69,8 +73,8 @@ impl<R: Threads + Sync> OnThreads<R> {
     }
 }
 
-/// Performs the calls of a hand without a lock on this thread, and starts none. A hand over a lock it can't reach, and answers
-/// as if no memory were found.
+/// Performs the calls of an owner without a lock on this thread, and starts none. An owner over a lock it can't reach,
+/// and answers as if no memory were found.
 #[derive(Clone, Copy)]
 pub struct ThisThread;
 

@@ -22,8 +22,8 @@ pub trait Query {
 
 /// A question about an editor. Each is a `Query` as well: of a state it asks the editor as it is after the history.
 ///
-/// The meaning that contracts use: `finds` says what is found, of the question, the editor's machine with its records, and what
-/// was found.
+/// The meaning that contracts use: `finds` says what is found, of the question, the editor's machine with its records,
+/// and what was found.
 pub trait EditorQuery {
     /// What is found.
     type Found;

@@ -23,8 +23,8 @@ use std::marker::Model;
 use std::sync::Wait;
 use std::thread::Threads;
 
-/// One of those who share a state (docs/SESSIONS.md, "What a session promises"). A call takes the session and gives it back, so
-/// the calls of one session come one after another.
+/// One of those who share a state (docs/SESSIONS.md, "What a session promises"). A call takes the session and gives it
+/// back, so the calls of one session come one after another.
 ///
 /// Contracts see the lock and the pass, with the history that the session has seen.
 #[derive(Drop)]
@@ -98,12 +98,12 @@ impl<'a> Session<'a> {
         }
     }
 
-    /// Does a frame of queues, of which there are at most 4,294,967,295, once no other session is inside: it raises the world's
-    /// tick by one and applies the queues in order, all or nothing (docs/SESSIONS.md, "What a session promises"). It costs what
-    /// the frame changes, and its entry.
+    /// Does a frame of queues, of which there are at most 4,294,967,295, once no other session is inside: it raises the
+    /// world's tick by one and applies the queues in order, all or nothing (docs/SESSIONS.md, "What a session
+    /// promises"). It costs what the frame changes, and its entry.
     ///
-    /// A frame that the editor refuses is entered with the reply `Refused`. Stopped, in this order, and then nothing is entered
-    /// and the queues come back: `HistoryFull` with the limit of the history; `NoMemory`.
+    /// A frame that the editor refuses is entered with the reply `Refused`. Stopped, in this order, and then nothing is
+    /// entered and the queues come back: `HistoryFull` with the limit of the history; `NoMemory`.
     pub fn submit<R: Threads + Wait + Sync>(
         self,
         rt: &R,
@@ -118,12 +118,13 @@ impl<'a> Session<'a> {
         self.perform(rt, alloc, Call::Submit(queues), 1)
     }
 
-    /// Advances by a schedule, once no other session is inside, as one frame, with its systems on as many threads as there are
-    /// workers; a number below 1 is taken as 1, and one above 16 as 16 (docs/SESSIONS.md, "What a session promises"). The reply
-    /// is the same for every number. It costs what the systems read and change, and its entry, which keeps the schedule.
+    /// Advances by a schedule, once no other session is inside, as one frame, with its systems on as many threads as
+    /// there are workers; a number below 1 is taken as 1, and one above 16 as 16 (docs/SESSIONS.md, "What a session
+    /// promises"). The reply is the same for every number. It costs what the systems read and change, and its entry,
+    /// which keeps the schedule.
     ///
-    /// An advance that the editor refuses is entered with the reply `Refused`. Stopped, in this order, and then nothing is entered
-    /// and the schedule comes back: `HistoryFull` with the limit of the history; `NoMemory`.
+    /// An advance that the editor refuses is entered with the reply `Refused`. Stopped, in this order, and then nothing
+    /// is entered and the schedule comes back: `HistoryFull` with the limit of the history; `NoMemory`.
     pub fn advance<R: Threads + Wait + Sync>(
         self,
         rt: &R,
@@ -138,11 +139,11 @@ impl<'a> Session<'a> {
         self.perform(rt, alloc, Call::Advance(schedule), workers)
     }
 
-    /// Takes the newest frame back, whichever session made it, once no other session is inside (docs/SESSIONS.md, "What a session
-    /// promises"). It costs what the frame changed, and its entry.
+    /// Takes the newest frame back, whichever session made it, once no other session is inside (docs/SESSIONS.md, "What
+    /// a session promises"). It costs what the frame changed, and its entry.
     ///
-    /// An undo that the editor refuses is entered with the reply `Refused`. Stopped, in this order, and then nothing is entered:
-    /// `HistoryFull` with the limit of the history; `NoMemory`.
+    /// An undo that the editor refuses is entered with the reply `Refused`. Stopped, in this order, and then nothing is
+    /// entered: `HistoryFull` with the limit of the history; `NoMemory`.
     pub fn undo<R: Threads + Wait + Sync>(
         self,
         rt: &R,
@@ -155,11 +156,11 @@ impl<'a> Session<'a> {
         self.perform(rt, alloc, Call::Undo, 1)
     }
 
-    /// Does the newest undone frame again, whichever session undid it, once no other session is inside (docs/SESSIONS.md, "What a
-    /// session promises"). It costs what the frame changes, and its entry.
+    /// Does the newest undone frame again, whichever session undid it, once no other session is inside
+    /// (docs/SESSIONS.md, "What a session promises"). It costs what the frame changes, and its entry.
     ///
-    /// A redo that the editor refuses is entered with the reply `Refused`. Stopped, in this order, and then nothing is entered:
-    /// `HistoryFull` with the limit of the history; `NoMemory`.
+    /// A redo that the editor refuses is entered with the reply `Refused`. Stopped, in this order, and then nothing is
+    /// entered: `HistoryFull` with the limit of the history; `NoMemory`.
     pub fn redo<R: Threads + Wait + Sync>(
         self,
         rt: &R,
@@ -174,8 +175,8 @@ impl<'a> Session<'a> {
 
     /// Does a frame of queues at once, as `submit` does (docs/SESSIONS.md, "Busy").
     ///
-    /// Stopped where `submit` is, and by `Busy` where another session is inside or waits to change the state. Then nothing is
-    /// entered, and the queues come back.
+    /// Stopped where `submit` is, and by `Busy` where another session is inside or waits to change the state. Then
+    /// nothing is entered, and the queues come back.
     pub fn try_submit(
         self,
         alloc: Global,
@@ -192,8 +193,8 @@ impl<'a> Session<'a> {
 
     /// Advances by a schedule at once, on this thread, with the reply that `advance` has (docs/SESSIONS.md, "Busy").
     ///
-    /// Stopped where `advance` is, and by `Busy` where another session is inside or waits to change the state. Then nothing is
-    /// entered, and the schedule comes back.
+    /// Stopped where `advance` is, and by `Busy` where another session is inside or waits to change the state. Then
+    /// nothing is entered, and the schedule comes back.
     pub fn try_advance(
         self,
         alloc: Global,
@@ -209,8 +210,8 @@ impl<'a> Session<'a> {
 
     /// Takes the newest frame back at once, as `undo` does (docs/SESSIONS.md, "Busy").
     ///
-    /// Stopped where `undo` is, and by `Busy` where another session is inside or waits to change the state. Then nothing is
-    /// entered.
+    /// Stopped where `undo` is, and by `Busy` where another session is inside or waits to change the state. Then
+    /// nothing is entered.
     pub fn try_undo(self, alloc: Global) -> (Session<'a>, Result<Reply, Stopped>)
         ensures same { IsSame self.entry result.0 }
         ensures performed { IfOk result.1 (λ r. Performed self.entry Undo (told r) result.0) }
@@ -221,8 +222,8 @@ impl<'a> Session<'a> {
 
     /// Does the newest undone frame again at once, as `redo` does (docs/SESSIONS.md, "Busy").
     ///
-    /// Stopped where `redo` is, and by `Busy` where another session is inside or waits to change the state. Then nothing is
-    /// entered.
+    /// Stopped where `redo` is, and by `Busy` where another session is inside or waits to change the state. Then
+    /// nothing is entered.
     pub fn try_redo(self, alloc: Global) -> (Session<'a>, Result<Reply, Stopped>)
         ensures same { IsSame self.entry result.0 }
         ensures performed { IfOk result.1 (λ r. Performed self.entry Redo (told r) result.0) }
@@ -231,9 +232,9 @@ impl<'a> Session<'a> {
         self.try_perform(alloc, Call::Redo)
     }
 
-    /// The answer to a query, by a state that has all that this session has seen, once none changes it. So a session reads what
-    /// it has written (docs/SESSIONS.md, "What it has seen"). Queries of other sessions may be answered at the same time. It
-    /// takes no memory but what the query takes.
+    /// The answer to a query, by a state that has all that this session has seen, once none changes it. So a session
+    /// reads what it has written (docs/SESSIONS.md, "What it has seen"). Queries of other sessions may be answered at
+    /// the same time. It takes no memory but what the query takes.
     pub fn ask<Q: Query, R: Wait>(
         self,
         rt: &R,
@@ -279,8 +280,8 @@ impl<'a> Session<'a> {
         self.ask(rt, alloc, &ChangedSince(cursor, filter))
     }
 
-    /// Both sessions, which are of one lock, have now seen one history: the whole one so far (docs/SESSIONS.md, "What it has
-    /// seen"). It waits for nobody, takes no memory and has no error.
+    /// Both sessions, which are of one lock, have now seen one history: the whole one so far (docs/SESSIONS.md, "What
+    /// it has seen"). It waits for nobody, takes no memory and has no error.
     pub fn meet(one: Session<'a>, other: Session<'a>) -> (Session<'a>, Session<'a>)
         requires { other.lock ≡ one.lock }
         ensures same { IsSame one.entry result.0 × IsSame other.entry result.1 }

@@ -1,4 +1,4 @@
-//! A hand over a lock: the passes of all its sessions.
+//! An owner over a lock: the passes of all its sessions.
 ghost use Rattle.std.specs.Prelude.{◌≡◌, ◌≢◌, ◌≤◌, ◌<◌, ◌+◌, length, IfOk, IfErr, MatchResult, false};
 ghost use Rattle.scene_kinds.specs.Answers.{refusal_of};
 ghost use Rattle.scene_kinds.specs.declared.fault.Fault.TheVariants.{NoMemory};
@@ -21,7 +21,7 @@ use std::mem;
 use std::sync::Wait;
 use std::thread::Threads;
 
-/// How many sessions a hand has.
+/// How many sessions an owner has.
 const SESSIONS: u32 = 8;
 
 /// The passes of eight sessions with the lock over their state, and whose turn it is.
@@ -31,8 +31,8 @@ pub(crate) struct Shared {
     /// Each at the place that is its session.
     passes: Vec<Pass<State>>,
     session: u32,
-    /// How many calls there may be, and for how many more there is room. The state knows it too, but only who waits for the
-    /// lock sees it.
+    /// How many calls there may be, and for how many more there is room. The state knows it too, but only who waits for
+    /// the lock sees it.
     limit: u32,
     room: u32,
 }
@@ -65,8 +65,8 @@ fn room_after(room: u32, reply: &Result<Reply, Stopped>) -> u32
 }
 
 impl Shared {
-    /// The lock over a state of this editor, with no calls yet; it is the turn of session 0. The editor is dropped where no
-    /// memory is found.
+    /// The lock over a state of this editor, with no calls yet; it is the turn of session 0. The editor is dropped
+    /// where no memory is found.
     pub(crate) fn new(alloc: Global, editor: Editor, limit: u32) -> Result<Shared, AllocError>
         requires { (1 ≤ limit) × (limit ≤ 1048576) }
         ensures { IfOk result (λ owner. owner ≡ opening_owner (whole_of editor) limit false) }

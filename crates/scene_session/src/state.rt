@@ -26,8 +26,8 @@ pub struct Beginning {
 
 /// An editor with the calls by which it came to be what it is (docs/SESSIONS.md, "History").
 ///
-/// Contracts see what it began as and the history. The editor is what the calls of the history make of that opening, and
-/// each entry has the machine's reply after those before it.
+/// Contracts see what it began as and the history. The editor is what the calls of the history make of that opening,
+/// and each entry has the machine's reply after those before it.
 #[derive(Drop)]
 pub struct State {
     opening: Snapshot<Editor>,
@@ -60,8 +60,8 @@ fn make_room(history: &mut Vec<Entry>, limit: u32) -> Result<(), Refusal>
     Ok(())
 }
 
-/// Enters a call with its reply, which was made twice, and gives the reply. Where none was made, no memory was found: the call
-/// is handed back.
+/// Enters a call with its reply, which was made twice, and gives the reply. Where none was made, no memory was found:
+/// the call is handed back.
 fn enter(
     history: &mut Vec<Entry>,
     session: u32,
@@ -92,7 +92,8 @@ fn enter(
 }
 
 impl State {
-    /// A state of this editor, whose history is empty and may have at most `limit` entries, 1 to 1,048,576. It takes no memory.
+    /// A state of this editor, whose history is empty and may have at most `limit` entries, 1 to 1,048,576. It takes no
+    /// memory.
     pub fn new(alloc: Global, editor: Editor, limit: u32) -> State
         requires { (1 ≤ limit) × (limit ≤ 1048576) }
         ensures state { result ≡ record { opening = record { editor = editor; limit = limit }; history = [] } }
@@ -120,7 +121,8 @@ impl State {
         self.editor
     }
 
-    /// The calls so far, the oldest first, each with its session and its reply (docs/SESSIONS.md, "History"). It takes no memory.
+    /// The calls so far, the oldest first, each with its session and its reply (docs/SESSIONS.md, "History"). It takes
+    /// no memory.
     pub fn history(&self) -> &[Entry]
         ensures entries { result.now ≡ self.now.history }
         ensures legal { IsLegal self.now.opening self.now.history }
@@ -128,12 +130,13 @@ impl State {
         self.history.as_slice()
     }
 
-    /// Performs a call of a session on this thread, and enters it with its reply (docs/SESSIONS.md, "What a session promises").
-    /// What the editor refuses is entered with the reply `Refused`, and leaves the editor as it was. It costs what the
-    /// editor's own call costs, and the entry: the call itself, and a copy of the list of the entities that it spawned.
+    /// Performs a call of a session on this thread, and enters it with its reply (docs/SESSIONS.md, "What a session
+    /// promises"). What the editor refuses is entered with the reply `Refused`, and leaves the editor as it was. It
+    /// costs what the editor's own call costs, and the entry: the call itself, and a copy of the list of the entities
+    /// that it spawned.
     ///
-    /// Stopped, in this order, and then nothing is entered, the state is as it was and the call is handed back: `HistoryFull`
-    /// with the limit where the history has as many entries as it may; `NoMemory`.
+    /// Stopped, in this order, and then nothing is entered, the state is as it was and the call is handed back:
+    /// `HistoryFull` with the limit where the history has as many entries as it may; `NoMemory`.
     pub fn perform(&mut self, session: u32, call: Call) -> Result<Reply, Stopped>
         requires { queue_count call ≤ 4294967295 }
         ensures opening { self.new.opening ≡ self.old.opening }
@@ -149,9 +152,9 @@ impl State {
         enter(&mut self.history, session, call, replies)
     }
 
-    /// Performs a call as `perform` does, with the systems of an advance on as many threads as there are workers; a number below
-    /// 1 is taken as 1, and one above 16 as 16. What is answered, entered and refused is the same for every number
-    /// (docs/MODEL.md, "Many threads, one answer").
+    /// Performs a call as `perform` does, with the systems of an advance on as many threads as there are workers; a
+    /// number below 1 is taken as 1, and one above 16 as 16. What is answered, entered and refused is the same for
+    /// every number (docs/MODEL.md, "Many threads, one answer").
     ///
     /// Stopped as `perform` is, with the same left behind.
     pub fn perform_with<R: Threads + Sync>(

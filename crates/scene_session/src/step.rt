@@ -1,5 +1,6 @@
-//! A call on an editor, with its reply made twice: one for the caller, and one for the history. Both are made before the editor
-//! changes, so no call is done whose entry finds no memory. `call_editor` is for who keeps no history, and gives one of them.
+//! A call on an editor, with its reply made twice: one for the caller, and one for the history. Both are made before
+//! the editor changes, so no call is done whose entry finds no memory. `call_editor` is for who keeps no history, and
+//! gives one of them.
 ghost use Rattle.std.specs.Prelude.{◌≡◌, ◌≢◌, ◌≤◌, length, option_map, IfSome, IfNone};
 ghost use Rattle.scene_kinds.specs.Answers.{refusal_of};
 ghost use Rattle.scene_kinds.specs.declared.fault.Fault.TheVariants.{NoMemory};
@@ -143,9 +144,9 @@ fn one(replies: Option<(Reply, Reply)>) -> Option<Reply>
     }
 }
 
-/// Performs a call on an editor that is in no state, on this thread, and gives its reply (docs/SESSIONS.md, "All in one hand").
-/// What the editor refuses is told by the reply `Refused`, and leaves the editor as it was. It costs what the editor's own call
-/// costs.
+/// Performs a call on an editor that is in no state, on this thread, and gives its reply (docs/SESSIONS.md, "One
+/// owner"). What the editor refuses is told by the reply `Refused`, and leaves the editor as it was. It costs what the
+/// editor's own call costs.
 ///
 /// `None` where no memory was found: then the editor is as it was.
 pub fn call_editor(editor: &mut Editor, call: &Call) -> Option<Reply>
@@ -156,8 +157,8 @@ pub fn call_editor(editor: &mut Editor, call: &Call) -> Option<Reply>
     one(do_call(editor, call))
 }
 
-/// Performs a call as `call_editor` does, with the systems of an advance on as many threads as there are workers, 1 to 16; a
-/// number below is taken as 1, and one above as 16. The reply is the same for every number.
+/// Performs a call as `call_editor` does, with the systems of an advance on as many threads as there are workers, 1 to
+/// 16; a number below is taken as 1, and one above as 16. The reply is the same for every number.
 ///
 /// `None` where no memory was found: then the editor is as it was.
 pub fn call_editor_with<R: Threads + Sync>(

@@ -145,7 +145,8 @@ fn is_undo_back(reply: &Result<Reply, Stopped>) -> bool {
     }
 }
 
-/// Tries a frame, an undo and a query. Whether the two calls were turned away as busy, and whether the query was answered.
+/// Tries a frame, an undo and a query. Whether the two calls were turned away as busy, and whether the query was
+/// answered.
 fn try_each<'a>(alloc: Global, session: Session<'a>) -> (bool, bool) {
     let Ok(queues) = spawning(alloc, 7) else {
         return (false, false);
@@ -159,7 +160,8 @@ fn try_each<'a>(alloc: Global, session: Session<'a>) -> (bool, bool) {
     )
 }
 
-/// Tries while another stays inside. Whether the calls were busy, and the query was answered just where the other is a query.
+/// Tries while another stays inside. Whether the calls were busy, and the query was answered just where the other is a
+/// query.
 fn try_meanwhile(alloc: Global, lock: &WordLock<State>, pass: Pass<State>, stay: &Stay) -> bool
     requires { IsPassOf lock.now pass }
 {

@@ -1,8 +1,8 @@
 //! Sessions over a state, alone and on threads: what their contracts can't say.
 //!
-//! `scenes` has small states, frames and schedules; `threads` has sessions that work at once, each on a thread of its own;
-//! `inside` has queries and changes that wait within the lock; `replays` reads a history, and performs it again; `workers` sees
-//! the threads of an advance.
+//! `scenes` has small states, frames and schedules; `threads` has sessions that work at once, each on a thread of its
+//! own; `inside` has queries and changes that wait within the lock; `replays` reads a history, and performs it again;
+//! `workers` sees the threads of an advance.
 #![tactic(auto)]
 
 mod inside;

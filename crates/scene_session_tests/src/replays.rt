@@ -24,7 +24,8 @@ pub fn number_of(call: &Call) -> Option<i64> {
     }
 }
 
-/// How many frames of a session a history has, if the numbers that they spawn are 0, 1 and so on, and it has no other call.
+/// How many frames of a session a history has, if the numbers that they spawn are 0, 1 and so on, and it has no other
+/// call.
 pub fn frames_in_order(history: &[Entry], session: u32) -> Option<i64> {
     let mut count = 0i64;
     for entry in history {

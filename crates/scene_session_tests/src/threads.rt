@@ -117,8 +117,8 @@ pub fn work_at_once<R: Threads + Wait + Sync>(
     )
 }
 
-/// The last pass, once the first met the second, that one the third, and so on; and whether all entities were listed. The other
-/// passes are dropped.
+/// The last pass, once the first met the second, that one the third, and so on; and whether all entities were listed.
+/// The other passes are dropped.
 pub fn meet_in_turn(
     lock: &WordLock<State>,
     ended: Vec<(Pass<State>, bool)>,

@@ -27,7 +27,8 @@ has_part (x ∷ xs) = part_at (is_end x) x xs refl (has_part xs)
 pub line_before : (y : List ℕ) (xs : List ℕ) → HasPart xs → lines_of_parts (y ∷ slice_split is_end xs) ≡ strip_carriage_return y ∷ lines xs
 line_before y xs h = rw h.2 refl
 
--- what stands through the first line feed, and behind it: a part and an empty one, or, where there is none, all as one part
+-- what stands through the first line feed, and behind it: a part and an empty one, or, where there is none, all as one
+-- part
 pub data Cut : List ℕ → Type 0 where
   Ended : {xs : List ℕ} (y : List ℕ) → slice_split is_end (take_through 10 xs) ≡ y ∷ [] ∷ [] → slice_split is_end xs ≡ y ∷ slice_split is_end (drop_through 10 xs) → Cut xs
   Open : {xs : List ℕ} → take_through 10 xs ≡ xs → drop_through 10 xs ≡ [] → slice_split is_end xs ≡ xs ∷ [] → Cut xs

@@ -13,7 +13,8 @@ use Rattle.scene_shell.specs.declared.kept_fault.KeptFault.{KeptFault}
 use Rattle.scene_shell.specs.declared.kept_fault.KeptFault.TheVariants.{Ended, Keep}
 use Rattle.scene_shell.specs.Shell.{AnswerStyle, HasSaid, IsSaid, Parts, bad_count}
 
--- the line break behind a line; where the line ends with a carriage return (13), one more stands before the line feed, which drops it
+-- the line break behind a line; where the line ends with a carriage return (13), one more stands before the line feed,
+-- which drops it
 abbrev pub break_of : List ℕ → List ℕ
 break_of l = if slice_index l (length l - 1) == 13 then codes "\r\n" else codes "\n"
 
@@ -62,8 +63,8 @@ behind t k = record k { due = t ++ k.due }
 abbrev pub Continues : {K : Type 0} → (K → K → Interpreter → AnswerStyle → Type 0) → K → K → Type 0
 Continues begun old new = (start : _) (first : Interpreter) (style : AnswerStyle) → begun old start first style → begun new start first style
 
--- When answers may be sent: with what was written since the shell began they are the answers to lines of its interpreter, and what
--- these lines have to keep is kept.
+-- When answers may be sent: with what was written since the shell began they are the answers to lines of its
+-- interpreter, and what these lines have to keep is kept.
 pub record MaySend {K : Type 0} (keeps : K → List ℕ → Type 0) (contents : K → Option (List ℕ))
     (begun : K → K → Interpreter → AnswerStyle → Type 0) (now : K) (answers : List ℕ) : Type 0 where
   pub start : K
@@ -93,8 +94,9 @@ StopsBy keeps contents style first start now ls ReadFault = IsSettled keeps cont
 StopsBy keeps contents style first start now ls TooLong =
     IsSettled keeps contents style first start now ls × (2 ^ 64 ≤ length ls + 2)
 
--- How a shell that keeps its lines ends: all lines are answered and kept; or all before the one that was read when a stream or
--- the memory stopped it, which are kept where the writer failed. Where lines weren't kept, first lines are answered.
+-- How a shell that keeps its lines ends: all lines are answered and kept; or all before the one that was read when a
+-- stream or the memory stopped it, which are kept where the writer failed. Where lines weren't kept, first lines are
+-- answered.
 abbrev pub EndsAs : {K F : Type 0} → (K → List ℕ → Type 0) → (K → Option (List ℕ)) → AnswerStyle → Interpreter → (start now : K)
     → (script rest : Option (List ℕ)) → Result ℕ (KeptFault F) → Type 0
 EndsAs keeps contents style first start now script rest (Ok count) =

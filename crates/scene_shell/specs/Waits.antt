@@ -29,13 +29,14 @@ MaySettle keeps contents begun now due answers =
     (later : _) → Grows keeps now later due → Keeps (contents now) (contents later) → Continues begun now later
     → MaySend keeps contents begun later answers
 
--- why what waits wasn't kept and sent: the writer failed, behind what was kept; or nothing was sent, since it wasn't kept
+-- why what waits wasn't kept and sent: the writer failed, behind what was kept; or nothing was sent, since it wasn't
+-- kept
 abbrev pub FailsToSettle : {K F : Type 0} → (K → List ℕ → Type 0) → (K → Option (List ℕ)) → (old new : K) → List ℕ → KeptFault F → Type 0
 FailsToSettle keeps contents old new due (Ended fault) = (fault ≡ WriteFault) × Grows keeps old new due
 FailsToSettle keeps contents old new due (Keep fault) = Keeps (contents old) (contents new)
 
--- How far a shell has come: the answers to the first lines are written and what they have to keep is kept, and of the next ones
--- both wait.
+-- How far a shell has come: the answers to the first lines are written and what they have to keep is kept, and of the
+-- next ones both wait.
 pub record HasCome {K : Type 0} (keeps : K → List ℕ → Type 0) (contents : K → Option (List ℕ))
     (begun : K → K → Interpreter → AnswerStyle → Type 0) (style : AnswerStyle) (first : Interpreter) (start now : K)
     (script rest : Option (List ℕ)) (last : List ℕ) (keeping : Keeping) (answers : List ℕ) (count number : ℕ) : Type 0 where

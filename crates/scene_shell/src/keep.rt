@@ -9,8 +9,8 @@ use std::alloc::Global;
 ///
 /// The meaning that contracts use: `keeps` says that these are the bytes of all lines that are kept, and `contents`
 /// gives what is written, where that is known. `begun` says which shell it is at: what it was when the shell began, the
-/// interpreter before its first line, and the style of its answers. It may say less, as that of a writer that has no notes
-/// of them; each call keeps what it says.
+/// interpreter before its first line, and the style of its answers. It may say less, as that of a writer that has no
+/// notes of them; each call keeps what it says.
 pub trait KeptWriter {
     /// Why lines weren't kept.
     type Fault: Drop;

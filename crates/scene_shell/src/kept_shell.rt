@@ -94,11 +94,11 @@ fn play_settled<P: Performer, R: Read, E: Write, K: KeptWriter>(
     }
 }
 
-/// Answers each line of a reader before it waits for the next one, as `run_shell` does, by an interpreter that lines which
-/// are kept have led to (docs/SHELL.md, "A store"). At every moment at which an answer is written, all lines are kept
-/// that changed the interpreter up to it: what the keeper asks for whom it sends answers. Lines that wait in the reader's
-/// buffer share a call of the keeper. The lines of an open frame are kept where it ends. It gives how many lines were
-/// bad.
+/// Answers each line of a reader before it waits for the next one, as `run_shell` does, by an interpreter that lines
+/// which are kept have led to (docs/SHELL.md, "A store"). At every moment at which an answer is written, all lines are
+/// kept that changed the interpreter up to it: what the keeper asks for whom it sends answers. Lines that wait in the
+/// reader's buffer share a call of the keeper. The lines of an open frame are kept where it ends. It gives how many
+/// lines were bad.
 ///
 /// Refused: `Ended` as `run_shell` is refused, where all lines before the one that was read are answered and kept, but
 /// for `WriteFault`, where they are kept; and `Keep` where lines weren't kept, whose answers aren't written.

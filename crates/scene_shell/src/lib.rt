@@ -1,13 +1,13 @@
 //! The shell: lines are answered one by one, each before the next one is waited for.
 //!
-//! What a line does and answers is scene_interpreter's. Here the lines of a reader are given to an interpreter, and its answers to
-//! a writer, each as soon as it is there; `IsSaid` in `specs/Shell.antt` says what is written, and
+//! What a line does and answers is scene_interpreter's. Here the lines of a reader are given to an interpreter, and its
+//! answers to a writer, each as soon as it is there; `IsSaid` in `specs/Shell.antt` says what is written, and
 //! `a_shell_says_what_a_run_says` of scene_app that without JSON and frames it is what `scene run` prints for the same
 //! lines (docs/SHELL.md).
 //!
-//! `run_kept_shell` does the same on a `KeptWriter`, which also keeps the lines that change the interpreter, as a store does,
-//! and writes an answer only behind them. `specs/Kept.antt` says which lines, and `kept_lines_lead_to_the_interpreter` that
-//! they are enough.
+//! `run_kept_shell` does the same on a `KeptWriter`, which also keeps the lines that change the interpreter, as a store
+//! does, and writes an answer only behind them. `specs/Kept.antt` says which lines, and
+//! `kept_lines_lead_to_the_interpreter` that they are enough.
 #![tactic(auto)]
 
 mod fault;

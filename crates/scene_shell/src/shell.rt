@@ -48,7 +48,8 @@ fn run_unkept<P: Performer, R: Read, W: Write + Drop, E: Write>(
 }
 
 /// Answers each line of a reader before it waits for the next one, until the reader's end (docs/SHELL.md). A bad line
-/// is told on the stream of errors at once, by its number from 1. It gives how many lines were bad, and the writer back.
+/// is told on the stream of errors at once, by its number from 1. It gives how many lines were bad, and the writer
+/// back.
 ///
 /// Refused: `ReadFault`, `WriteFault`, and `NoMemory`; then the stream of errors tells what became of the line. But for
 /// `WriteFault`, all lines before are answered, each whole. `TooLong` only behind 18,446,744,073,709,551,614 lines. A

@@ -32,7 +32,8 @@ abbrev pub IsNewFile : Image → Type 0
 IsNewFile image = image.db ≡ []
 
 module _ {D : Type 0} {g : disk.Ghosts D} where
-  -- A store that was opened on such files keeps what they held. In place of no file, or an empty one, it keeps just the head.
+  -- A store that was opened on such files keeps what they held. In place of no file, or an empty one, it keeps just the
+  -- head.
   abbrev pub OpensOn : Image → Store (FileStore D g) → Type 0
   OpensOn image store = ((text : List ℕ) → HoldsText image text → Keeps over_files store text) × (IsNewFile image → Keeps over_files store head_line)
 

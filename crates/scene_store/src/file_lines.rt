@@ -32,9 +32,9 @@ fn check_before(rt: &HostRuntime, path: &str) -> Result<(), StoreFault> {
     }
 }
 
-/// The lines of the store in the file at a path, of which nothing is changed, nor anything beside it. It may be one that
-/// can't be written, or that another program has open: then they are those that it kept before the call, and perhaps
-/// some that it keeps meanwhile.
+/// The lines of the store in the file at a path, of which nothing is changed, nor anything beside it. It may be one
+/// that can't be written, or that another program has open: then they are those that it kept before the call, and
+/// perhaps some that it keeps meanwhile.
 ///
 /// - `StoreUnopened`: there is no file, or the system doesn't open it.
 /// - `StoreInUse`: another program wrote into the file each of a thousand times that it was read.
@@ -93,9 +93,9 @@ impl<S: Start> FileLines<S> {
         }
     }
 
-    /// Ends the use of the file at the path that it was opened at: its log is copied into it, and removed. The file alone
-    /// has what the store keeps. A store that is dropped loses nothing, but leaves lines in the log, and the two files
-    /// have to be kept together.
+    /// Ends the use of the file at the path that it was opened at: its log is copied into it, and removed. The file
+    /// alone has what the store keeps. A store that is dropped loses nothing, but leaves lines in the log, and the two
+    /// files have to be kept together.
     ///
     /// - `DiskFull`, `DiskFault`, `StoreDamaged`, `NoMemory`: the log wasn't copied whole. The two files still
     ///   belong together.
@@ -103,8 +103,8 @@ impl<S: Start> FileLines<S> {
     /// It writes each page of the log once.
     pub fn close(self, rt: &HostRuntime, path: &str) -> Result<(), StoreFault> {
         let files = self.into_files()?;
-        // The file is locked until the files are dropped, so no other has the log open. One that can't be removed stays,
-        // and has nothing in it that the file hasn't.
+        // The file is locked until the files are dropped, so no other has the log open. One that can't be removed
+        // stays, and has nothing in it that the file hasn't.
         let _removed = remove_log(rt, path);
         drop(files);
         Ok(())
@@ -126,7 +126,8 @@ fn remove_log(rt: &HostRuntime, path: &str) -> Result<(), StoreFault> {
 impl<D: Disk + Drop> Store<FileStore<D>> {
     /// Copies the log into the database file, and gives the two back. The database file alone has what the store keeps.
     ///
-    /// - `DiskFull`, `DiskFault`, `StoreDamaged`, `NoMemory`: the log wasn't copied whole. The two still belong together.
+    /// - `DiskFull`, `DiskFault`, `StoreDamaged`, `NoMemory`: the log wasn't copied whole. The two still belong
+    /// together.
     pub fn into_files(self) -> Result<Files<D>, StoreFault>
         ensures { IfOk result (LeavesAlone self) }
     {

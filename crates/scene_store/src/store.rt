@@ -144,8 +144,8 @@ impl<S: Alter + Drop> Store<S> {
     }
 
     /// Puts the head of the newest version and these lines in place of all that is kept, in one commit, so that a store
-    /// whose lines say less than they are long gets short. A crash at any moment of the call leaves what it could leave before, or the
-    /// two new rows.
+    /// whose lines say less than they are long gets short. A crash at any moment of the call leaves what it could leave
+    /// before, or the two new rows.
     ///
     /// - `DiskFull`: the disk is full, or the lines are more than a row can take.
     /// - `DiskFault`, `StoreDamaged`: the disk failed, now or before.

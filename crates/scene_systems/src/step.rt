@@ -7,7 +7,8 @@ use scene_kinds::Text;
 use std::alloc::AllocError;
 use std::marker::Model;
 
-/// A step of a system: it writes cells of the matching rows, or it queues commands (docs/MODEL.md, "The rule of systems").
+/// A step of a system: it writes cells of the matching rows, or it queues commands (docs/MODEL.md, "The rule of
+/// systems").
 #[derive(Drop, Clone, Debug)]
 pub enum Step {
     /// Writes a cell of each matching row.
@@ -15,8 +16,8 @@ pub enum Step {
     /// Queues, for each matching row whose number of this kind is 0 then, that the row's entity and all below it are
     /// despawned if they are alive.
     DespawnAtZero { kind: u8 },
-    /// Queues, for each matching row, the spawn of an entity with these components, and that it becomes the last child of the
-    /// row's entity.
+    /// Queues, for each matching row, the spawn of an entity with these components, and that it becomes the last child
+    /// of the row's entity.
     SpawnChild { cells: Components },
     /// Queues that the number of matching rows is put at a name.
     CountInto { name: Text },

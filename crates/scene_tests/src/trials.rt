@@ -1,5 +1,5 @@
-//! What is tried on worlds. One function owns them, and lends them to all others, since each function that drops one is dear
-//! to prove.
+//! What is tried on worlds. One function owns them, and lends them to all others, since each function that drops one is
+//! dear to prove.
 use crate::{home_tests, queue_tests, tree_tests, world_tests};
 use scene_world::World;
 use std::alloc::Global;

@@ -14,8 +14,8 @@ counted_with m past = record m { past = past; rewinds = m.rewinds + 1 }
 abbrev pub UndoThenRedo : {W : Type 0} → Machine W → Type 0
 UndoThenRedo {W} m = (n : Machine W) → undo m ≡ Ok (tt, n) → redo n ≡ Ok (tt, counted_with m m.past)
 
--- a redo and then an undo, where the undos can be counted: the same now and future, and the same past where it had not yet as many
--- worlds as the depth says; else the redo dropped its oldest
+-- a redo and then an undo, where the undos can be counted: the same now and future, and the same past where it had not
+-- yet as many worlds as the depth says; else the redo dropped its oldest
 pub record RedoThenUndo {W : Type 0} (m : Machine W) : Type 0 where
   pub same : (n : Machine W) → redo m ≡ Ok (tt, n) → m.rewinds ≢ 18446744073709551615 → length m.past < m.depth
       → undo n ≡ Ok (tt, counted_with m m.past)

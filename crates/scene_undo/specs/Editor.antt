@@ -10,8 +10,8 @@ use Rattle.scene_deltas.specs.declared.delta.Delta.{Delta}
 use Rattle.scene_journal.specs.Records.{Record, raised, redone, undone}
 use Rattle.scene_undo.specs.declared.made.Made.{Made}
 
--- the world now, the records of the frames before it, the newest first, those of the frames that were undone, the next one first, how
--- many undos there were, and of how many frames a record is kept
+-- the world now, the records of the frames before it, the newest first, those of the frames that were undone, the next
+-- one first, how many undos there were, and of how many frames a record is kept
 pub record EditorState : Type 0 where
   pub world : World
   pub past : List Record
@@ -47,7 +47,8 @@ abbrev pub entities_of : Result Made Refusal → Result (List Entity) Refusal
 entities_of (Ok made) = Ok made.entities.items
 entities_of (Err r) = Err r
 
--- a record tells what was noted where a frame was played on the world with its tick raised, and came to these entities and this world
+-- a record tells what was noted where a frame was played on the world with its tick raised, and came to these entities
+-- and this world
 pub record IsRecordOf (plays : Staged Delta → Outcome (List Entity) (Staged Delta)) (w v : World) (es : List Entity) (r : Record) : Type 0 where
   pub tick : r.tick_before ≡ w.tick
   pub noted : plays (record { world = raised w; notes = [] }) ≡ Ok (es, record { world = v; notes = r.deltas })

@@ -9,8 +9,8 @@ use Rattle.scene_undo.specs.declared.direction.Direction.{Direction}
 use Rattle.scene_undo.specs.Direction.{Fits, IsFault, step}
 use Rattle.scene_journal.specs.FirstFaults.{IsFirstFault as IsFirstFaultBy}
 
--- of records, in the order in which they go, the one of this number is the first that doesn't fit at its turn, and this is its fault,
--- by the number of a delta
+-- of records, in the order in which they go, the one of this number is the first that doesn't fit at its turn, and this
+-- is its fault, by the number of a delta
 abbrev pub IsFirstFault : Direction → List Record → World → (frame delta : ℕ) → Type 0
 IsFirstFault way rs w frame delta = IsFirstFaultBy (step way) (Fits way) (IsFault way) rs w frame delta
 

@@ -23,8 +23,8 @@ noted_in note schedule w = notes_of (advance_of (act note) (λ t. t.world) sched
 abbrev pub itself : Note Command
 itself w c = c ∷ []
 
--- the size of an advance: its commands, of which each cell that a system writes is one, and the descendants that its recursive despawns
--- despawn
+-- the size of an advance: its commands, of which each cell that a system writes is one, and the descendants that its
+-- recursive despawns despawn
 abbrev pub advance_size : ScheduleState → World → ℕ
 advance_size schedule w = length (noted_in itself schedule w) + sum (noted_in along schedule w)
 

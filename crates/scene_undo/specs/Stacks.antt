@@ -2,8 +2,8 @@
 use Rattle.std.specs.Prelude.{◌≡◌, ℕ, List, ◌∷◌, take}
 use Rattle.scene_journal.specs.Records.{Record}
 
--- the records of the past, the newest first, those of the future, the next one first, how many records a past keeps, and for how many
--- further frames there is a place
+-- the records of the past, the newest first, those of the future, the next one first, how many records a past keeps,
+-- and for how many further frames there is a place
 pub record Stacked : Type 0 where
   pub past : List Record
   pub future : List Record

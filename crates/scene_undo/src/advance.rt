@@ -21,14 +21,14 @@ use scene_world::World;
 use std::thread::Threads;
 
 impl Editor {
-    /// Advances by a schedule, all or nothing, on this thread: it raises the world's tick by one and runs the phases in order
-    /// (docs/MODEL.md, "The rule of schedules"). What was undone is forgotten. Its record has at most as many deltas as
-    /// cells are written, commands queued, and descendants taken along. It costs the matching rows of each system, the cells
-    /// that are written, what the queued commands change, and the records that are forgotten.
+    /// Advances by a schedule, all or nothing, on this thread: it raises the world's tick by one and runs the phases in
+    /// order (docs/MODEL.md, "The rule of schedules"). What was undone is forgotten. Its record has at most as many
+    /// deltas as cells are written, commands queued, and descendants taken along. It costs the matching rows of each
+    /// system, the cells that are written, what the queued commands change, and the records that are forgotten.
     ///
-    /// Refused, in this order, and then the editor is as it was: `TickFull`; `OtherSchema` where the world has other kinds than
-    /// those the schedule was made for; phase by phase `Overflow`, or the first refusal of a queued command, each with its
-    /// place; `NoMemory`.
+    /// Refused, in this order, and then the editor is as it was: `TickFull`; `OtherSchema` where the world has other
+    /// kinds than those the schedule was made for; phase by phase `Overflow`, or the first refusal of a queued command,
+    /// each with its place; `NoMemory`.
     pub fn advance_alone(&mut self, schedule: &Schedule) -> Result<Made, Refusal>
         ensures machine { Answers (entities_of result) (machine_of self.old) (machine_of self.new)
             (call (machine_of self.old) (Advancing (advance_of perform (λ w. w) schedule.now))) }
@@ -43,9 +43,9 @@ impl Editor {
         self.run(&Advance { schedule, runner })
     }
 
-    /// Advances by a schedule, on as many threads as there are workers; a number below 1 is taken as 1, and one above 16 as 16.
-    /// The answer, the world after it and what is kept of it are those of `advance_alone` (docs/MODEL.md, "Many threads, one
-    /// answer"), and so are the refusals and what stays after them.
+    /// Advances by a schedule, on as many threads as there are workers; a number below 1 is taken as 1, and one above
+    /// 16 as 16. The answer, the world after it and what is kept of it are those of `advance_alone` (docs/MODEL.md,
+    /// "Many threads, one answer"), and so are the refusals and what stays after them.
     pub fn advance<R: Threads + Sync>(
         &mut self,
         rt: &R,

@@ -29,8 +29,8 @@ impl Direction {
         }
     }
 
-    /// Undoes or redoes a record where it fits; the world makes room for what comes. An undo looks for cells that were changed
-    /// too late only where they are listed.
+    /// Undoes or redoes a record where it fits; the world makes room for what comes. An undo looks for cells that were
+    /// changed too late only where they are listed.
     pub(crate) fn check(
         self,
         draft: &mut World,

@@ -36,9 +36,9 @@ use std::marker::Model;
 /// A world that frames change, all or nothing, with every change taken back and made again on demand
 /// (docs/JOURNAL.md, "The editor").
 ///
-/// Contracts see the world, the records of the frames before it and of those that were undone, the count of undos, and the
-/// depth: of how many frames a record is kept. `machine_of` makes of them the machine of saved worlds. Nothing but the world
-/// now is kept as a world.
+/// Contracts see the world, the records of the frames before it and of those that were undone, the count of undos, and
+/// the depth: of how many frames a record is kept. `machine_of` makes of them the machine of saved worlds. Nothing but
+/// the world now is kept as a world.
 #[derive(Drop, Debug)]
 pub struct Editor {
     pub(crate) alloc: Global,
@@ -56,8 +56,8 @@ impl Model for Editor {
 
     ghost view = { λ e. record { world = e.recorder.world; past = e.stacks.past; future = e.stacks.future; rewinds = e.rewinds; depth = e.stacks.depth } };
 
-    // No frame is being recorded. Each record can be undone, or redone, at its turn, with the memory that the world has. The
-    // past has no more records than the depth says.
+    // No frame is being recorded. Each record can be undone, or redone, at its turn, with the memory that the world
+    // has. The past has no more records than the depth says.
     ghost invariant = { λ e. (e.recorder.frame.deltas ≡ [])
         × ∥ CanUndoAll e.recorder.room e.stacks.past e.recorder.world × CanRedoAll e.recorder.room e.stacks.future e.recorder.world ∥₁
         × (length e.stacks.past ≤ e.stacks.depth) };
@@ -92,8 +92,8 @@ fn apply<F: Frame>(alloc: Global, asked: &F, recorder: &mut Recorder) -> Result<
     Ok(Made { entities, copy })
 }
 
-/// Does a frame in a recorder between two frames, all or nothing: it raises the tick and runs the frame. After a refusal the
-/// world is as it was.
+/// Does a frame in a recorder between two frames, all or nothing: it raises the tick and runs the frame. After a
+/// refusal the world is as it was.
 fn frame<F: Frame>(alloc: Global, recorder: &mut Recorder, asked: &F) -> Result<Framed, Refusal>
     requires can { F.can asked.now }
     requires empty { recorder.old.frame.deltas ≡ [] }
@@ -124,8 +124,8 @@ fn frame<F: Frame>(alloc: Global, recorder: &mut Recorder, asked: &F) -> Result<
 }
 
 impl Editor {
-    /// An editor of this world, with no past and no future, no undos so far, and the greatest depth, 1,048,576 frames. It takes
-    /// no memory.
+    /// An editor of this world, with no past and no future, no undos so far, and the greatest depth, 1,048,576 frames.
+    /// It takes no memory.
     pub fn new(alloc: Global, world: World) -> Editor
         ensures state { result ≡ new_editor world.world most_frames }
         ensures machine { machine_of result ≡ opening world.world }
@@ -134,8 +134,8 @@ impl Editor {
     }
 
     /// An editor of this world, with no past and no future and no undos so far, that keeps the newest `depth` frames
-    /// (docs/MODEL.md, "The rule of undo"): what they changed is forgotten oldest first, so with a depth of 0 nothing can be undone.
-    /// It takes no memory.
+    /// (docs/MODEL.md, "The rule of undo"): what they changed is forgotten oldest first, so with a depth of 0 nothing
+    /// can be undone. It takes no memory.
     pub fn with_depth(alloc: Global, world: World, depth: u32) -> Editor
         ensures state { result ≡ new_editor world.world depth }
         ensures machine { machine_of result ≡ opening_with world.world depth }
@@ -148,15 +148,15 @@ impl Editor {
         }
     }
 
-    /// An editor of this world that keeps the newest `depth` frames, with these records of the frames before it, the oldest
-    /// first, and of frames that were undone, the next one first, and no undos so far. All records are tried before any is
-    /// dropped: it undoes all of the past and makes it again, and redoes all of the future and takes it back. So it costs
-    /// twice what these do, and one look at all cells, however many frames there are; and it has a list of where the cells
-    /// stand that were changed in the frames of the past.
+    /// An editor of this world that keeps the newest `depth` frames, with these records of the frames before it, the
+    /// oldest first, and of frames that were undone, the next one first, and no undos so far. All records are tried
+    /// before any is dropped: it undoes all of the past and makes it again, and redoes all of the future and takes it
+    /// back. So it costs twice what these do, and one look at all cells, however many frames there are; and it has a
+    /// list of where the cells stand that were changed in the frames of the past.
     ///
-    /// Refused, and then all is dropped: `BadRecord` where a record doesn't fit at its turn; the frames are numbered from the
-    /// newest of the past, 0, to its oldest, and on from the next one of the future, and a delta by its place, or by the
-    /// number of deltas where the record's tick is at fault (docs/JOURNAL.md, "Records"); `NoMemory`.
+    /// Refused, and then all is dropped: `BadRecord` where a record doesn't fit at its turn; the frames are numbered
+    /// from the newest of the past, 0, to its oldest, and on from the next one of the future, and a delta by its place,
+    /// or by the number of deltas where the record's tick is at fault (docs/JOURNAL.md, "Records"); `NoMemory`.
     pub fn from_parts(
         alloc: Global,
         world: World,
@@ -197,8 +197,8 @@ impl Editor {
     }
 
     /// The records of the past that are kept, the oldest first, and those of the future, the next one first: what
-    /// `from_parts` takes. Each fits at its turn: those of the past are undone from the world now, and those of the future
-    /// redone (docs/JOURNAL.md, "Records").
+    /// `from_parts` takes. Each fits at its turn: those of the past are undone from the world now, and those of the
+    /// future redone (docs/JOURNAL.md, "Records").
     pub fn records(&self) -> (&[FrameRecord], &[FrameRecord])
         ensures past { reverse result.0.now ≡ self.now.past }
         ensures future { result.1.now ≡ self.now.future }
@@ -215,8 +215,8 @@ impl Editor {
         self.stacks.depth()
     }
 
-    /// Sets of how many frames a record is kept, and drops those beyond it, the oldest first (docs/MODEL.md, "The rule of
-    /// undo"). It takes no memory, and costs the records that are dropped.
+    /// Sets of how many frames a record is kept, and drops those beyond it, the oldest first (docs/MODEL.md, "The rule
+    /// of undo"). It takes no memory, and costs the records that are dropped.
     pub fn set_depth(&mut self, depth: u32)
         ensures { self.new ≡ at_depth depth self.old }
     {
@@ -276,9 +276,9 @@ impl Editor {
     }
 
     /// Does a frame, all or nothing: it raises the world's tick by one and applies the queues in order
-    /// (docs/MODEL.md, "The rule of frames"). What was undone is forgotten. Its record has at most as many deltas as the
-    /// frame has commands and takes descendants along. It costs what the frame changes, refused or not, and the records that
-    /// are forgotten.
+    /// (docs/MODEL.md, "The rule of frames"). What was undone is forgotten. Its record has at most as many deltas as
+    /// the frame has commands and takes descendants along. It costs what the frame changes, refused or not, and the
+    /// records that are forgotten.
     ///
     /// Refused, in this order, and then the editor is as it was: `TickFull`; the first command's refusal, with its
     /// place; `NoMemory`.
@@ -296,9 +296,9 @@ impl Editor {
     }
 
     /// Does a frame of any kind, all or nothing: it raises the world's tick by one and runs the frame
-    /// (docs/MODEL.md, "The rule of frames"). What was undone is forgotten. It costs what the frame does, refused or not,
-    /// and the records that are forgotten. `submit` is this for queues; a kind of its own, outside of this crate, comes in by
-    /// an `impl Frame`, and its frames are undone and redone as those of queues are.
+    /// (docs/MODEL.md, "The rule of frames"). What was undone is forgotten. It costs what the frame does, refused or
+    /// not, and the records that are forgotten. `submit` is this for queues; a kind of its own, outside of this crate,
+    /// comes in by an `impl Frame`, and its frames are undone and redone as those of queues are.
     ///
     /// Refused, in this order, and then the editor is as it was: `TickFull`; the frame's first refusal; `NoMemory`.
     pub fn run<F: Frame>(&mut self, asked: &F) -> Result<Made, Refusal>
@@ -360,9 +360,9 @@ impl Editor {
         self.stacks.redo();
         Ok(())
     }
-    /// A law of every editor: its past has no more frames than the depth says. So an undo and then a redo give the same past,
-    /// world and future. A redo and then an undo give the same world and future, and the same past, but for its oldest frame
-    /// where the redo dropped that. It does nothing.
+    /// A law of every editor: its past has no more frames than the depth says. So an undo and then a redo give the same
+    /// past, world and future. A redo and then an undo give the same world and future, and the same past, but for its
+    /// oldest frame where the redo dropped that. It does nothing.
     pub fn undo_and_redo_come_back(&self)
         ensures within { IsWithinDepth (machine_of self.now) }
         ensures undo_redo { UndoThenRedo (machine_of self.now) }

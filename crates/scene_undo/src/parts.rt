@@ -53,8 +53,8 @@ fn at_turn(direction: Direction, frames: &[FrameRecord], number: usize) -> &Fram
     }
 }
 
-/// Where cells that were changed too late could stand, as so many records are gone through: where they are redone there are
-/// none, and nothing is listed.
+/// Where cells that were changed too late could stand, as so many records are gone through: where they are redone there
+/// are none, and nothing is listed.
 fn newest_for(
     alloc: Global,
     direction: Direction,
@@ -69,8 +69,8 @@ fn newest_for(
     }
 }
 
-/// Goes through records, as far as each fits at its turn. It costs what their deltas cost, and where they are undone a look
-/// at all cells, once.
+/// Goes through records, as far as each fits at its turn. It costs what their deltas cost, and where they are undone a
+/// look at all cells, once.
 fn go_through(
     alloc: Global,
     direction: Direction,

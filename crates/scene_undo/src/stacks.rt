@@ -7,11 +7,11 @@ use scene_journal::FrameRecord;
 use std::alloc::{AllocError, Global};
 use std::marker::Model;
 
-/// The records of the frames before the world now, and those of the frames that were undone, in one list: an undo and a redo
-/// move the place where the one ends and the other begins, and no record.
+/// The records of the frames before the world now, and those of the frames that were undone, in one list: an undo and a
+/// redo move the place where the one ends and the other begins, and no record.
 ///
-/// Contracts see the past, the newest first, the future, the next one first, the depth, and for how many frames more there
-/// is a place.
+/// Contracts see the past, the newest first, the future, the next one first, the depth, and for how many frames more
+/// there is a place.
 #[derive(Drop, Debug)]
 pub(crate) struct Stacks {
     alloc: Global,
@@ -56,8 +56,8 @@ impl Stacks {
         }
     }
 
-    /// The newest of these records of a past, the oldest first, as many as the depth keeps, and those of a future, the next
-    /// one first.
+    /// The newest of these records of a past, the oldest first, as many as the depth keeps, and those of a future, the
+    /// next one first.
     pub(crate) fn from_parts(
         alloc: Global,
         past: Vec<FrameRecord>,

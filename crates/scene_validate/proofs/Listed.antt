@@ -1,4 +1,5 @@
--- Lists of keys with lists, and the maps that they make: what is found under a key, facts of each element, and elements that differ.
+-- Lists of keys with lists, and the maps that they make: what is found under a key, facts of each element, and elements
+-- that differ.
 use Rattle.std.proofs.Common.{◌≡◌, ℕ, Bool, true, false, cond, List, [], ◌∷◌, refl, ap, sym, subst, ◌∙◌, Some, None}
 use Rattle.std.specs.Prelude.{slice_get, ◌||◌, ◌&&◌}
 use Rattle.std.specs.declared.cmp.Ordering.{Ordering}

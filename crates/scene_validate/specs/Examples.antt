@@ -60,8 +60,8 @@ SmallIsAWorld =
       resources = map.empty;
     })
 
--- the slots: a limit of none, more slots than the limit, a generation of none, a free index that lives or stands twice or has
--- no slot, an index that is lost
+-- the slots: a limit of none, more slots than the limit, a generation of none, a free index that lives or stands twice
+-- or has no slot, an index that is lost
 abbrev pub BrokenSlots : Type 0
 BrokenSlots =
     (first_broken (record small { limit = 0 }) ≡ Some 1)
@@ -75,8 +75,8 @@ BrokenSlots =
     × (first_broken (record small { generations = 4294967295 ∷ 4294967295 ∷ [] }) ≡ None)
     × (first_broken (record small { generations = 4294967295 ∷ 1 ∷ []; free = 1 ∷ [] }) ≡ None)
 
--- the rows: an entity of another generation or without a slot, one that stands twice, a table without rows, a kind set that
--- stands twice or isn't its rows', a kind that isn't in the schema
+-- the rows: an entity of another generation or without a slot, one that stands twice, a table without rows, a kind set
+-- that stands twice or isn't its rows', a kind that isn't in the schema
 abbrev pub BrokenRows : Type 0
 BrokenRows =
     (first_broken (record small { generations = 7 ∷ [] }) ≡ Some 3)
@@ -91,8 +91,8 @@ BrokenRows =
     × (first_broken (record small { tables = (1, row last 1 2 ∷ []) ∷ [] }) ≡ Some 10)
     × (first_broken (record small { tables = (1, row last 1 0 ∷ []) ∷ [] }) ≡ Some 10)
 
--- the links: a dead parent or child, an empty list, a parent of two lists, a child of two parents or twice in a list, an
--- entity that is its own parent or its own ancestor
+-- the links: a dead parent or child, an empty list, a parent of two lists, a child of two parents or twice in a list,
+-- an entity that is its own parent or its own ancestor
 abbrev pub BrokenLinks : Type 0
 BrokenLinks =
     (first_broken (record small { children = (last, last ∷ []) ∷ [] }) ≡ Some 8)

@@ -19,7 +19,8 @@ use Rattle.scene_links.specs.Forest.{Forest}
 use Rattle.scene_resources.specs.Resources.{NamedCells, name_cmp, name_cmp_total}
 use Rattle.scene_model.specs.World.{World}
 
--- what a world is built from; unlike a world it may hold an empty table, a kind set or a name twice, or two parents of one entity
+-- what a world is built from; unlike a world it may hold an empty table, a kind set or a name twice, or two parents of
+-- one entity
 pub record Parts : Type 0 where
   pub schema : Kinds
   pub limit : ℕ

@@ -1,4 +1,5 @@
--- The ten rules of a valid world (docs/MODEL.md, "A valid world"), as tests of parts, and the first one that parts break.
+-- The ten rules of a valid world (docs/MODEL.md, "A valid world"), as tests of parts, and the first one that parts
+-- break.
 use Rattle.std.specs.Prelude.{ℕ, suc, zero, List, [], ◌∷◌, Bool, true, false, not, ◌&&◌, ◌||◌, Option, Some, None, is_some, nat_eq, nat_lt, nat_le, length, slice_get, slice_index, map as each, if◌then◌else◌}
 use Rattle.std.specs.List.{list_all, list_any, flat_map, range_with_len}
 use Rattle.std.specs.Ordering.{nat_cmp, eq_by_cmp}
@@ -102,8 +103,8 @@ is_list_of rows l = has_row rows l.0 && list_all (has_row rows) l.1 && has_some 
 abbrev pub walks_end : Forest → Bool
 walks_end f = list_all (ends_in (length f.entries) f) (parents f)
 
--- 8. Parents and children are live, parents are distinct, no list is empty, each child stands once over all lists, and no
--- entity is its own ancestor.
+-- 8. Parents and children are live, parents are distinct, no list is empty, each child stands once over all lists, and
+-- no entity is its own ancestor.
 abbrev pub links_are_sound : Parts → Bool
 links_are_sound p =
     list_all (is_list_of (rows_in p)) p.children && are_distinct is_same (keys p.children)

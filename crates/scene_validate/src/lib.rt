@@ -2,8 +2,8 @@
 //!
 //! `specs/Parts.antt` has the parts and the world that they make, `specs/Rules.antt` the rules as tests that compute.
 //! `laws` says that the tests leave nothing out and ask for no more than there is: parts break no rule exactly where
-//! they are those of a valid world. `WorldParts::first_broken` is those tests in code, at the cost of the parts: who lives is
-//! told by marks of indices (`marks`), and that walks up end by walking none twice (`climbs`).
+//! they are those of a valid world. `WorldParts::first_broken` is those tests in code, at the cost of the parts: who
+//! lives is told by marks of indices (`marks`), and that walks up end by walking none twice (`climbs`).
 #![tactic(auto)]
 
 mod broken;

@@ -82,8 +82,8 @@ fn generations_in_range(generations: &[u32])
 }
 
 impl WorldParts {
-    /// A law of every value: its numbers and texts are in the ranges of their types. It changes nothing, and costs a walk
-    /// over the resources.
+    /// A law of every value: its numbers and texts are in the ranges of their types. It changes nothing, and costs a
+    /// walk over the resources.
     pub fn are_in_range(&self)
         ensures { AreInRange (seen self.now) }
     {

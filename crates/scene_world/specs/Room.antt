@@ -1,5 +1,5 @@
--- The room of a world: for what its storage suffices with no more memory. It is never lost, so a world that was there can come
--- back without memory.
+-- The room of a world: for what its storage suffices with no more memory. It is never lost, so a world that was there
+-- can come back without memory.
 use Rattle.std.specs.Prelude.{ℕ, ◌≤◌, List, length}
 use Rattle.scene_alloc.specs.Slots.{StoredSlots}
 use Rattle.scene_links.specs.Room.{LinksState, Holds as HoldsLinks, IsWider as IsWiderForLinks}
@@ -8,8 +8,8 @@ use Rattle.scene_archetypes.specs.KindTables.{Rooms, IsWider as IsWiderForRows}
 use Rattle.scene_archetypes.specs.Archetypes.{ArchetypesState, HoldsRows}
 use Rattle.scene_model.specs.World.{World}
 
--- memory for so many slots, for so many rows of each kind set, for the homes of so many indices, for so many children of each
--- index, and for a cell of each of these names
+-- memory for so many slots, for so many rows of each kind set, for the homes of so many indices, for so many children
+-- of each index, and for a cell of each of these names
 pub record Room : Type 0 where
   pub slots : ℕ
   pub rows : Rooms

@@ -26,8 +26,8 @@ abbrev pub noting : {A N : Type 0} → Staged N → List N → Outcome A World �
 noting s notes (Ok p) = Ok (p.0, record { world = p.1; notes = s.notes ++ notes })
 noting s notes (Err r) = Err r
 
--- the call answered what the command gives on the stage's world, with its notes, or found no memory; and after any refusal the
--- stage is as it was
+-- the call answered what the command gives on the stage's world, with its notes, or found no memory; and after any
+-- refusal the stage is as it was
 abbrev pub AnswersNoted : {A N : Type 0} → Result A Refusal → (old new : Staged N) → Note N → Command → (World → Outcome A World) → Type 0
 AnswersNoted result old new note c command = Answers result old new (noting old (note old.world c) (command old.world))
 

@@ -14,14 +14,15 @@ use std::alloc::Global;
 /// What a frame does to a world, all or nothing: a list of queues, or any other work that is made of commands
 /// (docs/MODEL.md, "The rule of frames").
 ///
-/// A frame is run on a `Stage`, so that one body serves a plain world and a recorder, and it may read the world on the way.
-/// An editor takes any kind: it raises the tick before, keeps what its recorder noted, and takes a refused frame back.
+/// A frame is run on a `Stage`, so that one body serves a plain world and a recorder, and it may read the world on the
+/// way. An editor takes any kind: it raises the tick before, keeps what its recorder noted, and takes a refused frame
+/// back.
 pub trait Frame {
     // Which frames can be run.
     ghost can: { Self → Type 0 };
 
-    // What it does to a world whose tick is raised: the entities that it spawns, in order, and the world after it, or its
-    // first refusal.
+    // What it does to a world whose tick is raised: the entities that it spawns, in order, and the world after it, or
+    // its first refusal.
     ghost does: { Self → Whole → Outcome (List Spawned) Whole };
 
     // How it goes on a stage, by what the stage notes of a command.
@@ -29,8 +30,8 @@ pub trait Frame {
 
     /// Does it on a stage, and gives the entities that it spawned, in order.
     ///
-    /// Refused: its first refusal; `NoMemory`. After a refusal the stage is somewhere on the way; the world to which it can
-    /// be taken back is the same as before, and no room is lost.
+    /// Refused: its first refusal; `NoMemory`. After a refusal the stage is somewhere on the way; the world to which it
+    /// can be taken back is the same as before, and no room is lost.
     fn run<S: Stage>(&self, alloc: Global, stage: &mut S) -> Result<Vec<Entity>, Refusal>
         requires { can self.now }
         ensures noted { IfOk result (λ es. plays S.note self.now (S.seen stage.old) ≡ Ok (es.items, S.seen stage.new)) }

@@ -1,4 +1,5 @@
-//! The world of a scene, in code: its entities with their components, links and resources, and the nine commands on them.
+//! The world of a scene, in code: its entities with their components, links and resources, and the nine commands on
+//! them.
 //!
 //! What a world is, and what commands do, is said in the crate `scene_model`; `World` keeps the rows in
 //! `scene_archetypes`. All growth comes before the first change, so that a refusal leaves the world as it was.

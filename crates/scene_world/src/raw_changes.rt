@@ -15,23 +15,23 @@ use std::alloc::AllocError;
 /// The raw changes of a world (docs/MODEL.md, "Raw changes"). They are for scene_journal, and for whoever takes deltas
 /// back: a tool calls the commands of `World`, and never needs this trait.
 ///
-/// A raw change has no refusals. It has a condition, which the caller has to meet. A call that ends in `_reserved` takes no
-/// memory, since it asks for the room that its `reserve_` call makes; the call without that ending does both.
+/// A raw change has no refusals. It has a condition, which the caller has to meet. A call that ends in `_reserved`
+/// takes no memory, since it asks for the room that its `reserve_` call makes; the call without that ending does both.
 pub trait RawChanges {
     // The world with its room.
     ghost whole: { Self → Housed };
 
     /// Takes the next slot, which is an entity's, and puts its row with these cells last in the table of their kinds
-    /// (docs/MODEL.md, "Raw changes"). It takes no memory, since the room must hold the world after it. `fresh` says that
-    /// the slot is a new one.
+    /// (docs/MODEL.md, "Raw changes"). It takes no memory, since the room must hold the world after it. `fresh` says
+    /// that the slot is a new one.
     fn put_row_reserved(&mut self, entity: Entity, cells: Cells, fresh: bool)
         requires can { CanPut (whole self.old).world entity cells fresh }
         requires room { Holds (whole self.old).room (put_row (whole self.old).world entity cells) }
         ensures world { (whole self.new).world ≡ put_row (whole self.old).world entity cells }
         ensures room { (whole self.new).room ≡ (whole self.old).room };
 
-    /// Drops the last row of a table, which is an entity's, and gives its slot back: a fresh one goes, another is the last
-    /// free one again (docs/MODEL.md, "Raw changes"). It takes no memory.
+    /// Drops the last row of a table, which is an entity's, and gives its slot back: a fresh one goes, another is the
+    /// last free one again (docs/MODEL.md, "Raw changes"). It takes no memory.
     fn drop_last(&mut self, entity: Entity, fresh: bool)
         requires { CanDrop (whole self.old).world entity (cells_of (whole self.old).world entity) fresh }
         ensures world { (whole self.new).world ≡ drop_last (whole self.old).world entity fresh }
@@ -39,8 +39,8 @@ pub trait RawChanges {
 
     /// Makes its room, and then does what `put_row_reserved` does (docs/MODEL.md, "Raw changes").
     ///
-    /// It fails only where that room isn't there and no memory was found: then the world is as it was, and the cells are
-    /// dropped.
+    /// It fails only where that room isn't there and no memory was found: then the world is as it was, and the cells
+    /// are dropped.
     fn put_row(&mut self, entity: Entity, cells: Cells, fresh: bool) -> Result<(), AllocError>
         requires { CanPut (whole self.old).world entity cells fresh }
         ensures done { OnOk result ((whole self.new).world ≡ put_row (whole self.old).world entity cells) }
@@ -48,8 +48,8 @@ pub trait RawChanges {
         ensures there { Holds (whole self.old).room (put_row (whole self.old).world entity cells) → IsOk result }
         ensures wide { IsWider (whole self.old).room (whole self.new).room };
 
-    /// Takes a live entity without children out of the world, as a despawn does (docs/MODEL.md, "Raw changes"). It takes
-    /// no memory.
+    /// Takes a live entity without children out of the world, as a despawn does (docs/MODEL.md, "Raw changes"). It
+    /// takes no memory.
     fn cut_row(&mut self, entity: Entity)
         requires live { is_live (whole self.old).world entity ≡ true }
         requires childless { children_of (whole self.old).world.children entity ≡ [] }
@@ -74,8 +74,8 @@ pub trait RawChanges {
 
     /// Makes its room, and then does what `uncut_row_reserved` does (docs/MODEL.md, "Raw changes").
     ///
-    /// It fails only where that room isn't there and no memory was found: then the world is as it was, and the cells are
-    /// dropped.
+    /// It fails only where that room isn't there and no memory was found: then the world is as it was, and the cells
+    /// are dropped.
     fn uncut_row(
         &mut self,
         entity: Entity,
@@ -165,9 +165,9 @@ pub trait RawChanges {
         ensures world { (whole self.new).world ≡ set_cell (whole self.old).world entity kind cell }
         ensures room { (whole self.new).room ≡ (whole self.old).room };
 
-    /// Takes a live entity out of its parent's list, if it stands in one, and puts it at a place of another's, or leaves
-    /// it without a parent (docs/MODEL.md, "Raw changes"). The place is that in the list without the entity. It takes no
-    /// memory, since the room must hold the world after it.
+    /// Takes a live entity out of its parent's list, if it stands in one, and puts it at a place of another's, or
+    /// leaves it without a parent (docs/MODEL.md, "Raw changes"). The place is that in the list without the entity. It
+    /// takes no memory, since the room must hold the world after it.
     fn set_link_reserved(&mut self, entity: Entity, link: Option<(Entity, usize)>)
         requires can { CanSetLink (whole self.old).world entity (link_in (whole self.old).world.children entity) link }
         requires room { Holds (whole self.old).room (set_link (whole self.old).world entity link) }
@@ -184,8 +184,8 @@ pub trait RawChanges {
         ensures there { Holds (whole self.old).room (set_link (whole self.old).world entity link) → IsOk result }
         ensures wide { IsWider (whole self.old).room (whole self.new).room };
 
-    /// Gives a name this cell, with its ticks, or none, and gives the one that it had (docs/MODEL.md, "Raw changes"). It
-    /// takes no memory, since the room must hold the world after it.
+    /// Gives a name this cell, with its ticks, or none, and gives the one that it had (docs/MODEL.md, "Raw changes").
+    /// It takes no memory, since the room must hold the world after it.
     fn set_resource_reserved(&mut self, name: &str, cell: Option<Cell>) -> Option<Cell>
         requires can { CanSetResource (whole self.old).world name.now (cell_at_name (whole self.old).world.resources name.now) cell }
         requires room { Holds (whole self.old).room (set_resource (whole self.old).world name.now cell) }
@@ -193,7 +193,8 @@ pub trait RawChanges {
         ensures world { (whole self.new).world ≡ set_resource (whole self.old).world name.now cell }
         ensures room { (whole self.new).room ≡ (whole self.old).room };
 
-    /// Makes its room, and then does what `set_resource_reserved` does (docs/MODEL.md, "Raw changes"); no cell takes none.
+    /// Makes its room, and then does what `set_resource_reserved` does (docs/MODEL.md, "Raw changes"); no cell takes
+    /// none.
     ///
     /// It fails only where that room isn't there and no memory was found: then the world is as it was, and the cell is
     /// dropped.

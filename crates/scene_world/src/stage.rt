@@ -14,8 +14,8 @@ use std::convert::Infallible;
 ///
 /// Each command answers what it answers on the world itself, refusals included, and want of memory. An accepted one
 /// appends the notes that the world before it and the command fix; after a refusal world and notes are as they were.
-/// The world to which the stage can be taken back, if it keeps a way back, and the tick of its record are the same after
-/// every command, accepted or refused, and no room is lost (docs/MODEL.md, "Raw changes").
+/// The world to which the stage can be taken back, if it keeps a way back, and the tick of its record are the same
+/// after every command, accepted or refused, and no room is lost (docs/MODEL.md, "Raw changes").
 pub trait Stage {
     /// What is noted of a command. A `World` notes nothing.
     type Note;

@@ -99,7 +99,8 @@ scene_answer_spec 𝓤 𝓛 𝓜 𝓡 wired =
     lft_new ! tt (λ α. let κ' : Lft = α ∷ [] in move ! (1 ∷ []) $
     use1 𝓛 (later (some (λ (γ : GName). ‵ ((MutSlice (named 1) κ' u8).own_val (record { ref_ptr = (b, o); ghost_name = γ; now = xs }) (slice_val (b, o) (length xs) ∷ [])) ⊛ ‵ (flent κ' (Held u8 (length xs) b o γ)))))
     (lends_slice 𝓛 u8 (named 1) κ' xs b o (fits_xs, small)) $ await ! tt $ pick ! (λ γ. split ! $
-    -- [the slice; the right to the bytes; its token; obs and the borrow of the handle; the handle of the heap; the token; nothing]
+    -- [the slice; the right to the bytes; its token; obs and the borrow of the handle; the handle of the heap; the
+    -- token; nothing]
     let at : MutBor (List ℕ) = record { ref_ptr = (b, o); ghost_name = γ; now = xs } in
     let k = triple_of 𝓛 long.signature (long.spec 𝓛 𝓜.mem 𝓡.returns) in let y : k.Ghost = (((κ, (κ', tt)), (q, (full_share, tt)), tt, (a, (s, (at, tt))), (h ∷ [], (vptr sb so ∷ [], (slice_val (b, o) (length xs) ∷ [], tt)))), tt) in
     nothing ! $ move ! (1 ∷ 0 ∷ []) $ fjoin ! $ move ! (3 ∷ 4 ∷ []) $ feq_i ! (List Val) (vptr sb so ∷ []) (vptr sb so ∷ []) refl $ fjoin3 ! $ fjoin ! $ move ! (3 ∷ 0 ∷ []) $ fjoin ! $
@@ -111,7 +112,8 @@ scene_answer_spec 𝓤 𝓛 𝓜 𝓡 wired =
     -- [what is left; the token; the slice's token; the count; the right to the bytes]
     move ! (3 ∷ []) $ fsplit ! $ feq_l ! (λ eu. flt_l ! (λ fits_r. lands_as ! (ap only eu) refl (tt, record { fits = fits_r }) $
     move ! (2 ∷ []) $ split ! $ lft_end ! tt $ move ! (2 ∷ []) $ fsplit ! $ drop ! $ fsplit ! $ move ! (1 ∷ []) $ fsplit ! $ fsplit ! $ fsplit ! $
-    -- [the slice's last list; its length; its borrow; nothing; what is left of the handle; its lifetime is over; nothing; the token; the right to the bytes]
+    -- [the slice's last list; its length; its borrow; nothing; what is left of the handle; its lifetime is over;
+    -- nothing; the token; the right to the bytes]
     let w = ws.1.0 in let new = copied text xs in rewrite ! 0 (λ (ys : List ℕ). ‵ (finally u8 γ ys)) written refl $
     move ! (5 ∷ 8 ∷ 0 ∷ []) $ use3 𝓛 (later (‵ ((Arr (mem u8) (length xs)).own_at new b o))) (slice_back 𝓛 u8 κ' γ new (length xs) b o) $ await ! tt $
     -- [the bytes; its length; its borrow; nothing; what is left of the handle; nothing; the token]

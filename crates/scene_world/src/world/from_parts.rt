@@ -53,10 +53,11 @@ fn build(alloc: Global, parts: WorldParts) -> Result<World, AllocError>
 }
 
 impl World {
-    /// The world of these parts, in whatever order their lists stand (docs/MODEL.md, "A valid world"). The parts are used up.
+    /// The world of these parts, in whatever order their lists stand (docs/MODEL.md, "A valid world"). The parts are
+    /// used up.
     ///
-    /// Refused: `BadWorld` with the first rule that the parts break, 1 to 10; then `NoMemory`. It costs a few walks over the
-    /// parts and the slots, and for kind sets and names of resources their number times its logarithm.
+    /// Refused: `BadWorld` with the first rule that the parts break, 1 to 10; then `NoMemory`. It costs a few walks
+    /// over the parts and the slots, and for kind sets and names of resources their number times its logarithm.
     pub fn from_parts(alloc: Global, parts: WorldParts) -> Result<World, Refusal>
         ensures { MatchResult result (λ w. made (seen parts) ≡ Ok w.world) (λ r. r ≢ refusal_of NoMemory → made (seen parts) ≡ Err r) }
     {

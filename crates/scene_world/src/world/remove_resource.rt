@@ -22,9 +22,9 @@ impl World {
         Ok(())
     }
 
-    /// Gives back the room of a resource's name where there is no resource of it any more: after it a resource of that name
-    /// takes memory again. The world, the room of every other name and all other room stay as they are. It takes no
-    /// memory.
+    /// Gives back the room of a resource's name where there is no resource of it any more: after it a resource of that
+    /// name takes memory again. The world, the room of every other name and all other room stay as they are. It takes
+    /// no memory.
     pub fn forget_resource(&mut self, name: &str)
         ensures world { self.new.world ≡ self.old.world }
         ensures names { Forgets (stored_names self.old) self.new.room.names name.now }
