@@ -1,6 +1,7 @@
 pub mod CellLaws
 pub mod Choices
 pub mod Elements
+pub mod EntityReading
 pub mod KindSets
 pub mod Lists
 pub mod Maps

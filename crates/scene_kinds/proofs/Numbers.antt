@@ -14,7 +14,7 @@ use Rattle.scene_kinds.specs.Number.{BeginsPlainly}
 use Rattle.scene_kinds.specs.Entity.{entity_text}
 
 -- numerals are digits with their value
-own : IsNumeralModel (AllDigits 10) (digits_value 10)
+pub own : IsNumeralModel (AllDigits 10) (digits_value 10)
 own = numerals_by_value (AllDigits 10) tells_digits
 
 -- a number that is read from a plain text has that text
@@ -41,7 +41,7 @@ pub begins_decimal : (bs : List ℕ) (n : ℕ) → n < 2 ^ 64 → bs ≡ decimal
 begins_decimal bs n small e = rw e (begins n small)
 
 -- a decimal number holds no `v`
-no_v : (n : ℕ) → n < 2 ^ 64 → (i : ℕ) → i < length (decimal n) → get_or (decimal n) i 0 ≢ 118
+pub no_v : (n : ℕ) → n < 2 ^ 64 → (i : ℕ) → i < length (decimal n) → get_or (decimal n) i 0 ≢ 118
 no_v n small = not_in_digits own (decimal n) 118 (digits_decimal own n small) (λ h. omega (arith, h.1))
 
 -- where `split_once('v')` cuts an entity text

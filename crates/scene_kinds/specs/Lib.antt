@@ -1,6 +1,7 @@
 pub mod Answers
 pub mod Cells
 pub mod Entity
+pub mod EntityReading
 pub mod Fault
 pub mod KindLaws
 pub mod KindSet

@@ -1,6 +1,7 @@
 //! Entities and their text.
 ghost use Rattle.std.specs.Prelude.{◌≡◌, ◌^◌, ◌<◌, ℕ, Some, IfSome};
 ghost use Rattle.std.specs.Result.{result_ok};
+ghost use Rattle.scene_kinds.specs.EntityReading.{entity_in};
 
 use crate::number::plain_number;
 use std::error::Error;
@@ -43,6 +44,15 @@ impl Entity {
             generation: plain_number(generation)?,
         })
     }
+}
+
+/// The entity whose text this is (docs/MODEL.md, "The rule of entity texts"). `None` only where the text is
+/// no entity's.
+#[tactic(auto, using(crate::proofs::EntityReading::entity_is))]
+pub fn read_entity(text: &str) -> Option<Entity>
+    ensures { result ≡ entity_in text.now }
+{
+    Entity::parse(text.as_bytes())
 }
 
 /// A text that is no entity's.

@@ -25,11 +25,11 @@ mod value;
 
 pub use cell::{Cell, CellRef};
 pub use cells::{Cells, Row};
-pub use entity::{Entity, ParseEntityError};
+pub use entity::{Entity, ParseEntityError, read_entity};
 pub use fault::Fault;
 pub use kind_set::{KindSet, KindSetMethods, KindsOfSet, has_kind, set_with, set_without};
 pub use laws::{kind_sets_compare_by_kinds, kind_sets_follow_cells};
-pub use number::plain_number;
+pub use number::{plain_number, read_count};
 pub use refusal::{Place, Refusal};
 pub use schema::{Schema, good_name};
 pub use shape::{ParseShapeError, Shape};

@@ -1,5 +1,6 @@
 //! Numbers that are written the one way: digits alone, no sign, no leading zero.
 ghost use Rattle.std.specs.Prelude.{◌≡◌, ◌^◌, ◌<◌, ℕ, Some, IfSome, IsTrue, ◌↔◌, decimal};
+ghost use Rattle.scene_kinds.specs.EntityReading.{count_in};
 ghost use Rattle.scene_kinds.specs.Number.{BeginsPlainly};
 
 /// Whether a text begins as a number does that is written the one way.
@@ -27,4 +28,13 @@ pub fn plain_number(text: &str) -> Option<u32>
         return None;
     }
     text.parse::<u32>().ok()
+}
+
+/// The number of 32 bits whose text this is: digits alone, with no leading zero. `None` only where the text
+/// is no such number.
+#[tactic(auto, using(crate::proofs::EntityReading::count_is))]
+pub fn read_count(text: &str) -> Option<u32>
+    ensures { result ≡ count_in text.now }
+{
+    plain_number(text)
 }

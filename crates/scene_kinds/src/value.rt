@@ -55,7 +55,7 @@ impl Value {
             Value::Text(text) => {
                 let _text = text.as_str();
             }
-            Value::Link(entity) => read_entity(entity),
+            Value::Link(entity) => read_index_and_generation(entity),
         }
     }
 }
@@ -70,7 +70,7 @@ fn read_three(parts: &[i64; 3])
 
 /// Reads the two numbers of an entity.
 #[tactic(auto, using(crate::proofs::Ranges::entity_in_range))]
-fn read_entity(entity: &Entity)
+fn read_index_and_generation(entity: &Entity)
     ensures { is_entity entity.now ≡ true }
 {
     let _index = entity.index;

@@ -2,7 +2,8 @@
 use Rattle.std.specs.Prelude.{◌≡◌, ℕ, List, Option, Result, Ok, Err}
 use Rattle.std.specs.Str.Lines.{lines}
 use Rattle.scene_interpreter.specs.Interpreter.{Interpreter, lone_interpreter}
-use Rattle.scene_shell.specs.Kept.{EndsAs, StaysKept}
+use Rattle.scene_streams.specs.Keep.{StaysKept}
+use Rattle.scene_shell.specs.Kept.{EndsAs}
 use Rattle.scene_shell.specs.Shell.{interpreter_after}
 use Rattle.scene_shell.specs.declared.kept_fault.KeptFault.{KeptFault}
 use Rattle.scene_shell.specs.declared.store_writer.StoreWriter.{StoreWriter}

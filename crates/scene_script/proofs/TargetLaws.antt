@@ -4,7 +4,7 @@ use Rattle.std.specs.Prelude.{◌==◌}
 use Rattle.std.specs.Option.{option_map}
 use Rattle.std.proofs.lemmas.Bool.Decides.{nat_tests}
 use Rattle.scene_commands.specs.declared.target.Target.TheVariants as target
-use Rattle.scene_script.specs.Numbers.{entity_in}
+use Rattle.scene_kinds.specs.EntityReading.{entity_in}
 use Rattle.scene_script.specs.Cells.{target_in}
 
 -- another byte fails the test

@@ -11,55 +11,10 @@ use Rattle.std.proofs.lemmas.List.Quantifiers.{position-Some}
 use Rattle.std.proofs.lemmas.List.Sums.{fails_before_first, length-filter}
 use Rattle.std.proofs.lemmas.List.Splits.{length-slice_split, slice_split-cons_no, slice_split-cons_yes}
 use Rattle.std.proofs.lemmas.List.Filters.{length-filter_both}
-use Rattle.scene_script.specs.Words.{cut_at, without_spaces, words_of}
+use Rattle.scene_kinds.specs.EntityReading.{cut_at}
+use Rattle.scene_kinds.proofs.EntityReading.{cut_at-none, cut_at-parts, onto, without}
+use Rattle.scene_script.specs.Words.{without_spaces, words_of}
 use Rattle.scene_script.proofs.LineLaws.{none_chosen}
-
--- another byte fails the test
-other : (b mark : ℕ) → b ≢ mark → (b == mark) ≡ false
-other b mark h = grind (arith, nat_tests)
-
--- bytes without the mark aren't cut
-pub cut_at-none : (mark : ℕ) (bs : List ℕ) → ((i : ℕ) → i < length bs → get_or bs i 0 ≢ mark) → cut_at mark bs ≡ None
-cut_at-none mark [] h = refl
-cut_at-none mark (b ∷ bs) h =
-    rw (other b mark (h 0 (omega arith)), cut_at-none mark bs (λ i small. h (suc i) (omega arith))) refl
-
--- bytes are cut at the first mark
-pub cut_at-parts : (mark : ℕ) (xs ys : List ℕ) → ((i : ℕ) → i < length xs → get_or xs i 0 ≢ mark) → cut_at mark (xs ++ mark ∷ ys) ≡ Some (xs, ys)
-cut_at-parts mark [] ys h = let e : (mark == mark) ≡ true = grind (arith, nat_tests) in rw e refl
-cut_at-parts mark (x ∷ xs) ys h =
-    rw (other x mark (h 0 (omega arith)), cut_at-parts mark xs ys (λ i small. h (suc i) (omega arith))) refl
-
--- a byte before the first part
-abbrev onto : ℕ → List ℕ × List ℕ → List ℕ × List ℕ
-onto b p = (b ∷ p.0, p.1)
-
--- nothing before the mark
-abbrev without : List ℕ → List ℕ × List ℕ
-without bs = ([], bs)
-
--- one byte more before the first part
-joins_cons : (mark b : ℕ) (bs xs ys : List ℕ) (o : Option (List ℕ × List ℕ)) → ((us vs : List ℕ) → o ≡ Some (us, vs) → bs ≡ us ++ mark ∷ vs)
-    → option_map (onto b) o ≡ Some (xs, ys) → b ∷ bs ≡ xs ++ mark ∷ ys
-joins_cons mark b bs xs ys None later e = absurd (let k : None ≡ Some (xs, ys) = e in cc)
-joins_cons mark b bs xs ys (Some p) later e =
-    let k : Some (onto b p) ≡ Some (xs, ys) = e in
-    let same : onto b p ≡ (xs, ys) = cc in
-    ap (λ l. b ∷ l) (later p.0 p.1 refl) ∙ ap (λ q. q.0 ++ mark ∷ q.1) same
-
--- one byte more, be it the mark or not
-joins_at : (t : Bool) (mark b : ℕ) (bs xs ys : List ℕ) → (t ≡ true → b ≡ mark) → ((us vs : List ℕ) → cut_at mark bs ≡ Some (us, vs) → bs ≡ us ++ mark ∷ vs)
-    → cond t (Some (without bs)) (option_map (onto b) (cut_at mark bs)) ≡ Some (xs, ys) → b ∷ bs ≡ xs ++ mark ∷ ys
-joins_at true mark b bs xs ys is later e =
-    let k : Some (without bs) ≡ Some (xs, ys) = e in
-    let same : without bs ≡ (xs, ys) = cc in
-    ap (λ c. c ∷ bs) (is refl) ∙ ap (λ q. q.0 ++ mark ∷ q.1) same
-joins_at false mark b bs xs ys is later e = joins_cons mark b bs xs ys (cut_at mark bs) later e
-
--- the parts with the mark between them are the bytes
-pub cut_at-joins : (mark : ℕ) (bs xs ys : List ℕ) → cut_at mark bs ≡ Some (xs, ys) → bs ≡ xs ++ mark ∷ ys
-cut_at-joins mark [] xs ys e = absurd (let k : None ≡ Some (xs, ys) = e in cc)
-cut_at-joins mark (b ∷ bs) xs ys e = joins_at (b == mark) mark b bs xs ys (λ t. grind (arith, nat_tests)) (cut_at-joins mark bs) e
 
 -- where the first mark stands, the bytes are cut
 pub cut_at-place : (mark at : ℕ) (bs : List ℕ) → position (λ b. b == mark) bs ≡ Some at → cut_at mark bs ≡ Some (take at bs, drop (at + 1) bs)

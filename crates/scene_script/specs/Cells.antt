@@ -11,8 +11,9 @@ use Rattle.scene_commands.specs.declared.target.Target.{Target}
 use Rattle.scene_commands.specs.declared.target.Target.TheVariants as target
 use Rattle.scene_script.specs.declared.bad_line.BadLine.{BadLine}
 use Rattle.scene_script.specs.declared.bad_line.BadLine.TheVariants as bad
-use Rattle.scene_script.specs.Words.{cut_at}
-use Rattle.scene_script.specs.Numbers.{count_in, entity_in, number_said, entity_said}
+use Rattle.scene_kinds.specs.EntityReading.{cut_at}
+use Rattle.scene_kinds.specs.EntityReading.{count_in, entity_in}
+use Rattle.scene_script.specs.Numbers.{number_said, entity_said}
 use Rattle.scene_script.specs.Reading.{◌>>=◌, or_bad}
 
 -- three numbers with commas (44) between them; the commas are looked at first

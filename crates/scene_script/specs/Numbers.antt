@@ -1,45 +1,29 @@
--- Which bytes are a number or an entity, and of what value. A number has just one text: the one that it
+-- Which bytes are a whole number, and of what value, and why others are none. A number has just one text: the one that it
 -- prints as.
-use Rattle.std.specs.Prelude.{ℕ, ℤ, pos, negsuc, ◌^◌, List, [], ◌∷◌, ◌==◌, Bool, false, not, ◌&&◌, Option, Some, None, Result, length, nat_eq, nat_lt, if◌then◌else◌, decimal, option_map, option_and_then}
+use Rattle.std.specs.Prelude.{ℕ, ℤ, pos, negsuc, ◌^◌, List, [], ◌∷◌, ◌==◌, Bool, false, not, ◌&&◌, Option, Some, None, Result, length, nat_eq, nat_lt, if◌then◌else◌}
 use Rattle.std.specs.List.{list_all}
 use Rattle.std.specs.Char.{is_ascii_digit}
 use Rattle.std.specs.Fmt.{signed_decimal}
 use Rattle.std.specs.Str.{bytes_eq}
-use Rattle.std.specs.Str.Parse.{digits_value, signed_digits_value}
+use Rattle.std.specs.Str.Parse.{signed_digits_value}
 use Rattle.scene_kinds.specs.declared.entity.Entity.{Entity}
+use Rattle.scene_kinds.specs.EntityReading.{entity_in}
 use Rattle.scene_script.specs.declared.bad_line.BadLine.{BadLine}
 use Rattle.scene_script.specs.declared.bad_line.BadLine.TheVariants as bad
 use Rattle.scene_script.specs.Reading.{or_bad}
-use Rattle.scene_script.specs.Words.{cut_at}
 
 -- a number that 64 bits hold with its sign: from -(2 ^ 63), which is negsuc (2 ^ 63 - 1), to 2 ^ 63 - 1
 abbrev pub is_i64 : ℤ → Bool
 is_i64 (pos n) = nat_lt n (2 ^ 63)
 is_i64 (negsuc n) = nat_lt n (2 ^ 63)
 
--- n, where it fits 32 bits and prints as these bytes
-abbrev pub if_count : List ℕ → ℕ → Option ℕ
-if_count bytes n = if bytes_eq bytes (decimal n) && nat_lt n (2 ^ 32) then Some n else None
-
 -- z, where it fits 64 bits and prints as these bytes
 abbrev pub if_whole : List ℕ → ℤ → Option ℤ
 if_whole bytes z = if bytes_eq bytes (signed_decimal z) && is_i64 z then Some z else None
 
--- the number of 32 bits that these bytes are
-abbrev pub count_in : List ℕ → Option ℕ
-count_in bytes = if_count bytes (digits_value 10 bytes)
-
 -- the whole number of 64 bits that these bytes are
 abbrev pub number_in : List ℕ → Option ℤ
 number_in bytes = if_whole bytes (signed_digits_value 10 bytes)
-
--- the entity of an index and a generation, where both are there
-abbrev pub entity_of : Option ℕ → Option ℕ → Option Entity
-entity_of index generation = option_and_then (λ i. option_map (λ g. record { index = i; generation = g }) generation) index
-
--- the entity that these bytes are: two numbers round the first v (118)
-abbrev pub entity_in : List ℕ → Option Entity
-entity_in bytes = option_and_then (λ p. entity_of (count_in p.0) (count_in p.1)) (cut_at 118 bytes)
 
 -- whether bytes are digits, the first no zero (48)
 abbrev pub is_digits : List ℕ → Bool

@@ -13,7 +13,8 @@ use Rattle.scene_script.specs.Forms.{form_named}
 use Rattle.scene_script.specs.Reading.{◌>>=◌, or_bad, next_word, ended, ended_behind}
 use Rattle.scene_script.specs.Cells.{kind_said, cell_said, cells_said, is_text, shape_said, shaped_value_said, target_said}
 use Rattle.scene_script.specs.Systems.{system_said}
-use Rattle.scene_script.specs.Numbers.{count_in, bad_number, entity_said}
+use Rattle.scene_kinds.specs.EntityReading.{count_in}
+use Rattle.scene_script.specs.Numbers.{bad_number, entity_said}
 use Rattle.scene_script.specs.Words.{words_of, behind_first}
 
 -- `kind NAME SHAPE`; the name is any word

@@ -12,7 +12,7 @@ use Rattle.scene_systems.specs.declared.step.Step.TheVariants.{Row, DespawnAtZer
 use Rattle.scene_systems.specs.declared.system_rule.SystemRule.{SystemRule}
 use Rattle.scene_script.specs.declared.bad_line.BadLine.{BadLine}
 use Rattle.scene_script.specs.declared.bad_line.BadLine.TheVariants as bad
-use Rattle.scene_script.specs.Words.{cut_at}
+use Rattle.scene_kinds.specs.EntityReading.{cut_at}
 use Rattle.scene_script.specs.Numbers.{number_said}
 use Rattle.scene_script.specs.Cells.{kind_said, cell_said}
 use Rattle.scene_script.specs.Reading.{◌>>=◌, or_bad}

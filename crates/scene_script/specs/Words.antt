@@ -1,15 +1,11 @@
--- The words of a line, and where a word is cut.
-use Rattle.std.specs.Prelude.{ℕ, ◌==◌, List, [], ◌∷◌, Option, Some, None, nat_lt, length, filter, if◌then◌else◌, option_map}
+-- The words of a line.
+use Rattle.std.specs.Prelude.{ℕ, ◌==◌, List, [], ◌∷◌, Option, Some, None, nat_lt, length, filter, if◌then◌else◌}
 use Rattle.std.specs.List.{slice_split}
+use Rattle.scene_kinds.specs.EntityReading.{cut_at}
 
 -- what stands between the spaces (32), without the empty parts
 abbrev pub words_of : List ℕ → List (List ℕ)
 words_of line = filter (λ w. nat_lt 0 (length w)) (slice_split (λ b. b == 32) line)
-
--- what stands before and after the first byte that is the mark, where there is one
-abbrev pub cut_at : ℕ → List ℕ → Option (List ℕ × List ℕ)
-cut_at mark [] = None
-cut_at mark (b ∷ bs) = if b == mark then Some ([], bs) else option_map (λ p. (b ∷ p.0, p.1)) (cut_at mark bs)
 
 -- a text without the spaces (32) that it begins with
 abbrev pub without_spaces : List ℕ → List ℕ

@@ -26,7 +26,7 @@ pub use bad_line::{BadLine, LineError};
 pub use form::LineForm;
 pub use limit::Limit;
 pub use line::first_line;
-pub use number::{read_count, read_entity, read_number};
+pub use number::read_number;
 pub use script_line::{Line, read_line};
 pub use session_number::SessionNumber;
 pub use target::read_target;

@@ -5,12 +5,12 @@ ghost use Rattle.std.specs.Prelude.{FitsSigned};
 ghost use Rattle.std.specs.Int.{w64};
 ghost use Rattle.std.specs.List.{list_all};
 ghost use Rattle.std.specs.Char.{is_ascii_digit};
-ghost use Rattle.scene_script.specs.Numbers.{number_in, count_in, entity_in, is_digits, is_whole, bad_number, number_said, entity_said};
+ghost use Rattle.scene_script.specs.Numbers.{number_in, is_digits, is_whole, bad_number, number_said, entity_said};
 ghost use Rattle.scene_script.specs.Begins.{BeginsWhole};
 ghost use Rattle.scene_script.specs.Reading.{Reads};
 
 use crate::bad_line::{BadLine, LineError, text_of};
-use scene_kinds::{Entity, plain_number};
+use scene_kinds::{Entity, read_entity};
 use std::alloc::{AllocError, Global};
 
 /// Whether a text begins as a whole number does that is written the one way.
@@ -37,24 +37,6 @@ pub fn read_number(text: &str) -> Option<i64>
         return None;
     }
     text.parse::<i64>().ok()
-}
-
-/// The number of 32 bits whose text this is: digits alone, with no leading zero. `None` only where the text
-/// is no such number.
-#[tactic(auto, using(crate::proofs::NumberLaws::count_is))]
-pub fn read_count(text: &str) -> Option<u32>
-    ensures { result ≡ count_in text.now }
-{
-    plain_number(text)
-}
-
-/// The entity whose text this is (docs/MODEL.md, "The rule of entity texts"). `None` only where the text is
-/// no entity's.
-#[tactic(auto, using(crate::proofs::NumberLaws::entity_is))]
-pub fn read_entity(text: &str) -> Option<Entity>
-    ensures { result ≡ entity_in text.now }
-{
-    Entity::parse(text.as_bytes())
 }
 
 /// Whether each byte is a digit.

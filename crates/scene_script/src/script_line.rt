@@ -7,14 +7,14 @@ use crate::bad_line::{BadLine, LineError, text_of};
 use crate::cell::{cell_word, cell_words, is_text, kind_word, shape_word, shaped_value_word};
 use crate::form::LineForm;
 use crate::limit::Limit;
-use crate::number::{bad_number, entity_word, read_count};
+use crate::number::{bad_number, entity_word};
 use crate::session_number::SessionNumber;
 use crate::system::system_rule;
 use crate::target::target_word;
 use crate::word::behind_first;
 use crate::words::Words;
 use scene_commands::Command;
-use scene_kinds::{Entity, Schema, Shape, Text};
+use scene_kinds::{Entity, Schema, Shape, Text, read_count};
 use scene_systems::SystemRule;
 use std::alloc::{AllocError, Global};
 

@@ -4,8 +4,8 @@ ghost use Rattle.scene_script.specs.Cells.{target_in, target_said};
 ghost use Rattle.scene_script.specs.Reading.{Reads};
 
 use crate::bad_line::{BadLine, LineError, text_of};
-use crate::number::{read_count, read_entity};
 use scene_commands::Target;
+use scene_kinds::{read_count, read_entity};
 use std::alloc::Global;
 
 /// The target that a word is (docs/SCRIPTS.md, "Words"): an entity text, or `+K` for the K-th entity, from 0, that the

@@ -2,7 +2,8 @@
 ghost use Rattle.std.specs.Prelude.{◌≡◌, ◌<◌, ◌==◌, IfOk, map, position};
 ghost use Rattle.std.specs.List.{slice_split};
 ghost use Rattle.std.specs.Option.{option_map};
-ghost use Rattle.scene_script.specs.Words.{cut_at, without_spaces, behind_first};
+ghost use Rattle.scene_kinds.specs.EntityReading.{cut_at};
+ghost use Rattle.scene_script.specs.Words.{without_spaces, behind_first};
 
 use std::alloc::{AllocError, Global};
 

@@ -16,7 +16,8 @@ use Rattle.scene_interpreter.specs.Changes.{frame_is_open}
 use Rattle.scene_shell.specs.declared.kept_fault.KeptFault.{KeptFault}
 use Rattle.scene_shell.specs.declared.kept_fault.KeptFault.TheVariants.{Ended, Keep}
 use Rattle.scene_shell.specs.Shell.{AddsAnswer, Answers, AnswerStyle, HasSaid, IsSaid, Parts, Stops, StopsWith, bad_count, interpreter_after}
-use Rattle.scene_shell.specs.Kept.{Continues, EndsAs, Grows, IsSettled, Keeping, MaySend, StaysKept, StopsBy, behind, kept_after, kept_line, kept_of, noted, released, starting}
+use Rattle.scene_streams.specs.Keep.{Grows, StaysKept}
+use Rattle.scene_shell.specs.Kept.{Continues, EndsAs, IsSettled, Keeping, MaySend, StopsBy, behind, kept_after, kept_line, kept_of, noted, released, starting}
 use Rattle.scene_shell.specs.Waits.{FailsToSettle, HasCome, IsBad, IsPlayed, IsStop, IsUnread, LeadsTo, MaySettle}
 use Rattle.scene_shell.proofs.Lines.{first_line_of}
 

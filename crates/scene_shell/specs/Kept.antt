@@ -4,6 +4,7 @@ use Rattle.std.specs.List.{fold}
 use Rattle.std.specs.Io.{StopsAt}
 use Rattle.std.specs.Io.KnownBytes.{Appends, Keeps}
 use Rattle.std.specs.Str.Lines.{lines}
+use Rattle.scene_streams.specs.Keep.{Grows}
 use Rattle.scene_interpreter.specs.Interpreter.{Interpreter, interpreter_reply}
 use Rattle.scene_interpreter.specs.Changes.{changes, frame_is_open}
 use Rattle.scene_shell.specs.declared.fault.AppFault.{AppFault}
@@ -56,10 +57,6 @@ kept_of p ls = (kept_after (starting p) ls).due
 abbrev pub behind : List ℕ → Keeping → Keeping
 behind t k = record k { due = t ++ k.due }
 
--- these bytes were kept behind those that were
-abbrev pub Grows : {K : Type 0} → (K → List ℕ → Type 0) → K → K → List ℕ → Type 0
-Grows keeps old new more = (text : List ℕ) → keeps old text → keeps new (text ++ more)
-
 -- ---- who keeps lines and writes answers
 
 -- the shell that one is at goes on
@@ -79,10 +76,6 @@ pub record MaySend {K : Type 0} (keeps : K → List ℕ → Type 0) (contents : 
   pub written : Appends (contents start) (contents now) said
   pub are_answers : IsSaid style first front (said ++ answers)
   pub grown : Grows keeps start now (kept_of first front)
-
--- what was kept stays
-abbrev pub StaysKept : {K : Type 0} → (K → List ℕ → Type 0) → K → K → Type 0
-StaysKept keeps old new = (text : List ℕ) → keeps old text → keeps new text
 
 -- ---- how a shell ends
 

@@ -10,7 +10,8 @@ use Rattle.scene_shell.specs.declared.fault.AppFault.TheVariants.{NoMemory, Read
 use Rattle.scene_shell.specs.declared.kept_fault.KeptFault.{KeptFault}
 use Rattle.scene_shell.specs.declared.kept_fault.KeptFault.TheVariants.{Ended, Keep}
 use Rattle.scene_shell.specs.declared.waiting.Waiting.{Waiting}
-use Rattle.scene_shell.specs.Kept.{Continues, EndsAs, Grows, Keeping, MaySend, behind, kept_after, kept_line, kept_of, starting}
+use Rattle.scene_streams.specs.Keep.{Grows}
+use Rattle.scene_shell.specs.Kept.{Continues, EndsAs, Keeping, MaySend, behind, kept_after, kept_line, kept_of, starting}
 use Rattle.scene_shell.specs.Shell.{AddsAnswer, AnswerStyle, IsSaid, Parts, bad_count, interpreter_after}
 
 -- an interpreter, with what waits

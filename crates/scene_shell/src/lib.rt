@@ -24,7 +24,7 @@ mod unkept;
 mod waiting;
 
 pub use fault::AppFault;
-pub use keep::{Keep, KeptLines, KeptText, KeptWriter};
+pub use keep::KeptWriter;
 pub use kept_fault::KeptFault;
 pub use kept_line::push_kept_line;
 pub use kept_shell::run_kept_shell;

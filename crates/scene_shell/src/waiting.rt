@@ -3,7 +3,8 @@ ghost use Rattle.std.specs.Prelude.{ℕ, List, Option, ◌≡◌, ◌++◌, ◌<
 ghost use Rattle.std.specs.Io.KnownBytes.{Appends, Keeps};
 ghost use Rattle.scene_shell.specs.declared.fault.AppFault.TheVariants.{NoMemory, WriteFault};
 ghost use Rattle.scene_interpreter.specs.Interpreter.{Interpreter as State, interpreter_of, interpreter_reply};
-ghost use Rattle.scene_shell.specs.Kept.{Continues, Grows, MaySend, StaysKept, ended, kept_line};
+ghost use Rattle.scene_streams.specs.Keep.{Grows, StaysKept};
+ghost use Rattle.scene_shell.specs.Kept.{Continues, MaySend, ended, kept_line};
 ghost use Rattle.scene_shell.specs.Waits.{FailsToSettle, HasCome, IsBad, IsPlayed, MaySettle, keeping_of, waiting_of};
 ghost use Rattle.scene_shell.specs.Shell.{AddsAnswer, AnswerStyle as Style, IsAnswer, IsSent};
 

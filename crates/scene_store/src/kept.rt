@@ -2,7 +2,7 @@
 use crate::fault::StoreFault;
 use crate::rows::StoredLines;
 use crate::store::Store;
-use scene_shell::{Keep, KeptLines, KeptText};
+use scene_streams::{Keep, KeptLines, KeptText};
 use sqlite::Alter;
 use std::alloc::Global;
 

@@ -1,3 +1,4 @@
+pub mod Keep
 pub mod Known
 pub mod Limits
 pub mod Sink

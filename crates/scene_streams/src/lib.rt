@@ -8,12 +8,16 @@
 //! also after a refusal. Nothing tells that a call fails, so the mark stands in for it: a fault is answered
 //! exactly where the mark is set after the call (docs/MODEL.md, "Faults").
 //!
+//! `Keep` and `KeptLines` are what keeps lines for good, as a store does: what was kept stays, and lines come behind it.
+//!
 //! `specs/Source.antt` and `specs/Sink.antt` have what a clause sees of the two, `specs/Limits.antt` how much is read,
 //! and `specs/Known.antt` what is known of a stream after a refusal.
 #![tactic(auto)]
 
+mod keep;
 mod sink;
 mod source;
 
+pub use keep::{Keep, KeptLines, KeptText};
 pub use sink::{Sink, WriteError};
 pub use source::{MOST_BYTES, MOST_TURNS, ReadError, Source};

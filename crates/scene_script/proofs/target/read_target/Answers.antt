@@ -1,7 +1,7 @@
 use Rattle.std.proofs.Common.{◌≡◌, None, lit<, rules, sym, ◌∙◌}
 use Rattle.std.specs.Option.{option_map}
 use Rattle.std.proofs.lemmas.Str.Pattern.{strip_prefix_char}
-use Rattle.scene_script.specs.Numbers.{entity_in}
+use Rattle.scene_kinds.specs.EntityReading.{entity_in}
 use Rattle.scene_commands.specs.declared.target.Target.TheVariants as target
 use Rattle.scene_script.proofs.TargetLaws.{target_in-entity}
 use Rattle.scene_script.proofs.target.read_target.Goals as goal

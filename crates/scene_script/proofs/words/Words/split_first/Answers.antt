@@ -1,6 +1,7 @@
 use Rattle.std.proofs.Common.{◌≡◌, [], ◌∷◌, rules, sym, ap, ◌∙◌, None, Some, length, filter, nat_lt}
 use Rattle.std.proofs.lemmas.List.{nil_from_length}
-use Rattle.scene_script.specs.Words.{without_spaces, cut_at}
+use Rattle.scene_kinds.specs.EntityReading.{cut_at}
+use Rattle.scene_script.specs.Words.{without_spaces}
 use Rattle.scene_script.proofs.WordLaws.{first_word, last_word, one_word}
 use Rattle.scene_script.proofs.words.Words.split_first.Goals as goal
 
