@@ -135,6 +135,7 @@ impl<R> Source<R> {
 
 impl<R: Read> Source<R> {
     ghost use Rattle.scene_streams.specs.Source.{reader_of, turns_left, read_failed};
+    ghost use Rattle.scene_streams.specs.Read.{IsRead};
     ghost use Rattle.scene_streams.specs.Turns.{TurnGives};
 
     /// One call of the reader. The bytes that it gave stand at the front of the chunk.
@@ -162,14 +163,9 @@ impl<R: Read> Source<R> {
     /// and the turns taken.
     pub fn read_all(&mut self, alloc: Global) -> Result<Vec<u8>, ReadError>
         ensures all { IfOk result (λ v. IfSome (R.remaining (reader_of self.old)) (λ bytes. v.items ≡ bytes)) }
-        ensures end { OnOk result (IsAtEnd (R.remaining (reader_of self.new))) }
         ensures within { IfOk result (λ v. vec_len v ≤ most_bytes) }
-        ensures mark { (result ≡ Err Fault) ↔ (read_failed self.new ≡ true) }
-        ensures stays { read_failed self.old ≡ true → self.new ≡ self.old }
-        ensures turns { read_failed self.old ≡ false → IfErr result (λ e. e ≡ Fault → turns_left self.new < turns_left self.old) }
+        ensures read { IsRead R.remaining self.old self.new result Fault TooLong }
         ensures spent { turns_left self.new ≤ turns_left self.old }
-        ensures long { IfErr result (λ e. e ≡ TooLong
-            → (turns_left self.new ≡ 0) ⊎ IfSome (R.remaining (reader_of self.old)) (λ bytes. most_bytes < length bytes)) }
         ensures some { OnErr result (ConsumesSome (R.remaining (reader_of self.old)) (R.remaining (reader_of self.new))) }
     {
         if self.has_failed {
