@@ -11,7 +11,8 @@
 //! `Keep` and `KeptLines` are what keeps lines for good, as a store does: what was kept stays, and lines come behind it.
 //!
 //! `specs/Source.antt` and `specs/Sink.antt` have what a clause sees of the two, `specs/Limits.antt` how much is read,
-//! and `specs/Known.antt` what is known of a stream after a refusal.
+//! and `specs/Known.antt` what is known of a stream after a refusal. `specs/Read.antt` and `specs/Written.antt` say in
+//! one record each what a caller knows once it has read a source, and once it has written to a sink.
 #![tactic(auto)]
 
 mod keep;

@@ -134,8 +134,8 @@ impl<R> Source<R> {
 }
 
 impl<R: Read> Source<R> {
-    ghost use Rattle.scene_streams.specs.Source.{reader_of, turns_left, read_failed};
     ghost use Rattle.scene_streams.specs.Read.{IsRead};
+    ghost use Rattle.scene_streams.specs.Source.{reader_of, turns_left, read_failed};
     ghost use Rattle.scene_streams.specs.Turns.{TurnGives};
 
     /// One call of the reader. The bytes that it gave stand at the front of the chunk.
