@@ -1,4 +1,5 @@
 //! The raw changes of a world: those of which the commands are made, and those that take them back.
+//! `World` has them in `world/raw`, each with the contract that stands here.
 ghost use Rattle.std.specs.Prelude.{◌≡◌, ◌<◌, [], true, Some, IsSome, IfOk, OnOk, OnErr, IsOk};
 ghost use Rattle.scene_kinds.specs.Cells.{cell_of};
 ghost use Rattle.scene_links.specs.Forest.{children_of, link_in};

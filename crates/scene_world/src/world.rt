@@ -59,12 +59,24 @@ impl Model for World {
 
     ghost Value = { Housed };
 
-    ghost coded = { Prim.hlevel (codes, shape.the_row.coded, tables_code, rooms_code, coded_list coded_ℕ, names_code, forest_code, resources_code) };
+    ghost coded = { Prim.hlevel (
+      codes,
+      shape.the_row.coded,
+      tables_code,
+      rooms_code,
+      coded_list coded_ℕ,
+      names_code,
+      forest_code,
+      resources_code,
+    ) };
 
     ghost use Rattle.scene_world.specs.Room.{room_of};
     ghost use Rattle.scene_world.specs.Stored.{world_of, AreSound};
 
-    ghost view = { λ w. record { world = world_of w.schema w.slots w.tick w.tables.tables w.links.forest w.resources; room = room_of w.slots w.tables w.links w.resources } };
+    ghost view = { λ w. record {
+      world = world_of w.schema w.slots w.tick w.tables.tables w.links.forest w.resources;
+      room = room_of w.slots w.tables w.links w.resources;
+    } };
 
     ghost invariant = { λ w. AreSound (world_of w.schema w.slots w.tick w.tables.tables w.links.forest w.resources) w.tables.homes };
 }
