@@ -12,7 +12,7 @@ use Rattle.scene_kinds.specs.declared.value.Value.TheVariants as value
 use Rattle.scene_kinds.specs.Entity.{entity_text}
 use Rattle.scene_kinds.specs.Ranges.{is_i64, are_three, is_entity, is_in_range}
 use Rattle.scene_kinds.specs.Shape.{shape_of_value}
-use Rattle.scene_script.proofs.NumberLaws.{entity_in-text}
+use Rattle.scene_kinds.proofs.EntityReading.{entity_in-text}
 use Rattle.scene_json_forms.specs.Reading.{◌>>=◌, field, elements, place_in}
 use Rattle.scene_json_forms.specs.Text.{items_of, int_text, count_text, entity_json, value_text, shape_text, cell_text, resource_cell_text}
 use Rattle.scene_json_forms.specs.Walk.{int_at, tick_at, entity_at, shape_at, three_of, value_at, cell_from, cell_at, resource_cell_at}

@@ -13,8 +13,8 @@ use Rattle.scene_kinds.specs.declared.shape.Shape.TheVariants as shape
 use Rattle.scene_kinds.specs.declared.value.Value.{Value}
 use Rattle.scene_kinds.specs.declared.value.Value.TheVariants as value
 use Rattle.scene_kinds.specs.Shape.{shape_name, shape_named, shape_of_value}
-use Rattle.scene_script.specs.Numbers.{entity_in}
-use Rattle.scene_script.proofs.NumberLaws.{entity_in-was}
+use Rattle.scene_kinds.specs.EntityReading.{entity_in}
+use Rattle.scene_kinds.proofs.EntityReading.{entity_in-was}
 use Rattle.scene_json_forms.specs.declared.fault.FileFault.TheVariants.{BadField}
 use Rattle.scene_json_forms.specs.Reading.{◌>>=◌, field, if_good, below, string_at, list_at, place_in}
 use Rattle.scene_json_forms.specs.Text.{array_of, count_text, int_text, entity_json, value_text, shape_text, cell_text, resource_cell_text}

@@ -11,7 +11,7 @@ use Rattle.scene_kinds.specs.declared.value.Value.{Value}
 use Rattle.scene_kinds.specs.declared.value.Value.TheVariants as value
 use Rattle.scene_kinds.specs.Schema.{is_good_name}
 use Rattle.scene_kinds.specs.Shape.{shape_named}
-use Rattle.scene_script.specs.Numbers.{entity_in}
+use Rattle.scene_kinds.specs.EntityReading.{entity_in}
 use Rattle.scene_json_forms.specs.declared.fault.FileFault.{FileFault}
 use Rattle.scene_json_forms.specs.declared.fault.FileFault.TheVariants.{BadField}
 use Rattle.scene_json_forms.specs.Reading.{◌>>=◌, field, if_good, below, string_at, list_at, each_at, place_in}

@@ -2,7 +2,7 @@
 ghost use Rattle.std.specs.Prelude.{◌≡◌, Ok, IfOk, IfErr, string_bytes};
 ghost use Rattle.scene_json.specs.View.{view};
 ghost use Rattle.scene_kinds.specs.Shape.{shape_named as named_shape};
-ghost use Rattle.scene_script.specs.Numbers.{entity_in};
+ghost use Rattle.scene_kinds.specs.EntityReading.{entity_in};
 ghost use Rattle.scene_json_forms.specs.Outcome.{IsTextFault};
 ghost use Rattle.scene_json_forms.specs.Paths.{path_bytes};
 ghost use Rattle.scene_json_forms.specs.Reading.{string_at};
@@ -11,8 +11,7 @@ use crate::fault::FileFault;
 use crate::form::{Form, field};
 use crate::path::{Path, bad_field};
 use scene_json::Part;
-use scene_kinds::{Entity, Shape, good_name};
-use scene_script::read_entity;
+use scene_kinds::{Entity, Shape, good_name, read_entity};
 use std::alloc::Global;
 
 /// The text of a value that is a string. It copies nothing.

@@ -1,5 +1,5 @@
 //! Rows, and the cells of a row by their kinds.
-ghost use Rattle.std.specs.Prelude.{◌≡◌, ◌<◌, ◌^◌, ◌↔◌, IsTrue, [], length, vec_len, vec_capacity, IfOk, IsOk, OnOk, OnErr, IfSome, IfNone, IsSome, None, Some, not, nat_eq, nat_lt};
+ghost use Rattle.std.specs.Prelude.{◌≡◌, ◌<◌, ◌^◌, ◌↔◌, IsTrue, [], length, IfOk, IsOk, OnOk, OnErr, IfSome, IfNone, IsSome, None, Some, not, nat_eq, nat_lt};
 ghost use Rattle.std.specs.List.{position_from};
 ghost use Rattle.std.specs.Option.{option_map};
 ghost use Rattle.scene_kinds.specs.Cells.{cell_of, with_cell, without_cell, mask_of, shown, IsAscending, AreKindsBelow, IsPlaceOf, IsTakenAt, IsNext, GoesLast};
@@ -97,20 +97,6 @@ impl Cells {
         put_cell(&mut self.items, kind, cell)
     }
 
-    /// These cells with a cell put in as `put` does it, in memory that was found before: an empty list with room
-    /// for one more cell than there are. So it can't fail, and takes no memory.
-    pub fn put_into(self, room: Vec<(u8, Cell)>, kind: u8, cell: Cell) -> Cells
-        requires empty { room.items ≡ [] }
-        requires fits { length self < vec_capacity room }
-        ensures { result ≡ with_cell self kind cell }
-    {
-        let Cells { mut items } = self;
-        let mut roomy = room;
-        roomy.append(&mut items).unwrap();
-        put_cell(&mut roomy, kind, cell).unwrap();
-        Cells { items: roomy }
-    }
-
     /// Takes out the cell of a kind, or gives `None` where it has none. It takes no memory, and costs a walk over
     /// the cells.
     pub fn remove(&mut self, kind: u8) -> Option<Cell>
@@ -188,11 +174,10 @@ fn place_for(items: &[(u8, Cell)], kind: u8) -> Option<usize>
     find_next(items, kind)
 }
 
-/// Puts a cell at its place among cells; it fails only where there is no room.
+/// Puts a cell at its place among cells.
 fn put_cell(items: &mut Vec<(u8, Cell)>, kind: u8, cell: Cell) -> Result<(), AllocError>
     ensures done { OnOk result (items.new.items ≡ with_cell items.old.items kind cell) }
     ensures full { OnErr result (items.new.items ≡ items.old.items) }
-    ensures succeeds { vec_len items.old < vec_capacity items.old → IsOk result }
 {
     match place_for(items.as_slice(), kind) {
         None => items.push((kind, cell))?,
