@@ -1,5 +1,5 @@
--- Which bytes are a whole number, and of what value, and why others are none. A number has just one text: the one that
--- it prints as.
+-- Which bytes are a whole number, and of what value, and why others are none. A number has just one text: the one
+-- that it prints as.
 use Rattle.std.specs.Prelude.{ℕ, ℤ, pos, negsuc, ◌^◌, List, [], ◌∷◌, ◌==◌, Bool, false, not, ◌&&◌, Option, Some, None, Result, length, nat_eq, nat_lt, if◌then◌else◌}
 use Rattle.std.specs.List.{list_all}
 use Rattle.std.specs.Char.{is_ascii_digit}
