@@ -8,6 +8,7 @@ use crate::kept::Kept;
 use crate::lock::WordLock;
 use crate::look::Look;
 use crate::pass::Pass;
+use crate::plays::AsItWas;
 use crossbeam_utils::Backoff;
 use std::alloc::Global;
 use std::sync::{Arc, Wait};
@@ -32,7 +33,7 @@ impl<S: Kept + Drop> WordLock<S> {
             Err(pass) => return (pass, None),
         };
         let share = Arc::try_clone(&state);
-        let pass = self.put_as_it_was(holder, state);
+        let pass = self.put_back::<AsItWas>(holder, state);
         match share {
             Ok(share) => (pass, Some(question.look(alloc, &share))),
             Err(_) => (pass, None),

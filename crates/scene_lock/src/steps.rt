@@ -2,7 +2,7 @@
 //! of a lock.
 ghost use Rattle.std.specs.Prelude.{◌≡◌, ◌+◌, ◌-◌, ◌≤◌, ◌++◌, ◌∷◌, ℕ, suc, true, [], IfOk, IfErr, MatchResult, None, Some, vec_capacity, vec_len};
 ghost use Rattle.std.specs.Arc.{arc_value};
-ghost use Rattle.scene_lock.specs.declared.knowledge.Kind.TheVariants.{TakeToChange, TakeToShare, PutChanged, PutAsItWas, PutWanted};
+ghost use Rattle.scene_lock.specs.declared.knowledge.Kind.TheVariants.{TakeToChange, TakeToShare};
 ghost use Rattle.scene_lock.specs.History.{IsLegal};
 ghost use Rattle.scene_lock.specs.Members.{member, seen_of, made_by, new_seat, opening_seat};
 ghost use Rattle.scene_lock.specs.Pass.{IsPassOf, Follows, first_pass, first_passes};
@@ -14,18 +14,9 @@ use crate::kept::Kept;
 use crate::knowledge::Knowledge;
 use crate::lock::WordLock;
 use crate::pass::Pass;
-use crate::plays::{AsItWas, Changed, Part, ToChange, ToShare, Wanted};
+use crate::plays::{FREE, OUT, Part, Put, PutKind, ToChange, ToShare, WANTED};
 use atomic_table::Seat;
 use std::sync::Arc;
-
-/// The state is at home, and nobody asks for it.
-pub(crate) const FREE: u64 = 0;
-
-/// The state is out with a thread.
-pub(crate) const OUT: u64 = 1;
-
-/// The state is at home, and a `write` wants it: no new share is given out.
-const WANTED: u64 = 2;
 
 impl<S: Kept> WordLock<S> {
     /// The word at which a change may take the state out, should it still be this one then.
@@ -115,51 +106,19 @@ impl<S: Kept> WordLock<S> {
         (seat, number)
     }
 
-    /// Puts the state back with one entry of the session more, and leaves it free.
-    pub(crate) fn put_changed(&self, holder: Holder<S>, state: Arc<S>) -> Pass<S>
+    /// Puts the state back by a step of this kind.
+    pub(crate) fn put_back<P: PutKind>(&self, holder: Holder<S>, state: Arc<S>) -> Pass<S>
         requires lock { IsPassOf self.now holder }
         requires good { IsStateOf S.good S.opening self.now.terms.opening (arc_value state) }
-        requires moved { Moves S.session PutChanged holder.session holder.seen (S.entries (arc_value state)) }
+        requires moved { Moves S.session P.kind holder.session holder.seen (S.entries (arc_value state)) }
         ensures pass { result ≡ record holder {
           seen = S.entries (arc_value state);
-          steps = holder.steps ++ step_of holder.session PutChanged 1 0 ∷ [];
+          steps = holder.steps ++ step_of holder.session P.kind 1 P.WORD ∷ [];
         } }
         ensures legal { IsLegal S.legal S.session self.now.terms (S.entries (arc_value state)) }
     {
         let (mut seat, number) = self.fill(holder, state);
-        self.table.shared.swap::<Changed<S>>(&mut seat, 0, FREE);
-        Pass { seat, number }
-    }
-
-    /// Puts the state back as it was, and leaves it free.
-    pub(crate) fn put_as_it_was(&self, holder: Holder<S>, state: Arc<S>) -> Pass<S>
-        requires lock { IsPassOf self.now holder }
-        requires good { IsStateOf S.good S.opening self.now.terms.opening (arc_value state) }
-        requires moved { Moves S.session PutAsItWas holder.session holder.seen (S.entries (arc_value state)) }
-        ensures pass { result ≡ record holder {
-          seen = S.entries (arc_value state);
-          steps = holder.steps ++ step_of holder.session PutAsItWas 1 0 ∷ [];
-        } }
-        ensures legal { IsLegal S.legal S.session self.now.terms (S.entries (arc_value state)) }
-    {
-        let (mut seat, number) = self.fill(holder, state);
-        self.table.shared.swap::<AsItWas<S>>(&mut seat, 0, FREE);
-        Pass { seat, number }
-    }
-
-    /// Puts the state back as it was, and leaves it wanted: no new share is given out until it was changed.
-    pub(crate) fn put_wanted(&self, holder: Holder<S>, state: Arc<S>) -> Pass<S>
-        requires lock { IsPassOf self.now holder }
-        requires good { IsStateOf S.good S.opening self.now.terms.opening (arc_value state) }
-        requires moved { Moves S.session PutWanted holder.session holder.seen (S.entries (arc_value state)) }
-        ensures pass { result ≡ record holder {
-          seen = S.entries (arc_value state);
-          steps = holder.steps ++ step_of holder.session PutWanted 1 2 ∷ [];
-        } }
-        ensures legal { IsLegal S.legal S.session self.now.terms (S.entries (arc_value state)) }
-    {
-        let (mut seat, number) = self.fill(holder, state);
-        self.table.shared.swap::<Wanted<S>>(&mut seat, 0, WANTED);
+        self.table.shared.swap::<Put<S, P>>(&mut seat, 0, P::WORD);
         Pass { seat, number }
     }
 

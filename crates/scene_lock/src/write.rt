@@ -11,7 +11,7 @@ use crate::holder::Holder;
 use crate::kept::Kept;
 use crate::lock::WordLock;
 use crate::pass::Pass;
-use crate::steps::FREE;
+use crate::plays::{AsItWas, Changed, FREE, Wanted};
 use crossbeam_utils::Backoff;
 use std::alloc::Global;
 use std::sync::{Arc, Wait};
@@ -73,8 +73,8 @@ impl<S: Kept> WordLock<S> {
         ensures legal { IsLegal S.legal S.session self.now.terms (S.entries (arc_value state)) }
     {
         match reply {
-            Ok(_) => self.put_changed(holder, state),
-            Err(_) => self.put_as_it_was(holder, state),
+            Ok(_) => self.put_back::<Changed>(holder, state),
+            Err(_) => self.put_back::<AsItWas>(holder, state),
         }
     }
 
@@ -104,7 +104,7 @@ impl<S: Kept> WordLock<S> {
         };
         match change_alone(alloc, &mut share, job, holder.session()) {
             Ok(reply) => (self.put_after(holder, share, &reply), Ok(reply)),
-            Err(job) => (self.put_as_it_was(holder, share), Err(job)),
+            Err(job) => (self.put_back::<AsItWas>(holder, share), Err(job)),
         }
     }
 
@@ -131,7 +131,7 @@ impl<S: Kept> WordLock<S> {
         };
         match change_waiting(rt, alloc, &mut share, job, holder.session()) {
             Ok(reply) => (self.put_after(holder, share, &reply), Ok(reply)),
-            Err(job) => (self.put_wanted(holder, share), Err(job)),
+            Err(job) => (self.put_back::<Wanted>(holder, share), Err(job)),
         }
     }
 
