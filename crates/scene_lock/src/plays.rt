@@ -25,18 +25,30 @@ pub(crate) const OUT: u64 = 1;
 /// The state is at home, and a `write` wants it: no new share is given out.
 pub(crate) const WANTED: u64 = 2;
 
-/// The state is taken out to be changed, at word 0 or at word 2.
-pub(crate) struct ToChange<S>(PhantomData<S>);
-
-impl<S: Kept> Play<Option<Arc<S>>, Knowledge<S::Entry, S::Opening>> for ToChange<S> {
-    ghost then = { taken (shared_good S.good S.opening) (shared_entries S.entries) S.legal S.session TakeToChange };
+/// What the state is taken out for: by which kind of step.
+pub(crate) trait TakeKind {
+    ghost kind: { Kind };
 }
 
-/// The state is taken out to be shared, at word 0.
-pub(crate) struct ToShare<S>(PhantomData<S>);
+/// To be changed, at word 0 or at word 2.
+pub(crate) struct ToChange;
 
-impl<S: Kept> Play<Option<Arc<S>>, Knowledge<S::Entry, S::Opening>> for ToShare<S> {
-    ghost then = { taken (shared_good S.good S.opening) (shared_entries S.entries) S.legal S.session TakeToShare };
+impl TakeKind for ToChange {
+    ghost kind = { TakeToChange };
+}
+
+/// To be shared, at word 0.
+pub(crate) struct ToShare;
+
+impl TakeKind for ToShare {
+    ghost kind = { TakeToShare };
+}
+
+/// The state is taken out.
+pub(crate) struct Take<S, T>(PhantomData<(S, T)>);
+
+impl<S: Kept, T: TakeKind> Play<Option<Arc<S>>, Knowledge<S::Entry, S::Opening>> for Take<S, T> {
+    ghost then = { taken (shared_good S.good S.opening) (shared_entries S.entries) S.legal S.session T.kind };
 }
 
 /// How the state is put back: by which kind of step, and which word that leaves.

@@ -8,7 +8,7 @@ use crate::kept::Kept;
 use crate::lock::WordLock;
 use crate::look::Look;
 use crate::pass::Pass;
-use crate::plays::AsItWas;
+use crate::plays::{AsItWas, FREE, ToShare};
 use crossbeam_utils::Backoff;
 use std::alloc::Global;
 use std::sync::{Arc, Wait};
@@ -28,7 +28,7 @@ impl<S: Kept + Drop> WordLock<S> {
             (λ s. L.answers question.now s a)) }
         ensures steps { TriesToRead pass.session pass.steps result.1 result.0.steps }
     {
-        let (state, holder) = match self.take_to_share(pass) {
+        let (state, holder) = match self.take::<ToShare>(pass, FREE) {
             Ok(taken) => taken,
             Err(pass) => return (pass, None),
         };

@@ -2,19 +2,18 @@
 //! of a lock.
 ghost use Rattle.std.specs.Prelude.{◌≡◌, ◌+◌, ◌-◌, ◌≤◌, ◌++◌, ◌∷◌, ℕ, suc, true, [], IfOk, IfErr, MatchResult, None, Some, vec_capacity, vec_len};
 ghost use Rattle.std.specs.Arc.{arc_value};
-ghost use Rattle.scene_lock.specs.declared.knowledge.Kind.TheVariants.{TakeToChange, TakeToShare};
 ghost use Rattle.scene_lock.specs.History.{IsLegal};
 ghost use Rattle.scene_lock.specs.Members.{member, seen_of, made_by, new_seat, opening_seat};
 ghost use Rattle.scene_lock.specs.Pass.{IsPassOf, Follows, first_pass, first_passes};
 ghost use Rattle.scene_lock.specs.Shared.{HasTaken, IsStateOf, Carries};
-ghost use Rattle.scene_lock.specs.Steps.{IsFree, Moves, step_of};
+ghost use Rattle.scene_lock.specs.Steps.{IsFree, Turns, Moves, step_of};
 
 use crate::holder::Holder;
 use crate::kept::Kept;
 use crate::knowledge::Knowledge;
 use crate::lock::WordLock;
 use crate::pass::Pass;
-use crate::plays::{FREE, OUT, Part, Put, PutKind, ToChange, ToShare, WANTED};
+use crate::plays::{FREE, OUT, Part, Put, PutKind, Take, TakeKind, WANTED};
 use atomic_table::Seat;
 use std::sync::Arc;
 
@@ -35,7 +34,8 @@ impl<S: Kept> WordLock<S> {
     ) -> (Arc<S>, Holder<S>)
         requires lock { seat.table_id ≡ self.now.id }
         requires out { Carries seat.me.1 }
-        requires holds { (seat.me.0.holding ≡ true) × (seat.me.0.members ≡ member number (seen_of seat.me.0.members) (made_by seat.me.0.members) ∷ []) }
+        requires holding { seat.me.0.holding ≡ true }
+        requires alone { seat.me.0.members ≡ member number (seen_of seat.me.0.members) (made_by seat.me.0.members) ∷ [] }
         ensures state { seat.me.1 ≡ (0, Some result.0) ∷ [] }
         ensures holder { result.1 ≡ record {
           id = self.now.id;
@@ -50,38 +50,22 @@ impl<S: Kept> WordLock<S> {
         (state, Holder { seat, number })
     }
 
-    /// Takes the state out to share it, at word 0. Else the pass has looked at the history.
-    pub(crate) fn take_to_share(&self, pass: Pass<S>) -> Result<(Arc<S>, Holder<S>), Pass<S>>
-        requires { IsPassOf self.now pass }
-        ensures taken { IfOk result (λ t. HasTaken S.good S.opening S.entries S.legal S.session self.now pass t.0 t.1) }
-        ensures busy { IfErr result (λ p. Follows S.legal S.session self.now pass p) }
-        ensures steps { MatchResult result (λ t. t.1.steps ≡ pass.steps ++ step_of pass.session TakeToShare 0 1 ∷ []) (λ p. p.steps ≡ pass.steps) }
-    {
-        let Pass { mut seat, number } = pass;
-        let shared = &self.table.shared;
-        let found = shared.compare_exchange::<ToShare<S>>(&mut seat, 0, FREE, OUT);
-        if found != FREE {
-            return Err(Pass { seat, number });
-        }
-        Ok(self.lift(seat, number))
-    }
-
-    /// Takes the state out to change it, at this word. Else the pass has looked at the history.
-    pub(crate) fn take_to_change(
+    /// Takes the state out by a step of this kind, at this word. Else the pass has looked at the history.
+    pub(crate) fn take<T: TakeKind>(
         &self,
         pass: Pass<S>,
         from: u64,
     ) -> Result<(Arc<S>, Holder<S>), Pass<S>>
         requires lock { IsPassOf self.now pass }
-        requires free { IsFree from }
+        requires turns { Turns T.kind from 1 }
         ensures taken { IfOk result (λ t. HasTaken S.good S.opening S.entries S.legal S.session self.now pass t.0 t.1) }
         ensures busy { IfErr result (λ p. Follows S.legal S.session self.now pass p) }
         ensures steps { MatchResult result
-            (λ t. t.1.steps ≡ pass.steps ++ step_of pass.session TakeToChange from 1 ∷ []) (λ p. p.steps ≡ pass.steps) }
+            (λ t. t.1.steps ≡ pass.steps ++ step_of pass.session T.kind from 1 ∷ []) (λ p. p.steps ≡ pass.steps) }
     {
         let Pass { mut seat, number } = pass;
         let shared = &self.table.shared;
-        let found = shared.compare_exchange::<ToChange<S>>(&mut seat, 0, from, OUT);
+        let found = shared.compare_exchange::<Take<S, T>>(&mut seat, 0, from, OUT);
         if found != from {
             return Err(Pass { seat, number });
         }

@@ -11,7 +11,7 @@ use crate::holder::Holder;
 use crate::kept::Kept;
 use crate::lock::WordLock;
 use crate::pass::Pass;
-use crate::plays::{AsItWas, Changed, FREE, Wanted};
+use crate::plays::{AsItWas, Changed, FREE, ToChange, Wanted};
 use crossbeam_utils::Backoff;
 use std::alloc::Global;
 use std::sync::{Arc, Wait};
@@ -98,7 +98,7 @@ impl<S: Kept> WordLock<S> {
         ensures busy { IfErr result.1 (λ j. (j ≡ job) × Follows S.legal S.session self.now pass result.0) }
         ensures steps { TriesToWrite pass.session pass.steps result.1 result.0.steps }
     {
-        let (mut share, holder) = match self.take_to_change(pass, FREE) {
+        let (mut share, holder) = match self.take::<ToChange>(pass, FREE) {
             Ok(taken) => taken,
             Err(pass) => return (pass, Err(job)),
         };
@@ -125,7 +125,7 @@ impl<S: Kept> WordLock<S> {
         ensures steps { Attempts pass.session pass.steps result.1 result.0.steps }
     {
         let from = self.free_word();
-        let (mut share, holder) = match self.take_to_change(pass, from) {
+        let (mut share, holder) = match self.take::<ToChange>(pass, from) {
             Ok(taken) => taken,
             Err(pass) => return (pass, Err(job)),
         };
