@@ -12,7 +12,7 @@ use Rattle.scene_command_line.specs.Asks.{Asks, Nothing}
 use Rattle.scene_command_line.specs.Words.{AsksFor, backup_asked, backup_shape}
 use Rattle.scene_command_line.specs.Plain.{asks_for_backup, is_option, plainly_asked}
 use Rattle.scene_command_line.proofs.CommandLaws.{named}
-use Rattle.scene_command_line.proofs.EnterLaws.{backup_fails, backup_in, leaf_fault, leaf_rows, level_third, no_dashes, no_long, no_short, refused_once, start, taken}
+use Rattle.scene_command_line.proofs.EnterLaws.{enters_backup, leaf_fault, leaf_rows, level_third, no_dashes, no_long, no_short, refused_once, start, taken}
 use Rattle.scene_command_line.proofs.FileLaws.{word_turn, word_walked}
 
 abbrev leaf : Shape
@@ -65,20 +65,20 @@ module _ (file : Text) (plain : is_option file ≡ false) where
 module _ (name : Text) (asks : Asks) where
   -- without two files a backup is bad
   pub backup_bare : AsksFor asks (name ∷ codes "backup" ∷ []) → asks ≡ plainly_asked (name ∷ codes "backup" ∷ [])
-  backup_bare means = refused_once _ _ asks MissingRequiredArgument refl (backup_fails name [] ∙ no_files) means
+  backup_bare means = refused_once _ _ asks MissingRequiredArgument refl (enters_backup.fails name [] ∙ no_files) means
 
   pub backup_half : (file : Text) → is_option file ≡ false → AsksFor asks (name ∷ codes "backup" ∷ file ∷ [])
       → asks ≡ plainly_asked (name ∷ codes "backup" ∷ file ∷ [])
   backup_half file plain means =
-      refused_once _ _ asks MissingRequiredArgument refl (backup_fails name (file ∷ []) ∙ no_copy file plain) means
+      refused_once _ _ asks MissingRequiredArgument refl (enters_backup.fails name (file ∷ []) ∙ no_copy file plain) means
 
   -- with two it asks for a copy of the one in the other
   pub backup_named_answer : (file copy : Text) → is_option file ≡ false → is_option copy ≡ false
       → AsksFor asks (name ∷ codes "backup" ∷ file ∷ copy ∷ [])
       → asks ≡ plainly_asked (name ∷ codes "backup" ∷ file ∷ copy ∷ [])
   backup_named_answer file copy plain plainly means =
-      taken _ _ _ asks (backup_fails name (file ∷ copy ∷ []) ∙ both file plain copy plainly)
-      (backup_in name (file ∷ copy ∷ [])
+      taken _ _ _ asks (enters_backup.fails name (file ∷ copy ∷ []) ∙ both file plain copy plainly)
+      (enters_backup.has name (file ∷ copy ∷ [])
       ∙ ap₂ backup_asked (file_named file plain copy plainly) (copy_named file plain copy plainly)) means
 
   -- and with a word more it is bad
@@ -86,7 +86,7 @@ module _ (name : Text) (asks : Asks) where
       → is_option next ≡ false → AsksFor asks (name ∷ codes "backup" ∷ file ∷ copy ∷ next ∷ rest) → asks ≡ Nothing
   backup_further file copy next rest plain plainly fine means =
       refused_once _ _ asks UnknownArgument refl
-      (backup_fails name (file ∷ copy ∷ next ∷ rest) ∙ three_words file plain copy plainly next rest fine) means
+      (enters_backup.fails name (file ∷ copy ∷ next ∷ rest) ∙ three_words file plain copy plainly next rest fine) means
 
 -- a command line with `backup` and two words that are no options asks for what it plainly asks for
 pub backup_answer : (words : List Text) (asks : Asks) → asks_for_backup words ≡ true → AsksFor asks words
