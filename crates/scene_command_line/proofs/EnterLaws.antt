@@ -5,7 +5,7 @@ use Rattle.std.specs.Option.{option_map_or}
 use Rattle.std.specs.Str.{bytes_eq}
 use Rattle.clap.specs.Words.{App, Kinds, Row, Shape, Text, fault_of, built}
 use Rattle.clap.specs.Kinds.{or_else}
-use Rattle.clap.specs.Simple.{built_leaf, entered, label_of, names_of, new_shape, rows_at}
+use Rattle.clap.specs.Simple.{built_leaf, entered, label_of, names_of, rows_at}
 use Rattle.clap.specs.Walk.{Held, Names, Walk, answers_to, finished, nothing_held, rows_after, settled, walk, walk_from, walked}
 use Rattle.clap.specs.Faults.{built_fault, check_fault, defaults_fault, entered_fault, level_fault, settle_fault, turn_fault, walk_fault}
 use Rattle.clap.specs.Lexer.{long_of, short_of}
@@ -15,7 +15,7 @@ use Rattle.clap.proofs.OnLiterals.{clap_on_literals}
 use Rattle.clap.proofs.WalkLemmas.{walk_stopped}
 use Rattle.scene_command_line.specs.Asks.{Asks, Nothing}
 use Rattle.scene_command_line.specs.Plain.{is_option}
-use Rattle.scene_command_line.specs.Words.{Answers, backup_shape, by_kind, command_in, command_named, command_of, file_shape, run_shape, scene_line, shell_shape}
+use Rattle.scene_command_line.specs.Words.{Answers, by_kind, command_in, command_named, command_of, run_shape, scene_line, shell_shape}
 
 -- ---- words that are no options
 
@@ -145,7 +145,7 @@ pub record Enters (command : Text) (s : Shape) : Type 0 where
       → command_in (name ∷ command ∷ words) ≡ command_named command (leaf_rows s words)
 
 -- so it is where the name enters the command
-by_name : (command : Text) (s : Shape)
+pub by_name : (command : Text) (s : Shape)
     → walked line.top.rules (names_of line) start command ≡ record start { stopped = Some (command, []) }
     → turn_fault line.top (names_of line) start command ≡ []
     → find (λ sub. answers_to command (label_of sub)) line.subs ≡ Some (built_leaf s)
@@ -160,32 +160,8 @@ by_name command s enters passes is_one named = record {
 
 pub enters_run : Enters (codes "run") run_shape
 unfolding clap_on_literals
-enters_run = by_name _ run_shape refl refl refl refl
+enters_run = by_name _ _ refl refl refl refl
 
 pub enters_shell : Enters (codes "shell") shell_shape
 unfolding clap_on_literals
-enters_shell = by_name _ shell_shape refl refl refl refl
-
-pub enters_check : Enters (codes "check") (new_shape (codes "check"))
-unfolding clap_on_literals
-enters_check = by_name _ (new_shape (codes "check")) refl refl refl refl
-
-pub enters_print : Enters (codes "print") (new_shape (codes "print"))
-unfolding clap_on_literals
-enters_print = by_name _ (new_shape (codes "print")) refl refl refl refl
-
-pub enters_show : Enters (codes "show") (file_shape (codes "show"))
-unfolding clap_on_literals
-enters_show = by_name _ (file_shape (codes "show")) refl refl refl refl
-
-pub enters_log : Enters (codes "log") (file_shape (codes "log"))
-unfolding clap_on_literals
-enters_log = by_name _ (file_shape (codes "log")) refl refl refl refl
-
-pub enters_compact : Enters (codes "compact") (file_shape (codes "compact"))
-unfolding clap_on_literals
-enters_compact = by_name _ (file_shape (codes "compact")) refl refl refl refl
-
-pub enters_backup : Enters (codes "backup") backup_shape
-unfolding clap_on_literals
-enters_backup = by_name _ backup_shape refl refl refl refl
+enters_shell = by_name _ _ refl refl refl refl

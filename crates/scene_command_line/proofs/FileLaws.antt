@@ -12,7 +12,7 @@ use Rattle.scene_command_line.specs.Asks.{Asks, Nothing}
 use Rattle.scene_command_line.specs.Words.{AsksFor, command_named, file_command_named, file_shape}
 use Rattle.scene_command_line.specs.Plain.{asks_for_file, is_file_command, is_option, plainly_asked}
 use Rattle.scene_command_line.proofs.CommandLaws.{by_file_command}
-use Rattle.scene_command_line.proofs.EnterLaws.{Enters, enters_compact, enters_log, enters_show, leaf_fault, leaf_rows, level_second, no_dashes, no_long, no_short, refused_once, start, taken}
+use Rattle.scene_command_line.proofs.EnterLaws.{Enters, by_name, leaf_fault, leaf_rows, level_second, no_dashes, no_long, no_short, refused_once, start, taken}
 
 -- ---- words of a command that takes a file
 
@@ -72,10 +72,11 @@ record TakesFile (command : Text) : Type 0 where
   bare : command_named command [] ≡ Nothing
 
 takes_file : (command : Text) → is_file_command command ≡ true → TakesFile command
+unfolding clap_on_literals
 takes_file command one = by_file_command TakesFile command
-    (record { enters = enters_show; reads = λ rows. refl; bare = refl })
-    (record { enters = enters_log; reads = λ rows. refl; bare = refl })
-    (record { enters = enters_compact; reads = λ rows. refl; bare = refl }) one
+    (record { enters = by_name _ _ refl refl refl refl; reads = λ rows. refl; bare = refl })
+    (record { enters = by_name _ _ refl refl refl refl; reads = λ rows. refl; bare = refl })
+    (record { enters = by_name _ _ refl refl refl refl; reads = λ rows. refl; bare = refl }) one
 
 module _ (command name : Text) (one : is_file_command command ≡ true) (asks : Asks) where
   -- without a file such a command is bad
@@ -102,10 +103,7 @@ module _ (command name : Text) (one : is_file_command command ≡ true) (asks : 
 -- a command line with such a command and one word that is no option asks for what it plainly asks for
 pub file_answer : (words : List Text) (asks : Asks) → asks_for_file words ≡ true → AsksFor asks words
     → asks ≡ plainly_asked words
-file_answer [] asks is means = absurd (false≢true is)
-file_answer (name ∷ []) asks is means = absurd (false≢true is)
-file_answer (name ∷ command ∷ []) asks is means = absurd (false≢true is)
 file_answer (name ∷ command ∷ word ∷ []) asks is means =
     let parts = and_parts (is_file_command command) _ is in
     named_answer command name parts.0 asks word (not-true _ parts.1) means
-file_answer (name ∷ command ∷ word ∷ next ∷ rest) asks is means = absurd (false≢true is)
+file_answer words asks is means = absurd (false≢true is)

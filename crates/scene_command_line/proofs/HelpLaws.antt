@@ -43,14 +43,12 @@ by_option P word long short one = elim (or_cases (bytes_eq word (codes "--help")
 ]
 
 help_line : (words : List Text) → asks_for_help words ≡ true → IsHelpLine words
-help_line [] asks = absurd (false≢true asks)
-help_line (name ∷ []) asks = absurd (false≢true asks)
 help_line (name ∷ word ∷ []) asks = by_option (λ w. IsHelpLine (name ∷ w ∷ [])) word (long_alone name) (short_alone name) asks
 help_line (name ∷ command ∷ word ∷ []) asks =
     let parts = and_parts (is_command command) (is_help_option word) asks in
     by_option (λ w. IsHelpLine (name ∷ command ∷ w ∷ [])) word (long_of name command parts.0)
     (short_of name command parts.0) parts.1
-help_line (name ∷ command ∷ word ∷ next ∷ rest) asks = absurd (false≢true asks)
+help_line words asks = absurd (false≢true asks)
 
 -- a command line that asks for help is answered with help
 pub help_answer : (words : List Text) (asks : Asks) → asks_for_help words ≡ true → AsksFor asks words → asks ≡ ToHelp

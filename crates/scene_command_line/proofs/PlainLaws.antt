@@ -11,11 +11,11 @@ use Rattle.clap.specs.Faults.{stray_fault, turn_fault}
 use Rattle.clap.specs.declared.error.kind.ErrorKind.TheVariants.{InvalidSubcommand, MissingSubcommand, UnknownArgument}
 use Rattle.clap.proofs.OnLiterals.{clap_on_literals}
 use Rattle.scene_command_line.specs.Asks.{Asks, Nothing}
-use Rattle.scene_command_line.specs.Words.{Answers, AsksFor, command_named, run_shape, scene_line, shell_shape}
+use Rattle.scene_command_line.specs.Words.{Answers, AsksFor, command_named, scene_line}
 use Rattle.scene_command_line.specs.Plain.{are_plain, is_command, is_file_command, is_option, is_plain, plainly_asked}
 use Rattle.scene_command_line.proofs.BackupLaws.{backup_bare, backup_further, backup_half, backup_named_answer}
 use Rattle.scene_command_line.proofs.CommandLaws.{IsNone, by_command, by_file_command, is_none}
-use Rattle.scene_command_line.proofs.EnterLaws.{Enters, enters_check, enters_print, enters_run, enters_shell, leaf_fault, leaf_rows, level_first, line, no_dashes, no_long, no_short, refused_once, start, taken}
+use Rattle.scene_command_line.proofs.EnterLaws.{Enters, by_name, enters_run, enters_shell, leaf_fault, leaf_rows, level_first, line, no_dashes, no_long, no_short, refused_once, start, taken}
 use Rattle.scene_command_line.proofs.FileLaws.{bare_answer, further_answer, named_answer}
 
 -- a word that is no option and no command has no place, where the command has no positional
@@ -85,69 +85,39 @@ bad_further name command word next (last ∷ rest) one = refl
 abbrev Fits : Text → List Text → Asks → Text → Type 0
 Fits name rest asks command = AsksFor asks (name ∷ command ∷ rest) → asks ≡ plainly_asked (name ∷ command ∷ rest)
 
--- a command that takes no file and needs no word
-record IsBare (command : Text) (s : Shape) : Type 0 where
-  enters : Enters command s
-  fits : leaf_fault s [] ≡ []
-  alone : command_named command (leaf_rows s []) ≡ command_named command []
-  full : arg_by_index (built_leaf s).rules 1 ≡ None
-  stray : stray_fault (built_leaf s) ≡ UnknownArgument ∷ []
-  bad : (name word : Text) (rest : List Text) → plainly_asked (name ∷ command ∷ word ∷ rest) ≡ Nothing
-
-run_is_bare : IsBare (codes "run") run_shape
-unfolding clap_on_literals
-run_is_bare = record {
-  enters = enters_run;
-  fits = refl;
-  alone = refl;
-  full = refl;
-  stray = refl;
-  bad = λ name word rest. bad_plainly name (codes "run") word rest refl refl refl refl;
-}
-
-shell_is_bare : IsBare (codes "shell") shell_shape
-unfolding clap_on_literals
-shell_is_bare = record {
-  enters = enters_shell;
-  fits = refl;
-  alone = refl;
-  full = refl;
-  stray = refl;
-  bad = λ name word rest. bad_plainly name (codes "shell") word rest refl refl refl refl;
-}
-
-check_is_bare : IsBare (codes "check") (new_shape (codes "check"))
-unfolding clap_on_literals
-check_is_bare = record {
-  enters = enters_check;
-  fits = refl;
-  alone = refl;
-  full = refl;
-  stray = refl;
-  bad = λ name word rest. bad_plainly name (codes "check") word rest refl refl refl refl;
-}
-
-print_is_bare : IsBare (codes "print") (new_shape (codes "print"))
-unfolding clap_on_literals
-print_is_bare = record {
-  enters = enters_print;
-  fits = refl;
-  alone = refl;
-  full = refl;
-  stray = refl;
-  bad = λ name word rest. bad_plainly name (codes "print") word rest refl refl refl refl;
-}
-
 module _ (name : Text) (asks : Asks) where
-  after_bare : (command : Text) (s : Shape) → IsBare command s → (rest : List Text) → list_all is_plain rest ≡ true
-      → Fits name rest asks command
-  after_bare command s bare [] plain means =
-      taken _ _ _ asks (bare.enters.fails name [] ∙ bare.fits) (bare.enters.has name [] ∙ bare.alone) means
-  after_bare command s bare (word ∷ rest) plain means =
+  -- a command that takes no file and needs no word
+  after_bare : (command : Text) (s : Shape) → Enters command s → leaf_fault s [] ≡ []
+      → command_named command (leaf_rows s []) ≡ command_named command []
+      → arg_by_index (built_leaf s).rules 1 ≡ None → stray_fault (built_leaf s) ≡ UnknownArgument ∷ []
+      → bytes_eq command (codes "backup") ≡ false → bytes_eq command (codes "show") ≡ false
+      → bytes_eq command (codes "log") ≡ false → bytes_eq command (codes "compact") ≡ false
+      → (rest : List Text) → list_all is_plain rest ≡ true → Fits name rest asks command
+  after_bare command s enters fits alone full stray backup show log compact [] plain means =
+      taken _ _ _ asks (enters.fails name [] ∙ fits) (enters.has name [] ∙ alone) means
+  after_bare command s enters fits alone full stray backup show log compact (word ∷ rest) plain means =
       refused_once _ _ asks UnknownArgument refl
-      (bare.enters.fails name (word ∷ rest)
-      ∙ leaf_refuses s word rest (is_no_option word (first_is_plain word rest plain)) bare.full bare.stray) means
-      ∙ sym (bare.bad name word rest)
+      (enters.fails name (word ∷ rest)
+      ∙ leaf_refuses s word rest (is_no_option word (first_is_plain word rest plain)) full stray) means
+      ∙ sym (bad_plainly name command word rest backup show log compact)
+
+  after_run : (rest : List Text) → list_all is_plain rest ≡ true → Fits name rest asks (codes "run")
+  unfolding clap_on_literals
+  after_run = after_bare _ _ enters_run refl refl refl refl refl refl refl refl
+
+  after_shell : (rest : List Text) → list_all is_plain rest ≡ true → Fits name rest asks (codes "shell")
+  unfolding clap_on_literals
+  after_shell = after_bare _ _ enters_shell refl refl refl refl refl refl refl refl
+
+  after_check : (rest : List Text) → list_all is_plain rest ≡ true → Fits name rest asks (codes "check")
+  unfolding clap_on_literals
+  after_check =
+      after_bare _ (new_shape (codes "check")) (by_name _ _ refl refl refl refl) refl refl refl refl refl refl refl refl
+
+  after_print : (rest : List Text) → list_all is_plain rest ≡ true → Fits name rest asks (codes "print")
+  unfolding clap_on_literals
+  after_print =
+      after_bare _ (new_shape (codes "print")) (by_name _ _ refl refl refl refl) refl refl refl refl refl refl refl refl
 
   after_file : (command : Text) → is_file_command command ≡ true → (rest : List Text) → list_all is_plain rest ≡ true
       → Fits name rest asks command
@@ -208,9 +178,9 @@ plain_answer (name ∷ []) asks plain means = refused_once _ _ asks MissingSubco
 plain_answer (name ∷ word ∷ rest) asks plain means =
     let parts = and_parts (is_plain word) (list_all is_plain rest) plain in
     elim (cases_Bool (is_command word)) [
-      | inl one ↦ by_command (Fits name rest asks) word (after_bare name asks _ _ run_is_bare rest parts.1)
-          (after_bare name asks _ _ shell_is_bare rest parts.1)
-          (after_bare name asks _ _ check_is_bare rest parts.1) (after_bare name asks _ _ print_is_bare rest parts.1)
+      | inl one ↦ by_command (Fits name rest asks) word (after_run name asks rest parts.1)
+          (after_shell name asks rest parts.1)
+          (after_check name asks rest parts.1) (after_print name asks rest parts.1)
           (after_backup name asks rest parts.1)
           (after_file name asks (codes "show") refl rest parts.1)
           (after_file name asks (codes "log") refl rest parts.1)

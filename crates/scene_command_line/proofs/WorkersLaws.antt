@@ -41,10 +41,6 @@ module _ (name word : Text) (plain : is_option word ≡ false) where
 -- a command line that gives the number of workers asks for a run with them
 pub workers_answer : (words : List Text) (asks : Asks) → asks_for_workers words ≡ true → AsksFor asks words
     → asks ≡ workers_asked words
-workers_answer [] asks is means = absurd (false≢true is)
-workers_answer (name ∷ []) asks is means = absurd (false≢true is)
-workers_answer (name ∷ command ∷ []) asks is means = absurd (false≢true is)
-workers_answer (name ∷ command ∷ option ∷ []) asks is means = absurd (false≢true is)
 workers_answer (name ∷ command ∷ option ∷ word ∷ []) asks is means =
     let parts = and_parts (bytes_eq command (codes "run")) _ is in
     let more = and_parts (bytes_eq option (codes "--workers")) _ parts.1 in
@@ -54,4 +50,4 @@ workers_answer (name ∷ command ∷ option ∷ word ∷ []) asks is means =
     let by_run = subst (λ (c : Text). AsksFor asks (name ∷ c ∷ option ∷ word ∷ [])) run means in
     let by_option = subst (λ (o : Text). AsksFor asks (name ∷ codes "run" ∷ o ∷ word ∷ [])) workers by_run in
     taken _ _ (run_asked (Some word)) asks (of_workers name word plain) (workers_in name word plain) by_option
-workers_answer (name ∷ command ∷ option ∷ word ∷ next ∷ rest) asks is means = absurd (false≢true is)
+workers_answer words asks is means = absurd (false≢true is)
