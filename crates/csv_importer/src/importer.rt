@@ -115,8 +115,8 @@ impl Importer {
         Ok(Importer { alloc, editor })
     }
 
-    /// Spawns an entity for each row of a table below its header row, in one frame, and gives their number. Where one row is
-    /// bad, none is spawned.
+    /// Spawns an entity for each row of a table below its header row, in one frame, and gives their number. Where one
+    /// row is bad, none is spawned.
     pub fn import<R: Read + Drop>(&mut self, table: R) -> Result<usize, ImportError>
         ensures same { OnErr result (self.new.editor ≡ self.old.editor) }
     {

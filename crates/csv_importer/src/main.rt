@@ -1,6 +1,6 @@
 //! Imports a table of comma-separated values into a scene: standard input has a header row of kinds and a row for each
-//! entity. All rows are one frame, so a table is taken whole or not at all, and one undo takes it back. A table that isn't
-//! taken ends the program with status 1, and says which line is bad.
+//! entity. All rows are one frame, so a table is taken whole or not at all, and one undo takes it back. A table that
+//! isn't taken ends the program with status 1, and says which line is bad.
 #![tactic(auto)]
 
 mod error;

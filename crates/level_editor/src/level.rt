@@ -113,8 +113,8 @@ impl Level {
         })
     }
 
-    /// A level that was closed: it is as it was, with all that can be taken back and made again. A text of other kinds than
-    /// a level's is refused.
+    /// A level that was closed: it is as it was, with all that can be taken back and made again. A text of other kinds
+    /// than a level's is refused.
     pub fn reopen(alloc: Global, text: &str) -> Result<Level, LevelError> {
         let motion = motion(alloc, &kinds(alloc)?)?;
         let editor = load_editor_text(alloc, text.as_bytes(), KEPT)?;
@@ -164,7 +164,8 @@ impl Level {
         Ok(Drag { starts })
     }
 
-    /// Moves what is dragged so far from where the drag began, in one frame. Where one of the things is gone, none moves.
+    /// Moves what is dragged so far from where the drag began, in one frame. Where one of the things is gone, none
+    /// moves.
     pub fn drag_to(&mut self, drag: &Drag, offset: [i64; 3]) -> Result<(), LevelError>
         ensures same { OnErr result (self.new.editor ≡ self.old.editor) }
     {
@@ -208,8 +209,8 @@ impl Level {
         Ok(())
     }
 
-    /// Lets time pass by one step: all that has a velocity moves, in one frame. Where something can't move any further, nothing
-    /// moves.
+    /// Lets time pass by one step: all that has a velocity moves, in one frame. Where something can't move any further,
+    /// nothing moves.
     pub fn step(&mut self) -> Result<(), LevelError>
         ensures same { OnErr result (self.new.editor ≡ self.old.editor) }
     {

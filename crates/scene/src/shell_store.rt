@@ -1,11 +1,12 @@
 //! A shell on the store in a file (docs/SHELL.md, "A store").
 use crate::ending::Ending;
+use crate::store_looks::told_store;
 use crate::{performer_of, style_of};
 use scene_app::AppFault;
 use scene_command_line::ShellWords;
 use scene_replay::{OpeningLimits, StorePlace, StoreShellFault, run_store_shell};
 use scene_shell::KeptFault;
-use scene_store::{FileLines, StoreFault, StoreFileFault, Unknown};
+use scene_store::{FileLines, StoreFault, Unknown};
 use std::io::BufReader;
 use std::sync::Wait;
 use std::thread::Threads;
@@ -34,12 +35,6 @@ impl<'a> StorePlace for StoreFile<'a> {
     }
 }
 
-/// Says on standard error what is wrong with the store at a path.
-fn told(rt: &HostRuntime, path: &str, fault: StoreFault) -> Ending {
-    let _told = eprintln!(rt; "scene: {}", StoreFileFault { path, fault });
-    Ending::Told
-}
-
 /// How a shell on the store at a path ended.
 fn shell_ending(
     rt: &HostRuntime,
@@ -57,7 +52,7 @@ fn shell_ending(
             StoreShellFault::Unopened(fault)
             | StoreShellFault::Unclosed(fault)
             | StoreShellFault::Shell(KeptFault::Keep(fault)),
-        ) => told(rt, path, fault),
+        ) => told_store(rt, path, fault),
     }
 }
 

@@ -1,4 +1,5 @@
--- The tables of a world by kind set: their rows, and for how many rows each has memory. And the lists of the code that they are.
+-- The tables of a world by kind set: their rows, and for how many rows each has memory. And the lists of the code that
+-- they are.
 use Rattle.std.specs.Prelude.{◌≡◌, ◌≢◌, ℕ, zero, suc, ◌<◌, ◌≤◌, List, [], ◌∷◌, true, is_some, length, map as each}
 use Rattle.std.specs.Option.{unwrap_or}
 use Rattle.std.specs.Ordering.{nat_cmp}

@@ -258,8 +258,8 @@ impl Archetypes {
         self.tables.room_holds();
     }
 
-    /// Where each entity's row stands, by the entity's index: `None` where the index is that of no row, as is each behind
-    /// the last. There is a home for each index for which one can be written.
+    /// Where each entity's row stands, by the entity's index: `None` where the index is that of no row, as is each
+    /// behind the last. There is a home for each index for which one can be written.
     pub fn homes(&self) -> &[Option<Home>]
         ensures are { AreHomes self.now.tables result.now }
         ensures count { length result.now ≡ self.now.homes }
@@ -291,8 +291,8 @@ impl Archetypes {
         self.tables.table_of_row(home)
     }
 
-    /// The cell of a kind in the row at a home, or `None` where the row doesn't have that kind. It costs a walk over the
-    /// table's kinds.
+    /// The cell of a kind in the row at a home, or `None` where the row doesn't have that kind. It costs a walk over
+    /// the table's kinds.
     pub fn cell(&self, home: Home, kind: u8) -> Option<CellRef<'_>>
         requires { IsWithin self.now.tables home }
         ensures { option_map shown result ≡ cell_at (rows_at self.now.tables home.mask) home.place kind }
@@ -316,8 +316,8 @@ impl Archetypes {
         self.tables.kind_sets()
     }
 
-    /// Equal rows, with room for the homes of as many indices, or an error where no memory was found. It costs a copy of
-    /// all rows.
+    /// Equal rows, with room for the homes of as many indices, or an error where no memory was found. It costs a copy
+    /// of all rows.
     pub fn try_clone(&self) -> Result<Archetypes, AllocError>
         ensures tables { IfOk result (λ copy. copy.tables ≡ self.now.tables) }
         ensures homes { IfOk result (λ copy. copy.homes ≡ self.now.homes) }

@@ -136,8 +136,8 @@ impl KindTables {
         }
     }
 
-    /// Makes room for one more row of a kind set. It fails only where that room isn't there yet and no memory was found.
-    /// The rows stay.
+    /// Makes room for one more row of a kind set. It fails only where that room isn't there yet and no memory was
+    /// found. The rows stay.
     pub(crate) fn reserve(&mut self, mask: KindSet) -> Result<(), AllocError>
         ensures tables { self.new.tables ≡ self.old.tables }
         ensures room { OnOk result (HasRoomFor self.new mask) }
@@ -185,8 +185,8 @@ impl KindTables {
         self.tables[at].set_cell(home.place, kind, cell)
     }
 
-    /// Moves the row at a home to a place of the table of the kind set with one kind more, with a cell of that kind. The
-    /// last row of its table takes its place; the row that stood at its new place goes last. It takes no memory.
+    /// Moves the row at a home to a place of the table of the kind set with one kind more, with a cell of that kind.
+    /// The last row of its table takes its place; the row that stood at its new place goes last. It takes no memory.
     pub(crate) fn move_with(&mut self, home: Home, place: usize, kind: u8, cell: Cell)
         requires within { IsWithin self.old.tables home }
         requires low { kind < 64 }
@@ -210,7 +210,8 @@ impl KindTables {
     }
 
     /// Moves the row at a home to a place of the table of the kind set with one kind less, and gives the cell of that
-    /// kind. The last row of its table takes its place; the row that stood at its new place goes last. It takes no memory.
+    /// kind. The last row of its table takes its place; the row that stood at its new place goes last. It takes no
+    /// memory.
     pub(crate) fn move_without(&mut self, home: Home, place: usize, kind: u8) -> Cell
         requires within { IsWithin self.old.tables home }
         requires low { kind < 64 }

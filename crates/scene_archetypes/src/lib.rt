@@ -2,8 +2,8 @@
 //! entity's row by the entity's index.
 //!
 //! Contracts see the rows of each kind set that has some, for how many rows each kind set has memory, and for how many
-//! indices a home can be written. Only `reserve` takes memory; every other change needs the room that it made, and can't
-//! fail.
+//! indices a home can be written. Only `reserve` takes memory; every other change needs the room that it made, and
+//! can't fail.
 #![tactic(auto)]
 
 mod archetypes;

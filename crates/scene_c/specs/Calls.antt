@@ -24,7 +24,9 @@ use Rattle.scene_c.specs.declared.value.SceneCell.{SceneCell}
 
 -- a scene before its first line
 abbrev pub IsFresh : OpenScene → Type 0
-IsFresh new = (interpreter_of new.interpreter ≡ fresh_interpreter) × (new.answer ≡ code.Nothing) × (string_bytes new.text ≡ []) × (new.cells.items ≡ [])
+IsFresh new =
+    (interpreter_of new.interpreter ≡ fresh_interpreter) × (new.answer ≡ code.Nothing)
+    × (string_bytes new.text ≡ []) × (new.cells.items ≡ [])
 
 -- what a code says of the handle that an opening made: such a scene, or null where no memory was found
 abbrev pub Opens : Option OpenScene → ℕ → Type 0
@@ -180,7 +182,8 @@ Shows kind (Err r) new before after code = (code ≡ 3) × (after ≡ before)
 pub record WasRead (e : Entity) (kind : ℕ) (old new : OpenScene) (before after : SceneCell) (code : ℕ) : Type 0 where
   pub came : Option Halt
   pub shown : MatchOption came
-      (Shows kind (component_of (world_of old) e kind) new before after code × (interpreter_of new.interpreter ≡ begun (interpreter_of old.interpreter)))
+      (Shows kind (component_of (world_of old) e kind) new before after code
+      × (interpreter_of new.interpreter ≡ begun (interpreter_of old.interpreter)))
       (λ h. (h ≢ After) × (code ≡ halt_code h) × (after ≡ before) × KeepsAnswer old new
       × ((next : Interpreter) → interpreter_of new.interpreter ≡ halted h (interpreter_of old.interpreter) next))
   pub cells : new.cells.items ≡ old.cells.items

@@ -17,7 +17,8 @@ impl OpenScene {
     /// Keeps an answer with its text; where no memory is found for that, without one.
     fn keep(&mut self, alloc: Global, answer: LineAnswer) -> Result<(), Halt>
         ensures answer { self.new.answer ≡ answer }
-        ensures text { OnOk result (string_bytes self.new.text ≡ said_text (interpreter_kinds (interpreter_of self.old.interpreter)) (said_of answer)) }
+        ensures text { OnOk result (string_bytes self.new.text
+            ≡ said_text (interpreter_kinds (interpreter_of self.old.interpreter)) (said_of answer)) }
         ensures halted { IfErr result (λ h. (h ≡ After) × (string_bytes self.new.text ≡ [])) }
         ensures interpreter { interpreter_of self.new.interpreter ≡ interpreter_of self.old.interpreter }
         ensures cells { self.new.cells.items ≡ self.old.cells.items }
@@ -43,7 +44,8 @@ impl OpenScene {
     /// Halted as `Interpreter::line` is. Where the line is done, its answer is kept without a text; else the last
     /// answer stays.
     pub fn line(&mut self, alloc: Global, bytes: &[u8]) -> Result<(), Halt>
-        ensures answer { OnOk result (Tells self.new.answer (interpreter_of self.new.interpreter) (interpreter_reply (interpreter_of self.old.interpreter) bytes.now)) }
+        ensures answer { OnOk result (Tells self.new.answer (interpreter_of self.new.interpreter)
+            (interpreter_reply (interpreter_of self.old.interpreter) bytes.now)) }
         ensures text { OnOk result (string_bytes self.new.text ≡ (interpreter_reply (interpreter_of self.old.interpreter) bytes.now).text) }
         ensures halted { IfErr result (λ h. HasHalted h self.old self.new (interpreter_reply (interpreter_of self.old.interpreter) bytes.now)) }
         ensures cells { self.new.cells.items ≡ self.old.cells.items }
@@ -56,7 +58,8 @@ impl OpenScene {
     ///
     /// Halted as `line` is.
     pub fn tell(&mut self, alloc: Global, line: Line) -> Result<(), Halt>
-        ensures answer { OnOk result (Tells self.new.answer (interpreter_of self.new.interpreter) (interpreter_said (interpreter_of self.old.interpreter) (Ok line))) }
+        ensures answer { OnOk result (Tells self.new.answer (interpreter_of self.new.interpreter)
+            (interpreter_said (interpreter_of self.old.interpreter) (Ok line))) }
         ensures text { OnOk result (string_bytes self.new.text ≡ (interpreter_said (interpreter_of self.old.interpreter) (Ok line)).text) }
         ensures halted { IfErr result (λ h. HasHalted h self.old self.new (interpreter_said (interpreter_of self.old.interpreter) (Ok line))) }
         ensures cells { self.new.cells.items ≡ self.old.cells.items }
@@ -70,7 +73,8 @@ impl OpenScene {
     /// Halted as `Interpreter::play` is, so never behind the line: then the last answer stays.
     #[inline(always)]
     pub fn say(&mut self, line: Line) -> Result<(), Halt>
-        ensures answer { OnOk result (Tells self.new.answer (interpreter_of self.new.interpreter) (interpreter_said (interpreter_of self.old.interpreter) (Ok line))) }
+        ensures answer { OnOk result (Tells self.new.answer (interpreter_of self.new.interpreter)
+            (interpreter_said (interpreter_of self.old.interpreter) (Ok line))) }
         ensures text { OnOk result (string_bytes self.new.text ≡ []) }
         ensures halted { IfErr result (λ h. HasHalted h self.old self.new (interpreter_said (interpreter_of self.old.interpreter) (Ok line))) }
         ensures undone { IfErr result (λ h. h ≢ After) }
@@ -117,7 +121,8 @@ impl OpenScene {
     /// Halted as `Interpreter::end_setup` is.
     pub fn end_setup(&mut self) -> Result<(), Halt>
         ensures begun { OnOk result (interpreter_of self.new.interpreter ≡ begun (interpreter_of self.old.interpreter)) }
-        ensures halted { IfErr result (λ h. (next : Reached) → interpreter_of self.new.interpreter ≡ halted h (interpreter_of self.old.interpreter) next) }
+        ensures halted { IfErr result (λ h. (next : Reached)
+            → interpreter_of self.new.interpreter ≡ halted h (interpreter_of self.old.interpreter) next) }
         ensures undone { IfErr result (λ h. h ≢ After) }
         ensures kept { KeepsAnswer self.old self.new × (self.new.cells.items ≡ self.old.cells.items) }
     {

@@ -63,7 +63,8 @@ pub(crate) fn line_at(alloc: Global, open_scene: &mut OpenScene, bytes: &[u8]) -
 
 /// Plays a line that is a value, with a text of its answer.
 pub(crate) fn tell_at(alloc: Global, open_scene: &mut OpenScene, line: Line) -> u32
-    ensures played { Played open_scene.old open_scene.new (says line (interpreter_of open_scene.old.interpreter)) (says line (interpreter_of open_scene.old.interpreter)).text result }
+    ensures played { Played open_scene.old open_scene.new (says line (interpreter_of open_scene.old.interpreter))
+        (says line (interpreter_of open_scene.old.interpreter)).text result }
     ensures cells { open_scene.new.cells.items ≡ open_scene.old.cells.items }
 {
     let came = open_scene.tell(alloc, line);
@@ -83,7 +84,8 @@ pub(crate) fn say_at(open_scene: &mut OpenScene, line: Line) -> u32
 
 /// Spawns with the components that were given for it.
 pub(crate) fn spawn_at(alloc: Global, open_scene: &mut OpenScene) -> u32
-    ensures played { Played open_scene.old open_scene.new (says (Do (Spawn open_scene.old.cells.items)) (interpreter_of open_scene.old.interpreter)) [] result }
+    ensures played { Played open_scene.old open_scene.new
+        (says (Do (Spawn open_scene.old.cells.items)) (interpreter_of open_scene.old.interpreter)) [] result }
     ensures told { result ≢ 5 }
     ensures cells { open_scene.new.cells.items ≡ [] }
 {

@@ -26,7 +26,8 @@ impl OpenScene {
     pub fn read(&mut self, alloc: Global, entity: Entity, kind: u8) -> Result<Option<Reading>, Halt>
         ensures read { IfOk result (λ found. HasRead found self.new (component_of (world_of self.old) entity kind)) }
         ensures begun { OnOk result (interpreter_of self.new.interpreter ≡ begun (interpreter_of self.old.interpreter)) }
-        ensures halted { IfErr result (λ h. (next : Reached) → interpreter_of self.new.interpreter ≡ halted h (interpreter_of self.old.interpreter) next) }
+        ensures halted { IfErr result (λ h. (next : Reached)
+            → interpreter_of self.new.interpreter ≡ halted h (interpreter_of self.old.interpreter) next) }
         ensures undone { IfErr result (λ h. h ≢ After) }
         ensures kept { OnErr result (KeepsAnswer self.old self.new) }
         ensures cells { self.new.cells.items ≡ self.old.cells.items }

@@ -12,11 +12,15 @@ use Rattle.scene_command_line.specs.Asks.{Asks, Nothing}
 use Rattle.scene_command_line.specs.Words.{AsksFor, backup_asked, backup_shape}
 use Rattle.scene_command_line.specs.Plain.{asks_for_backup, is_option, plainly_asked}
 use Rattle.scene_command_line.proofs.CommandLaws.{named}
-use Rattle.scene_command_line.proofs.EnterLaws.{backup_fails, backup_in, leaf_fault, leaf_rows, level_third, no_dashes, no_long, no_short, refused_once, start, taken}
+use Rattle.scene_command_line.proofs.EnterLaws.{Enters, by_name, leaf_fault, leaf_rows, level_third, no_dashes, no_long, no_short, refused_once, start, taken}
 use Rattle.scene_command_line.proofs.FileLaws.{word_turn, word_walked}
 
 abbrev leaf : Shape
 leaf = built_leaf backup_shape
+
+enters : Enters (codes "backup") backup_shape
+unfolding clap_on_literals
+enters = by_name _ _ refl refl refl refl
 
 -- without a word both are missing
 no_files : leaf_fault backup_shape [] ≡ MissingRequiredArgument ∷ []
@@ -65,20 +69,20 @@ module _ (file : Text) (plain : is_option file ≡ false) where
 module _ (name : Text) (asks : Asks) where
   -- without two files a backup is bad
   pub backup_bare : AsksFor asks (name ∷ codes "backup" ∷ []) → asks ≡ plainly_asked (name ∷ codes "backup" ∷ [])
-  backup_bare means = refused_once _ _ asks MissingRequiredArgument refl (backup_fails name [] ∙ no_files) means
+  backup_bare means = refused_once _ _ asks MissingRequiredArgument refl (enters.fails name [] ∙ no_files) means
 
   pub backup_half : (file : Text) → is_option file ≡ false → AsksFor asks (name ∷ codes "backup" ∷ file ∷ [])
       → asks ≡ plainly_asked (name ∷ codes "backup" ∷ file ∷ [])
   backup_half file plain means =
-      refused_once _ _ asks MissingRequiredArgument refl (backup_fails name (file ∷ []) ∙ no_copy file plain) means
+      refused_once _ _ asks MissingRequiredArgument refl (enters.fails name (file ∷ []) ∙ no_copy file plain) means
 
   -- with two it asks for a copy of the one in the other
   pub backup_named_answer : (file copy : Text) → is_option file ≡ false → is_option copy ≡ false
       → AsksFor asks (name ∷ codes "backup" ∷ file ∷ copy ∷ [])
       → asks ≡ plainly_asked (name ∷ codes "backup" ∷ file ∷ copy ∷ [])
   backup_named_answer file copy plain plainly means =
-      taken _ _ _ asks (backup_fails name (file ∷ copy ∷ []) ∙ both file plain copy plainly)
-      (backup_in name (file ∷ copy ∷ [])
+      taken _ _ _ asks (enters.fails name (file ∷ copy ∷ []) ∙ both file plain copy plainly)
+      (enters.has name (file ∷ copy ∷ [])
       ∙ ap₂ backup_asked (file_named file plain copy plainly) (copy_named file plain copy plainly)) means
 
   -- and with a word more it is bad
@@ -86,18 +90,14 @@ module _ (name : Text) (asks : Asks) where
       → is_option next ≡ false → AsksFor asks (name ∷ codes "backup" ∷ file ∷ copy ∷ next ∷ rest) → asks ≡ Nothing
   backup_further file copy next rest plain plainly fine means =
       refused_once _ _ asks UnknownArgument refl
-      (backup_fails name (file ∷ copy ∷ next ∷ rest) ∙ three_words file plain copy plainly next rest fine) means
+      (enters.fails name (file ∷ copy ∷ next ∷ rest) ∙ three_words file plain copy plainly next rest fine) means
 
 -- a command line with `backup` and two words that are no options asks for what it plainly asks for
 pub backup_answer : (words : List Text) (asks : Asks) → asks_for_backup words ≡ true → AsksFor asks words
     → asks ≡ plainly_asked words
-backup_answer [] asks is means = absurd (false≢true is)
-backup_answer (name ∷ []) asks is means = absurd (false≢true is)
-backup_answer (name ∷ command ∷ []) asks is means = absurd (false≢true is)
-backup_answer (name ∷ command ∷ file ∷ []) asks is means = absurd (false≢true is)
 backup_answer (name ∷ command ∷ file ∷ copy ∷ []) asks is means =
     let parts = and_parts (bytes_eq command (codes "backup")) _ is in
     let words = and_parts _ _ parts.1 in
     named (λ c. AsksFor asks (name ∷ c ∷ file ∷ copy ∷ []) → asks ≡ plainly_asked (name ∷ c ∷ file ∷ copy ∷ [])) command (codes "backup")
     (backup_named_answer name asks file copy (not-true _ words.0) (not-true _ words.1)) parts.0 means
-backup_answer (name ∷ command ∷ file ∷ copy ∷ next ∷ rest) asks is means = absurd (false≢true is)
+backup_answer words asks is means = absurd (false≢true is)

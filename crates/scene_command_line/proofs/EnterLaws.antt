@@ -5,7 +5,7 @@ use Rattle.std.specs.Option.{option_map_or}
 use Rattle.std.specs.Str.{bytes_eq}
 use Rattle.clap.specs.Words.{App, Kinds, Row, Shape, Text, fault_of, built}
 use Rattle.clap.specs.Kinds.{or_else}
-use Rattle.clap.specs.Simple.{built_leaf, entered, label_of, names_of, new_shape, rows_at}
+use Rattle.clap.specs.Simple.{built_leaf, entered, label_of, names_of, rows_at}
 use Rattle.clap.specs.Walk.{Held, Names, Walk, answers_to, finished, nothing_held, rows_after, settled, walk, walk_from, walked}
 use Rattle.clap.specs.Faults.{built_fault, check_fault, defaults_fault, entered_fault, level_fault, settle_fault, turn_fault, walk_fault}
 use Rattle.clap.specs.Lexer.{long_of, short_of}
@@ -15,7 +15,7 @@ use Rattle.clap.proofs.OnLiterals.{clap_on_literals}
 use Rattle.clap.proofs.WalkLemmas.{walk_stopped}
 use Rattle.scene_command_line.specs.Asks.{Asks, Nothing}
 use Rattle.scene_command_line.specs.Plain.{is_option}
-use Rattle.scene_command_line.specs.Words.{Answers, backup_shape, by_kind, command_in, command_named, command_of, file_shape, run_shape, scene_line, shell_shape}
+use Rattle.scene_command_line.specs.Words.{Answers, by_kind, command_in, command_named, command_of, run_shape, scene_line, shell_shape}
 
 -- ---- words that are no options
 
@@ -138,68 +138,30 @@ leaf_fault s words = level_fault (built_leaf s) [] nothing_held words false []
 abbrev pub leaf_rows : Shape → List Text → List Row
 leaf_rows s words = rows_after (built_leaf s).rules [] words
 
-module _ (name : Text) (words : List Text) where
-  pub run_fails : fault_of scene_line (name ∷ codes "run" ∷ words) ≡ leaf_fault run_shape words
-  unfolding clap_on_literals
-  run_fails = entered_level line (codes "run") (built_leaf run_shape) refl refl refl refl words
+-- what `clap` makes of a command line with this command is what the command makes of the words behind its name
+pub record Enters (command : Text) (s : Shape) : Type 0 where
+  pub fails : (name : Text) (words : List Text) → fault_of scene_line (name ∷ command ∷ words) ≡ leaf_fault s words
+  pub has : (name : Text) (words : List Text)
+      → command_in (name ∷ command ∷ words) ≡ command_named command (leaf_rows s words)
 
-  pub run_in : command_in (name ∷ codes "run" ∷ words) ≡ command_named (codes "run") (leaf_rows run_shape words)
-  unfolding clap_on_literals
-  run_in = ap command_of (entered_rows line (codes "run") (built_leaf run_shape) refl refl refl words)
+-- so it is where the name enters the command
+pub by_name : (command : Text) (s : Shape)
+    → walked line.top.rules (names_of line) start command ≡ record start { stopped = Some (command, []) }
+    → turn_fault line.top (names_of line) start command ≡ []
+    → find (λ sub. answers_to command (label_of sub)) line.subs ≡ Some (built_leaf s)
+    → (built_leaf s).name ≡ command → Enters command s
+unfolding clap_on_literals
+by_name command s enters passes is_one named = record {
+  fails = λ name words. entered_level line command (built_leaf s) enters passes is_one refl words;
+  has = λ name words.
+      ap command_of (entered_rows line command (built_leaf s) enters passes is_one words)
+      ∙ ap (λ n. command_named n (leaf_rows s words)) named;
+}
 
-  pub shell_fails : fault_of scene_line (name ∷ codes "shell" ∷ words) ≡ leaf_fault shell_shape words
-  unfolding clap_on_literals
-  shell_fails = entered_level line (codes "shell") (built_leaf shell_shape) refl refl refl refl words
+pub enters_run : Enters (codes "run") run_shape
+unfolding clap_on_literals
+enters_run = by_name _ _ refl refl refl refl
 
-  pub shell_in : command_in (name ∷ codes "shell" ∷ words) ≡ command_named (codes "shell") (leaf_rows shell_shape words)
-  unfolding clap_on_literals
-  shell_in = ap command_of (entered_rows line (codes "shell") (built_leaf shell_shape) refl refl refl words)
-
-  pub check_fails : fault_of scene_line (name ∷ codes "check" ∷ words) ≡ leaf_fault (new_shape (codes "check")) words
-  unfolding clap_on_literals
-  check_fails = entered_level line (codes "check") (built_leaf (new_shape (codes "check"))) refl refl refl refl words
-
-  pub print_fails : fault_of scene_line (name ∷ codes "print" ∷ words) ≡ leaf_fault (new_shape (codes "print")) words
-  unfolding clap_on_literals
-  print_fails = entered_level line (codes "print") (built_leaf (new_shape (codes "print"))) refl refl refl refl words
-
-  pub show_fails : fault_of scene_line (name ∷ codes "show" ∷ words) ≡ leaf_fault (file_shape (codes "show")) words
-  unfolding clap_on_literals
-  show_fails = entered_level line (codes "show") (built_leaf (file_shape (codes "show"))) refl refl refl refl words
-
-  pub show_in : command_in (name ∷ codes "show" ∷ words)
-      ≡ command_named (codes "show") (leaf_rows (file_shape (codes "show")) words)
-  unfolding clap_on_literals
-  show_in =
-      ap command_of (entered_rows line (codes "show") (built_leaf (file_shape (codes "show"))) refl refl refl words)
-
-  pub log_fails : fault_of scene_line (name ∷ codes "log" ∷ words) ≡ leaf_fault (file_shape (codes "log")) words
-  unfolding clap_on_literals
-  log_fails = entered_level line (codes "log") (built_leaf (file_shape (codes "log"))) refl refl refl refl words
-
-  pub log_in : command_in (name ∷ codes "log" ∷ words)
-      ≡ command_named (codes "log") (leaf_rows (file_shape (codes "log")) words)
-  unfolding clap_on_literals
-  log_in = ap command_of (entered_rows line (codes "log") (built_leaf (file_shape (codes "log"))) refl refl refl words)
-
-  pub compact_fails : fault_of scene_line (name ∷ codes "compact" ∷ words)
-      ≡ leaf_fault (file_shape (codes "compact")) words
-  unfolding clap_on_literals
-  compact_fails =
-      entered_level line (codes "compact") (built_leaf (file_shape (codes "compact"))) refl refl refl refl words
-
-  pub compact_in : command_in (name ∷ codes "compact" ∷ words)
-      ≡ command_named (codes "compact") (leaf_rows (file_shape (codes "compact")) words)
-  unfolding clap_on_literals
-  compact_in =
-      ap command_of
-      (entered_rows line (codes "compact") (built_leaf (file_shape (codes "compact"))) refl refl refl words)
-
-  pub backup_fails : fault_of scene_line (name ∷ codes "backup" ∷ words) ≡ leaf_fault backup_shape words
-  unfolding clap_on_literals
-  backup_fails = entered_level line (codes "backup") (built_leaf backup_shape) refl refl refl refl words
-
-  pub backup_in : command_in (name ∷ codes "backup" ∷ words)
-      ≡ command_named (codes "backup") (leaf_rows backup_shape words)
-  unfolding clap_on_literals
-  backup_in = ap command_of (entered_rows line (codes "backup") (built_leaf backup_shape) refl refl refl words)
+pub enters_shell : Enters (codes "shell") shell_shape
+unfolding clap_on_literals
+enters_shell = by_name _ _ refl refl refl refl

@@ -2,17 +2,17 @@
 use Rattle.std.proofs.Common.{◌≡◌, ◌∙◌, ℕ, true, false, Some, List, refl, sym, ap, codes, [], ◌∷◌}
 use Rattle.std.specs.Option.{option_map_or}
 use Rattle.std.proofs.lemmas.Bool.{and_parts, false≢true, not-true}
-use Rattle.clap.specs.Words.{Rule, Shape, Text, fault_of, first_of}
+use Rattle.clap.specs.Words.{Row, Rule, Shape, Text, first_of}
 use Rattle.clap.specs.Simple.{built_leaf}
 use Rattle.clap.specs.Walk.{Walk, arg_by_index, nothing_held, to_positional, walk_from, walked}
 use Rattle.clap.specs.Faults.{positional_fault, stray_fault, turn_fault}
 use Rattle.clap.specs.declared.error.kind.ErrorKind.TheVariants.{MissingRequiredArgument, UnknownArgument}
 use Rattle.clap.proofs.OnLiterals.{clap_on_literals}
 use Rattle.scene_command_line.specs.Asks.{Asks, Nothing}
-use Rattle.scene_command_line.specs.Words.{AsksFor, command_in, command_named, file_command_named, file_shape, scene_line}
+use Rattle.scene_command_line.specs.Words.{AsksFor, command_named, file_command_named, file_shape}
 use Rattle.scene_command_line.specs.Plain.{asks_for_file, is_file_command, is_option, plainly_asked}
 use Rattle.scene_command_line.proofs.CommandLaws.{by_file_command}
-use Rattle.scene_command_line.proofs.EnterLaws.{compact_fails, compact_in, leaf_fault, leaf_rows, level_second, log_fails, log_in, no_dashes, no_long, no_short, refused_once, show_fails, show_in, start, taken}
+use Rattle.scene_command_line.proofs.EnterLaws.{Enters, by_name, leaf_fault, leaf_rows, level_second, no_dashes, no_long, no_short, refused_once, start, taken}
 
 -- ---- words of a command that takes a file
 
@@ -67,47 +67,43 @@ module _ (command : Text) where
 -- ---- the three commands
 
 record TakesFile (command : Text) : Type 0 where
-  fails : (name : Text) (words : List Text)
-      → fault_of scene_line (name ∷ command ∷ words) ≡ leaf_fault (file_shape command) words
-  has : (name : Text) (words : List Text) → command_in (name ∷ command ∷ words)
-      ≡ file_command_named command (first_of (codes "file") (leaf_rows (file_shape command) words))
+  enters : Enters command (file_shape command)
+  reads : (rows : List Row) → command_named command rows ≡ file_command_named command (first_of (codes "file") rows)
   bare : command_named command [] ≡ Nothing
 
 takes_file : (command : Text) → is_file_command command ≡ true → TakesFile command
+unfolding clap_on_literals
 takes_file command one = by_file_command TakesFile command
-    (record { fails = show_fails; has = show_in; bare = refl })
-    (record { fails = log_fails; has = log_in; bare = refl })
-    (record { fails = compact_fails; has = compact_in; bare = refl }) one
+    (record { enters = by_name _ _ refl refl refl refl; reads = λ rows. refl; bare = refl })
+    (record { enters = by_name _ _ refl refl refl refl; reads = λ rows. refl; bare = refl })
+    (record { enters = by_name _ _ refl refl refl refl; reads = λ rows. refl; bare = refl }) one
 
 module _ (command name : Text) (one : is_file_command command ≡ true) (asks : Asks) where
   -- without a file such a command is bad
   pub bare_answer : AsksFor asks (name ∷ command ∷ []) → asks ≡ plainly_asked (name ∷ command ∷ [])
   bare_answer means =
       let takes = takes_file command one in
-      refused_once _ _ asks MissingRequiredArgument refl (takes.fails name [] ∙ no_file command) means ∙ sym takes.bare
+      refused_once _ _ asks MissingRequiredArgument refl (takes.enters.fails name [] ∙ no_file command) means ∙ sym takes.bare
 
   -- with one it asks for that one
   pub named_answer : (word : Text) → is_option word ≡ false → AsksFor asks (name ∷ command ∷ word ∷ [])
       → asks ≡ plainly_asked (name ∷ command ∷ word ∷ [])
   named_answer word plain means =
       let takes = takes_file command one in
-      taken _ _ _ asks (takes.fails name (word ∷ []) ∙ one_file command word plain)
-      (takes.has name (word ∷ []) ∙ ap (file_command_named command) (file_named command word plain)) means
+      taken _ _ _ asks (takes.enters.fails name (word ∷ []) ∙ one_file command word plain)
+      (takes.enters.has name (word ∷ []) ∙ (takes.reads (leaf_rows (file_shape command) (word ∷ [])) ∙ ap (file_command_named command) (file_named command word plain))) means
 
   -- and with a word more it is bad
   pub further_answer : (word next : Text) (rest : List Text) → is_option word ≡ false → is_option next ≡ false
       → AsksFor asks (name ∷ command ∷ word ∷ next ∷ rest) → asks ≡ Nothing
   further_answer word next rest plain plainly means =
       refused_once _ _ asks UnknownArgument refl
-      ((takes_file command one).fails name (word ∷ next ∷ rest) ∙ two_words command word plain next rest plainly) means
+      ((takes_file command one).enters.fails name (word ∷ next ∷ rest) ∙ two_words command word plain next rest plainly) means
 
 -- a command line with such a command and one word that is no option asks for what it plainly asks for
 pub file_answer : (words : List Text) (asks : Asks) → asks_for_file words ≡ true → AsksFor asks words
     → asks ≡ plainly_asked words
-file_answer [] asks is means = absurd (false≢true is)
-file_answer (name ∷ []) asks is means = absurd (false≢true is)
-file_answer (name ∷ command ∷ []) asks is means = absurd (false≢true is)
 file_answer (name ∷ command ∷ word ∷ []) asks is means =
     let parts = and_parts (is_file_command command) _ is in
     named_answer command name parts.0 asks word (not-true _ parts.1) means
-file_answer (name ∷ command ∷ word ∷ next ∷ rest) asks is means = absurd (false≢true is)
+file_answer words asks is means = absurd (false≢true is)

@@ -24,69 +24,16 @@ module _ (name : Text) where
   unfolding clap_on_literals
   short_alone = refl
 
-  long_of_run : IsHelpLine (name ∷ codes "run" ∷ codes "--help" ∷ [])
+module _ (name command : Text) (one : is_command command ≡ true) where
+  long_of : IsHelpLine (name ∷ command ∷ codes "--help" ∷ [])
   unfolding clap_on_literals
-  long_of_run = refl
+  long_of =
+      by_command (λ c. IsHelpLine (name ∷ c ∷ codes "--help" ∷ [])) command refl refl refl refl refl refl refl refl one
 
-  long_of_shell : IsHelpLine (name ∷ codes "shell" ∷ codes "--help" ∷ [])
+  short_of : IsHelpLine (name ∷ command ∷ codes "-h" ∷ [])
   unfolding clap_on_literals
-  long_of_shell = refl
-
-  long_of_check : IsHelpLine (name ∷ codes "check" ∷ codes "--help" ∷ [])
-  unfolding clap_on_literals
-  long_of_check = refl
-
-  long_of_print : IsHelpLine (name ∷ codes "print" ∷ codes "--help" ∷ [])
-  unfolding clap_on_literals
-  long_of_print = refl
-
-  long_of_show : IsHelpLine (name ∷ codes "show" ∷ codes "--help" ∷ [])
-  unfolding clap_on_literals
-  long_of_show = refl
-
-  long_of_log : IsHelpLine (name ∷ codes "log" ∷ codes "--help" ∷ [])
-  unfolding clap_on_literals
-  long_of_log = refl
-
-  long_of_compact : IsHelpLine (name ∷ codes "compact" ∷ codes "--help" ∷ [])
-  unfolding clap_on_literals
-  long_of_compact = refl
-
-  long_of_backup : IsHelpLine (name ∷ codes "backup" ∷ codes "--help" ∷ [])
-  unfolding clap_on_literals
-  long_of_backup = refl
-
-  short_of_run : IsHelpLine (name ∷ codes "run" ∷ codes "-h" ∷ [])
-  unfolding clap_on_literals
-  short_of_run = refl
-
-  short_of_shell : IsHelpLine (name ∷ codes "shell" ∷ codes "-h" ∷ [])
-  unfolding clap_on_literals
-  short_of_shell = refl
-
-  short_of_check : IsHelpLine (name ∷ codes "check" ∷ codes "-h" ∷ [])
-  unfolding clap_on_literals
-  short_of_check = refl
-
-  short_of_print : IsHelpLine (name ∷ codes "print" ∷ codes "-h" ∷ [])
-  unfolding clap_on_literals
-  short_of_print = refl
-
-  short_of_show : IsHelpLine (name ∷ codes "show" ∷ codes "-h" ∷ [])
-  unfolding clap_on_literals
-  short_of_show = refl
-
-  short_of_log : IsHelpLine (name ∷ codes "log" ∷ codes "-h" ∷ [])
-  unfolding clap_on_literals
-  short_of_log = refl
-
-  short_of_compact : IsHelpLine (name ∷ codes "compact" ∷ codes "-h" ∷ [])
-  unfolding clap_on_literals
-  short_of_compact = refl
-
-  short_of_backup : IsHelpLine (name ∷ codes "backup" ∷ codes "-h" ∷ [])
-  unfolding clap_on_literals
-  short_of_backup = refl
+  short_of =
+      by_command (λ c. IsHelpLine (name ∷ c ∷ codes "-h" ∷ [])) command refl refl refl refl refl refl refl refl one
 
 -- what holds of both options holds of each word that is one of them
 by_option : (P : Text → Type 0) (word : Text) → P (codes "--help") → P (codes "-h") → is_help_option word ≡ true → P word
@@ -96,23 +43,12 @@ by_option P word long short one = elim (or_cases (bytes_eq word (codes "--help")
 ]
 
 help_line : (words : List Text) → asks_for_help words ≡ true → IsHelpLine words
-help_line [] asks = absurd (false≢true asks)
-help_line (name ∷ []) asks = absurd (false≢true asks)
 help_line (name ∷ word ∷ []) asks = by_option (λ w. IsHelpLine (name ∷ w ∷ [])) word (long_alone name) (short_alone name) asks
 help_line (name ∷ command ∷ word ∷ []) asks =
     let parts = and_parts (is_command command) (is_help_option word) asks in
-    by_command (λ c. IsHelpLine (name ∷ c ∷ word ∷ [])) command
-    (by_option (λ w. IsHelpLine (name ∷ codes "run" ∷ w ∷ [])) word (long_of_run name) (short_of_run name) parts.1)
-    (by_option (λ w. IsHelpLine (name ∷ codes "shell" ∷ w ∷ [])) word (long_of_shell name) (short_of_shell name) parts.1)
-    (by_option (λ w. IsHelpLine (name ∷ codes "check" ∷ w ∷ [])) word (long_of_check name) (short_of_check name) parts.1)
-    (by_option (λ w. IsHelpLine (name ∷ codes "print" ∷ w ∷ [])) word (long_of_print name) (short_of_print name) parts.1)
-    (by_option (λ w. IsHelpLine (name ∷ codes "backup" ∷ w ∷ [])) word (long_of_backup name) (short_of_backup name) parts.1)
-    (by_option (λ w. IsHelpLine (name ∷ codes "show" ∷ w ∷ [])) word (long_of_show name) (short_of_show name) parts.1)
-    (by_option (λ w. IsHelpLine (name ∷ codes "log" ∷ w ∷ [])) word (long_of_log name) (short_of_log name) parts.1)
-    (by_option (λ w. IsHelpLine (name ∷ codes "compact" ∷ w ∷ [])) word (long_of_compact name)
-    (short_of_compact name) parts.1)
-    parts.0
-help_line (name ∷ command ∷ word ∷ next ∷ rest) asks = absurd (false≢true asks)
+    by_option (λ w. IsHelpLine (name ∷ command ∷ w ∷ [])) word (long_of name command parts.0)
+    (short_of name command parts.0) parts.1
+help_line words asks = absurd (false≢true asks)
 
 -- a command line that asks for help is answered with help
 pub help_answer : (words : List Text) (asks : Asks) → asks_for_help words ≡ true → AsksFor asks words → asks ≡ ToHelp

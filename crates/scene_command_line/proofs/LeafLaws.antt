@@ -1,12 +1,13 @@
 -- What `clap` makes of the options behind a command's name, one after another.
-use Rattle.std.proofs.Common.{◌≡◌, ◌∙◌, false, Some, List, refl, sym, ap, [], ◌∷◌, append_assoc, append-nil}
-use Rattle.std.specs.Prelude.{◌++◌, fold}
+use Rattle.std.proofs.Common.{◌≡◌, ◌∙◌, Bool, true, false, Option, Some, None, List, refl, sym, ap, [], ◌∷◌, append_assoc, append-nil}
+use Rattle.std.specs.Prelude.{◌++◌, fold, if◌then◌else◌}
+use Rattle.std.proofs.lemmas.Bool.{not-true}
 use Rattle.clap.specs.Words.{Kinds, Rule, Shape, Text}
 use Rattle.clap.specs.Kinds.{or_else}
 use Rattle.clap.specs.Walk.{Held, Walk, Waiting, after_step, arg_by_id, finished, idle, next, nothing_held, option, option_word, reacted, rows_after, settled, walk, walk_from, walked}
 use Rattle.clap.specs.Faults.{check_fault, defaults_fault, level_fault, react_fault, settle_fault, turn_fault, walk_fault}
 use Rattle.clap.proofs.FaultLemmas.{past}
-use Rattle.scene_command_line.specs.Plain.{is_option}
+use Rattle.scene_command_line.specs.Plain.{flag_words, is_no_option, is_option, option_words}
 use Rattle.scene_command_line.proofs.EnterLaws.{no_dashes, no_long, no_short, or_nothing}
 
 or_else_assoc : (a b c : Kinds) → or_else (or_else a b) c ≡ or_else a (or_else b c)
@@ -36,7 +37,7 @@ pub record Leads (s : Shape) (words : List Text) (fault : Held → Kinds) (after
       → ◌≡◌ {A = Walk} (fold (walked s.rules []) (walk_from h) (words ++ rest))
       (fold (walked s.rules []) (walk_from (after h)) rest)
 
-pub by_none : (s : Shape) → Leads s [] (λ h. []) (λ h. h)
+by_none : (s : Shape) → Leads s [] (λ h. []) (λ h. h)
 by_none s = record { fails = λ h rest. refl; walks = λ h rest. refl }
 
 pub by_both : (s : Shape) (xs ys : List Text) (f g : Held → Kinds) (to on : Held → Held)
@@ -58,6 +59,22 @@ given s id word h = record (settled s.rules h) { pending = Some (id, word ∷ []
 
 abbrev pub settles : Shape → Held → Kinds
 settles s h = settle_fault s.rules s.args_override_self h
+
+-- the same where it is given or not
+abbrev pub option_fault : Shape → Option Text → Held → Kinds
+option_fault s None h = []
+option_fault s (Some word) h = settles s h
+
+abbrev pub option_held : Shape → Text → Option Text → Held → Held
+option_held s id None h = h
+option_held s id (Some word) h = given s id word h
+
+-- and of an option that takes no word
+abbrev pub flag_fault : Shape → Rule → Bool → Held → Kinds
+flag_fault s a is_given h = if is_given then react_fault s.rules s.args_override_self a [] h else []
+
+abbrev pub flag_held : Shape → Rule → Bool → Held → Held
+flag_held s a is_given h = if is_given then reacted s.rules a [] h else h
 
 -- an option that takes one word
 module _ (s : Shape) (name id : Text)
@@ -91,12 +108,17 @@ module _ (s : Shape) (name id : Text)
     walks = λ h rest. ap (λ (w : Walk). fold (walked s.rules []) w rest) (ends word plain h);
   }
 
+  pub by_option_or_none : (word : Option Text) → is_no_option word ≡ true
+      → Leads s (option_words name word) (option_fault s word) (option_held s id word)
+  by_option_or_none None plain = by_none s
+  by_option_or_none (Some word) plain = by_option word (not-true _ plain)
+
 -- an option that takes no word
 module _ (s : Shape) (name : Text) (a : Rule)
     (reacts : (h : Held) → ◌≡◌ {A = Walk} (walked s.rules [] (walk_from h) name) (walk_from (reacted s.rules a [] h)))
     (fails : (h : Held)
     → turn_fault s [] (walk_from h) name ≡ or_else (react_fault s.rules s.args_override_self a [] h) []) where
-  pub by_flag : Leads s (name ∷ []) (react_fault s.rules s.args_override_self a []) (reacted s.rules a [])
+  by_flag : Leads s (name ∷ []) (react_fault s.rules s.args_override_self a []) (reacted s.rules a [])
   unfolding walk_fault
   by_flag = record {
     fails = λ h rest.
@@ -105,6 +127,11 @@ module _ (s : Shape) (name : Text) (a : Rule)
         (reacts h);
     walks = λ h rest. ap (λ (w : Walk). fold (walked s.rules []) w rest) (reacts h);
   }
+
+  pub by_flag_or_none : (is_given : Bool)
+      → Leads s (flag_words name is_given) (flag_fault s a is_given) (flag_held s a is_given)
+  by_flag_or_none false = by_none s
+  by_flag_or_none true = by_flag
 
 -- ---- a whole command line
 

@@ -11,11 +11,11 @@ use Rattle.clap.specs.Faults.{stray_fault, turn_fault}
 use Rattle.clap.specs.declared.error.kind.ErrorKind.TheVariants.{InvalidSubcommand, MissingSubcommand, UnknownArgument}
 use Rattle.clap.proofs.OnLiterals.{clap_on_literals}
 use Rattle.scene_command_line.specs.Asks.{Asks, Nothing}
-use Rattle.scene_command_line.specs.Words.{Answers, AsksFor, command_in, command_named, run_shape, scene_line, shell_shape}
+use Rattle.scene_command_line.specs.Words.{Answers, AsksFor, command_named, scene_line}
 use Rattle.scene_command_line.specs.Plain.{are_plain, is_command, is_file_command, is_option, is_plain, plainly_asked}
 use Rattle.scene_command_line.proofs.BackupLaws.{backup_bare, backup_further, backup_half, backup_named_answer}
 use Rattle.scene_command_line.proofs.CommandLaws.{IsNone, by_command, by_file_command, is_none}
-use Rattle.scene_command_line.proofs.EnterLaws.{check_fails, leaf_fault, level_first, line, no_dashes, no_long, no_short, print_fails, refused_once, run_fails, shell_fails, start, taken}
+use Rattle.scene_command_line.proofs.EnterLaws.{Enters, by_name, enters_run, enters_shell, leaf_fault, leaf_rows, level_first, line, no_dashes, no_long, no_short, refused_once, start, taken}
 use Rattle.scene_command_line.proofs.FileLaws.{bare_answer, further_answer, named_answer}
 
 -- a word that is no option and no command has no place, where the command has no positional
@@ -86,71 +86,38 @@ abbrev Fits : Text → List Text → Asks → Text → Type 0
 Fits name rest asks command = AsksFor asks (name ∷ command ∷ rest) → asks ≡ plainly_asked (name ∷ command ∷ rest)
 
 module _ (name : Text) (asks : Asks) where
-  of_run : fault_of scene_line (name ∷ codes "run" ∷ []) ≡ []
-  unfolding clap_on_literals
-  of_run = refl
-
-  run_alone : command_in (name ∷ codes "run" ∷ []) ≡ command_named (codes "run") []
-  unfolding clap_on_literals
-  run_alone = refl
+  -- a command that takes no file and needs no word
+  after_bare : (command : Text) (s : Shape) → Enters command s → leaf_fault s [] ≡ []
+      → command_named command (leaf_rows s []) ≡ command_named command []
+      → arg_by_index (built_leaf s).rules 1 ≡ None → stray_fault (built_leaf s) ≡ UnknownArgument ∷ []
+      → bytes_eq command (codes "backup") ≡ false → bytes_eq command (codes "show") ≡ false
+      → bytes_eq command (codes "log") ≡ false → bytes_eq command (codes "compact") ≡ false
+      → (rest : List Text) → list_all is_plain rest ≡ true → Fits name rest asks command
+  after_bare command s enters fits alone full stray backup show log compact [] plain means =
+      taken _ _ _ asks (enters.fails name [] ∙ fits) (enters.has name [] ∙ alone) means
+  after_bare command s enters fits alone full stray backup show log compact (word ∷ rest) plain means =
+      refused_once _ _ asks UnknownArgument refl
+      (enters.fails name (word ∷ rest)
+      ∙ leaf_refuses s word rest (is_no_option word (first_is_plain word rest plain)) full stray) means
+      ∙ sym (bad_plainly name command word rest backup show log compact)
 
   after_run : (rest : List Text) → list_all is_plain rest ≡ true → Fits name rest asks (codes "run")
-  after_run [] plain means = taken _ _ _ asks of_run run_alone means
-  after_run (word ∷ rest) plain means =
-      refused_once _ _ asks UnknownArgument refl
-      (run_fails name (word ∷ rest)
-      ∙ leaf_refuses run_shape word rest (is_no_option word (first_is_plain word rest plain)) refl refl) means
-      ∙ sym (bad_plainly name (codes "run") word rest refl refl refl refl)
-
-  of_shell : fault_of scene_line (name ∷ codes "shell" ∷ []) ≡ []
   unfolding clap_on_literals
-  of_shell = refl
-
-  shell_alone : command_in (name ∷ codes "shell" ∷ []) ≡ command_named (codes "shell") []
-  unfolding clap_on_literals
-  shell_alone = refl
+  after_run = after_bare _ _ enters_run refl refl refl refl refl refl refl refl
 
   after_shell : (rest : List Text) → list_all is_plain rest ≡ true → Fits name rest asks (codes "shell")
-  after_shell [] plain means = taken _ _ _ asks of_shell shell_alone means
-  after_shell (word ∷ rest) plain means =
-      refused_once _ _ asks UnknownArgument refl
-      (shell_fails name (word ∷ rest)
-      ∙ leaf_refuses shell_shape word rest (is_no_option word (first_is_plain word rest plain)) refl refl) means
-      ∙ sym (bad_plainly name (codes "shell") word rest refl refl refl refl)
-
-  of_check : fault_of scene_line (name ∷ codes "check" ∷ []) ≡ []
   unfolding clap_on_literals
-  of_check = refl
-
-  check_alone : command_in (name ∷ codes "check" ∷ []) ≡ command_named (codes "check") []
-  unfolding clap_on_literals
-  check_alone = refl
+  after_shell = after_bare _ _ enters_shell refl refl refl refl refl refl refl refl
 
   after_check : (rest : List Text) → list_all is_plain rest ≡ true → Fits name rest asks (codes "check")
-  after_check [] plain means = taken _ _ _ asks of_check check_alone means
-  after_check (word ∷ rest) plain means =
-      refused_once _ _ asks UnknownArgument refl
-      (check_fails name (word ∷ rest)
-      ∙ leaf_refuses (new_shape (codes "check")) word rest
-      (is_no_option word (first_is_plain word rest plain)) refl refl) means
-      ∙ sym (bad_plainly name (codes "check") word rest refl refl refl refl)
-
-  of_print : fault_of scene_line (name ∷ codes "print" ∷ []) ≡ []
   unfolding clap_on_literals
-  of_print = refl
-
-  print_alone : command_in (name ∷ codes "print" ∷ []) ≡ command_named (codes "print") []
-  unfolding clap_on_literals
-  print_alone = refl
+  after_check =
+      after_bare _ (new_shape (codes "check")) (by_name _ _ refl refl refl refl) refl refl refl refl refl refl refl refl
 
   after_print : (rest : List Text) → list_all is_plain rest ≡ true → Fits name rest asks (codes "print")
-  after_print [] plain means = taken _ _ _ asks of_print print_alone means
-  after_print (word ∷ rest) plain means =
-      refused_once _ _ asks UnknownArgument refl
-      (print_fails name (word ∷ rest)
-      ∙ leaf_refuses (new_shape (codes "print")) word rest
-      (is_no_option word (first_is_plain word rest plain)) refl refl) means
-      ∙ sym (bad_plainly name (codes "print") word rest refl refl refl refl)
+  unfolding clap_on_literals
+  after_print =
+      after_bare _ (new_shape (codes "print")) (by_name _ _ refl refl refl refl) refl refl refl refl refl refl refl refl
 
   after_file : (command : Text) → is_file_command command ≡ true → (rest : List Text) → list_all is_plain rest ≡ true
       → Fits name rest asks command

@@ -10,7 +10,7 @@ use Rattle.clap.proofs.OnLiterals.{clap_on_literals}
 use Rattle.scene_command_line.specs.Asks.{Asks}
 use Rattle.scene_command_line.specs.Words.{AsksFor, command_in, command_named, run_asked, run_shape, scene_line}
 use Rattle.scene_command_line.specs.Plain.{asks_for_workers, is_option, workers_asked}
-use Rattle.scene_command_line.proofs.EnterLaws.{run_fails, run_in, taken}
+use Rattle.scene_command_line.proofs.EnterLaws.{enters_run, taken}
 use Rattle.scene_command_line.proofs.LeafLaws.{Leads, by_option, end_fault, given, level_by, rows_by, settles}
 
 abbrev leaf : Shape
@@ -31,20 +31,16 @@ module _ (name word : Text) (plain : is_option word ≡ false) where
   is_word = refl
 
   of_workers : fault_of scene_line (name ∷ codes "run" ∷ codes "--workers" ∷ word ∷ []) ≡ []
-  of_workers = run_fails name (codes "--workers" ∷ word ∷ []) ∙ (level_by leaf _ _ _ leads ∙ at_end)
+  of_workers = enters_run.fails name (codes "--workers" ∷ word ∷ []) ∙ (level_by leaf _ _ _ leads ∙ at_end)
 
   workers_in : command_in (name ∷ codes "run" ∷ codes "--workers" ∷ word ∷ []) ≡ run_asked (Some word)
   workers_in =
-      run_in name (codes "--workers" ∷ word ∷ [])
+      enters_run.has name (codes "--workers" ∷ word ∷ [])
       ∙ (ap (λ (rows : List Row). command_named (codes "run") rows) (rows_by leaf _ _ _ leads) ∙ is_word)
 
 -- a command line that gives the number of workers asks for a run with them
 pub workers_answer : (words : List Text) (asks : Asks) → asks_for_workers words ≡ true → AsksFor asks words
     → asks ≡ workers_asked words
-workers_answer [] asks is means = absurd (false≢true is)
-workers_answer (name ∷ []) asks is means = absurd (false≢true is)
-workers_answer (name ∷ command ∷ []) asks is means = absurd (false≢true is)
-workers_answer (name ∷ command ∷ option ∷ []) asks is means = absurd (false≢true is)
 workers_answer (name ∷ command ∷ option ∷ word ∷ []) asks is means =
     let parts = and_parts (bytes_eq command (codes "run")) _ is in
     let more = and_parts (bytes_eq option (codes "--workers")) _ parts.1 in
@@ -54,4 +50,4 @@ workers_answer (name ∷ command ∷ option ∷ word ∷ []) asks is means =
     let by_run = subst (λ (c : Text). AsksFor asks (name ∷ c ∷ option ∷ word ∷ [])) run means in
     let by_option = subst (λ (o : Text). AsksFor asks (name ∷ codes "run" ∷ o ∷ word ∷ [])) workers by_run in
     taken _ _ (run_asked (Some word)) asks (of_workers name word plain) (workers_in name word plain) by_option
-workers_answer (name ∷ command ∷ option ∷ word ∷ next ∷ rest) asks is means = absurd (false≢true is)
+workers_answer words asks is means = absurd (false≢true is)

@@ -20,13 +20,17 @@ option_rule name = record (new_rule name) { long = Some name; action = Some Set;
 abbrev pub flag_rule : Text → Rule
 flag_rule name = record (new_rule name) { long = Some name; action = Some SetTrue }
 
--- the word that stands for the name of a file, and has to be given
-abbrev pub file_rule : Rule
-file_rule = record (new_rule (codes "file")) { action = Some Set; value_names = 1; required = true }
+-- a word of this name, which has to be given
+abbrev pub argument_rule : Text → Rule
+argument_rule name = record (new_rule name) { action = Some Set; value_names = 1; required = true }
 
--- the word that stands for the name of a copy, and has to be given
+-- the word that stands for the name of a file
+abbrev pub file_rule : Rule
+file_rule = argument_rule (codes "file")
+
+-- the word that stands for the name of a copy
 abbrev pub copy_rule : Rule
-copy_rule = record (new_rule (codes "copy")) { action = Some Set; value_names = 1; required = true }
+copy_rule = argument_rule (codes "copy")
 
 -- the option `--workers` of `run` and of `shell`
 abbrev pub workers_rule : Rule

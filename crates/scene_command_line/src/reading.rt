@@ -6,7 +6,7 @@ ghost use Rattle.clap.specs.Simple.{new_shape};
 ghost use Rattle.clap.specs.declared.error.kind.ErrorKind.TheVariants.{OutOfMemory};
 ghost use Rattle.scene_command_line.specs.Asks.{ToHelp, asks_of};
 ghost use Rattle.scene_command_line.specs.Plain.{AsksForShell, are_plain, asks_for_backup, asks_for_file, asks_for_help, asks_for_workers, plainly_asked, workers_asked};
-ghost use Rattle.scene_command_line.specs.Words.{AsksFor, backup_shape, bare_line, by_kind, command_named, command_of, copy_rule, file_rule, file_shape, flag_rule, has_flag, line_without_file, option_rule, run_shape, scene_line, shell_shape, workers_rule};
+ghost use Rattle.scene_command_line.specs.Words.{AsksFor, argument_rule, backup_shape, bare_line, by_kind, command_named, command_of, file_rule, file_shape, flag_rule, has_flag, line_without_file, option_rule, run_shape, scene_line, shell_shape, workers_rule};
 
 use crate::asked::{
     Asked, backup_asked, compact_asked, log_asked, run_asked, shell_asked, show_asked,
@@ -76,28 +76,24 @@ fn shell_command<'a>(alloc: Global) -> Result<Command<'a>, AllocError>
         .arg(option(alloc, "store", "FILE", texts::STORE))
 }
 
-/// The name of a store's file, a word that has to be given.
+/// A word that has to be given, which the help text calls `value`.
+fn argument<'a>(alloc: Global, name: &'a str, value: &'a str, help: &'a str) -> Arg<'a>
+    ensures rule { rule_of result ≡ argument_rule name.entry.now }
+    ensures local { result.global ≡ false }
+{
+    Arg::new(alloc, name)
+        .required(true)
+        .action(ArgAction::Set)
+        .value_name(value)
+        .help(help)
+}
+
+/// The name of a store's file.
 fn file_argument<'a>(alloc: Global) -> Arg<'a>
     ensures rule { rule_of result ≡ file_rule }
     ensures local { result.global ≡ false }
 {
-    Arg::new(alloc, "file")
-        .required(true)
-        .action(ArgAction::Set)
-        .value_name("FILE")
-        .help(texts::FILE)
-}
-
-/// The name of the file that a copy is to be, a word that has to be given.
-fn copy_argument<'a>(alloc: Global) -> Arg<'a>
-    ensures rule { rule_of result ≡ copy_rule }
-    ensures local { result.global ≡ false }
-{
-    Arg::new(alloc, "copy")
-        .required(true)
-        .action(ArgAction::Set)
-        .value_name("TO")
-        .help(texts::COPY)
+    argument(alloc, "file", "FILE", texts::FILE)
 }
 
 /// A command with its help texts, which takes the name of a store's file.
@@ -120,7 +116,7 @@ fn backup_command<'a>(alloc: Global) -> Result<Command<'a>, AllocError>
 {
     command(alloc, "backup", texts::BACKUP, texts::BACKUP_MORE)
         .arg(file_argument(alloc))?
-        .arg(copy_argument(alloc))
+        .arg(argument(alloc, "copy", "TO", texts::COPY))
 }
 
 /// The line with the command `run` behind its others.

@@ -20,9 +20,11 @@ use Rattle.scene_file_records.specs.Walk.{records_at}
 abbrev pub schema : Kinds
 schema = (codes "A", shape.Int) ∷ (codes "B", shape.Tag) ∷ []
 
+-- an entity by its two numbers
 abbrev pub ent : ℕ → ℕ → Entity
 ent index generation = record { index = index; generation = generation }
 
+-- a cell by its value and ticks
 abbrev pub cell : Value → ℕ → ℕ → Cell
 cell v added changed = record { value = v; added = added; changed = changed }
 
@@ -46,6 +48,7 @@ of_delta delta = codes "[{\"deltas\":[" ++ (delta ++ codes "],\"tick\":0}]")
 abbrev pub first_delta : List ℕ
 first_delta = codes "undo[0].deltas[0]"
 
+-- the path of a key of that delta
 abbrev pub at_key : List ℕ → List ℕ
 at_key key = first_delta ++ (codes "." ++ key)
 

@@ -45,28 +45,34 @@ op_text o = string (op_name o)
 
 -- ---- deltas
 
+-- an entity that came, with its cells
 abbrev pub spawned_text : Entity → List (ℕ × Cell) → Bool → Data
 spawned_text e cells fresh = object_of (
     (codes "cells", kcells_text cells) ∷ (codes "entity", entity_json e) ∷ (codes "fresh", boolean fresh) ∷ (codes "op", op_text op.Spawned) ∷ [])
 
+-- an entity that went, with all that it had
 abbrev pub despawned_text : Entity → ℕ → List (ℕ × Cell) → Option (Entity × ℕ) → Bool → Data
 despawned_text e place cells link retired = object_of (
     (codes "cells", kcells_text cells) ∷ (codes "entity", entity_json e) ∷ (codes "link", link_text link) ∷ (codes "op", op_text op.Despawned)
     ∷ (codes "place", count_text place) ∷ (codes "retired", boolean retired) ∷ [])
 
+-- a row that moved by one cell
 abbrev pub shifted_text : Entity → ℕ → ℕ × Cell → Bool → Data
 shifted_text e place cell inward = object_of (
     (codes "cell", kcell_text cell) ∷ (codes "entity", entity_json e) ∷ (codes "inward", boolean inward) ∷ (codes "op", op_text op.Shifted)
     ∷ (codes "place", count_text place) ∷ [])
 
+-- a cell that was exchanged, with its kind
 abbrev pub cell_set_text : Entity → (before after : ℕ × Cell) → Data
 cell_set_text e before after = object_of (
     (codes "after", kcell_text after) ∷ (codes "before", kcell_text before) ∷ (codes "entity", entity_json e) ∷ (codes "op", op_text op.CellSet) ∷ [])
 
+-- a link that was exchanged
 abbrev pub linked_text : Entity → (before after : Option (Entity × ℕ)) → Data
 linked_text e before after = object_of (
     (codes "after", link_text after) ∷ (codes "before", link_text before) ∷ (codes "entity", entity_json e) ∷ (codes "op", op_text op.Linked) ∷ [])
 
+-- a resource's cell that was exchanged
 abbrev pub resource_set_text : List ℕ → (before after : Option Cell) → Data
 resource_set_text name before after = object_of (
     (codes "after", maybe_resource_cell_text after) ∷ (codes "before", maybe_resource_cell_text before) ∷ (codes "name", string name)

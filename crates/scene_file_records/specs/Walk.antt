@@ -69,12 +69,14 @@ maybe_resource_cell_at path d = maybe_of resource_cell_at path d
 
 -- ---- deltas, of which the keys are known
 
+-- an entity that came
 abbrev pub spawned_of : Kinds → List ℕ → Members → Result Delta FileFault
 spawned_of schema path ms =
     key_of (kcells_at schema) path (codes "cells") ms
     >>= λ cells. key_of entity_at path (codes "entity") ms >>= λ entity. key_of flag_at path (codes "fresh") ms
     >>= λ fresh. Ok (Spawned entity cells fresh)
 
+-- an entity that went
 abbrev pub despawned_of : Kinds → List ℕ → Members → Result Delta FileFault
 despawned_of schema path ms =
     key_of (kcells_at schema) path (codes "cells") ms
@@ -83,6 +85,7 @@ despawned_of schema path ms =
     >>= λ link. key_of u32_at path (codes "place") ms
     >>= λ place. key_of flag_at path (codes "retired") ms >>= λ retired. Ok (Despawned entity place cells link retired)
 
+-- a row that moved by one cell
 abbrev pub shifted_of : Kinds → List ℕ → Members → Result Delta FileFault
 shifted_of schema path ms =
     key_of (kcell_at schema) path (codes "cell") ms
@@ -98,18 +101,21 @@ cell_set_of schema path ms =
     >>= λ before. key_of entity_at path (codes "entity") ms
     >>= λ entity. if_good (under path (codes "after")) (nat_eq after.0 before.0) (CellSet entity after.0 before.1 after.1)
 
+-- a link that was exchanged
 abbrev pub linked_of : List ℕ → Members → Result Delta FileFault
 linked_of path ms =
     key_of link_at path (codes "after") ms
     >>= λ after. key_of link_at path (codes "before") ms >>= λ before. key_of entity_at path (codes "entity") ms
     >>= λ entity. Ok (Linked entity before after)
 
+-- a resource's cell that was exchanged
 abbrev pub resource_set_of : List ℕ → Members → Result Delta FileFault
 resource_set_of path ms =
     key_of maybe_resource_cell_at path (codes "after") ms
     >>= λ after. key_of maybe_resource_cell_at path (codes "before") ms
     >>= λ before. key_of name_at path (codes "name") ms >>= λ name. Ok (ResourceSet name before after)
 
+-- a delta, by what it does
 abbrev pub delta_of : Kinds → Op → List ℕ → Members → Result Delta FileFault
 delta_of schema op.Spawned path ms = spawned_of schema path ms
 delta_of schema op.Despawned path ms = despawned_of schema path ms

@@ -129,7 +129,8 @@ impl Interpreter {
     ) -> Result<Option<BadLine>, Halt>
         ensures bad { IfOk result (λ bad. bad ≡ (interpreter_reply (interpreter_of self.old) bytes.now).bad) }
         ensures interpreter { OnOk result (interpreter_of self.new ≡ (interpreter_reply (interpreter_of self.old) bytes.now).interpreter) }
-        ensures text { OnOk result (AddsJson (string_bytes out.old) (string_bytes out.new) (interpreter_of self.old) (interpreter_of self.new) bytes.now None) }
+        ensures text { OnOk result (AddsJson (string_bytes out.old) (string_bytes out.new)
+            (interpreter_of self.old) (interpreter_of self.new) bytes.now None) }
         ensures halted { IfErr result (λ h. interpreter_of self.new
             ≡ halted h (interpreter_of self.old) (interpreter_reply (interpreter_of self.old) bytes.now).interpreter) }
     {

@@ -1,5 +1,5 @@
-//! Editors whose world and records come from outside, and `Sweep`, a kind of frame that is no list of queues: an editor does,
-//! undoes and redoes frames of another crate's own kind.
+//! Editors whose world and records come from outside, and `Sweep`, a kind of frame that is no list of queues: an editor
+//! does, undoes and redoes frames of another crate's own kind.
 #[cfg(test)]
 mod fault_tests;
 #[cfg(test)]

@@ -1,5 +1,6 @@
-//! Tests of deltas, of records and of editors that are made of them: that they find memory, and give worlds and records that
-//! were worked out by hand, there and back, and the first fault. That each is right in general is proved and not tested.
+//! Tests of deltas, of records and of editors that are made of them: that they find memory, and give worlds and records
+//! that were worked out by hand, there and back, and the first fault. That each is right in general is proved and not
+//! tested.
 //!
 //! They stand here, above the journal and queues, so that no large crate is proved a second time for its tests.
 #![tactic(auto)]

@@ -56,8 +56,8 @@ fn push_children(queue: &mut Queue) -> bool {
     true
 }
 
-/// The frame before the long one: sixteen entities, of which the first has eight children and the thirteenth leaves again,
-/// and a resource.
+/// The frame before the long one: sixteen entities, of which the first has eight children and the thirteenth leaves
+/// again, and a resource.
 pub fn push_opening(alloc: Global, queue: &mut Queue) -> bool {
     push_entities(alloc, queue)
         && push_children(queue)
@@ -114,8 +114,8 @@ fn some_leave(round: u32) -> Command
     }
 }
 
-/// The long frame: a thousand rounds of ten commands. Each makes one delta, but that every fourth round a despawn takes a
-/// child along.
+/// The long frame: a thousand rounds of ten commands. Each makes one delta, but that every fourth round a despawn takes
+/// a child along.
 pub fn push_long(alloc: Global, queue: &mut Queue) -> bool {
     for round in 0..ROUNDS {
         if !push_rows(alloc, queue, round)

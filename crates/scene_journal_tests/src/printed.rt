@@ -70,8 +70,8 @@ fn write_body(world: &World, text: &mut String) -> Result<(), AllocError> {
     write_resources(world, world.resources().names()?.as_slice(), text)
 }
 
-/// All that a world is: its kinds, slots, free indices, tick, rows, children and resources, in their order. So two worlds are
-/// equal just where their texts are; the room that they have isn't told.
+/// All that a world is: its kinds, slots, free indices, tick, rows, children and resources, in their order. So two
+/// worlds are equal just where their texts are; the room that they have isn't told.
 pub fn text_of(alloc: Global, world: &World) -> Result<String, AllocError> {
     let mut text = String::new(alloc);
     let written = write_head(world, &mut text).and(write_body(world, &mut text));

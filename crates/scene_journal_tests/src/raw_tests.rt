@@ -1,4 +1,5 @@
-//! Worlds that were worked out by hand, made and taken back delta by delta: which rows stand where, and which slots there are.
+//! Worlds that were worked out by hand, made and taken back delta by delta: which rows stand where, and which slots
+//! there are.
 use crate::changes::Change::{Comes, Leaves, Linked, Put, SetAgain, Tagged};
 use crate::changes::{Change, LinkTo};
 use crate::scenes::empty_world;

@@ -1,5 +1,5 @@
-//! What is tried on worlds. One function owns them, and lends them to all others, since each function that drops one is dear
-//! to prove.
+//! What is tried on worlds. One function owns them, and lends them to all others, since each function that drops one is
+//! dear to prove.
 use crate::long_tests::{is_world, record_is_tried};
 use crate::refusal_tests::{redone_are_tried, undone_are_tried};
 use crate::steps::{Step, first_wrong};

@@ -21,6 +21,7 @@ ListsAreSeen =
 abbrev pub two : List ℕ
 two = codes "{\"b\":1,\"a\":true,\"b\":null}"
 
+-- its members are found by their keys, and the first of another key
 abbrev pub ObjectsAreSeen : Type 0
 ObjectsAreSeen =
     (get (codes "b") (data_of (tokens two)) ≡ Some null)

@@ -1,8 +1,10 @@
--- What a search from the front says of the list that it went over: of the place where it ends, or of the whole list where it finds none.
+-- What a search from the front says of the list that it went over: of the place where it ends, or of the whole list
+-- where it finds none.
 use Rattle.std.proofs.Common.{◌≡◌, ◌∙◌, ℕ, suc, ◌+◌, Bool, true, false, cond, List, [], ◌∷◌, ◌++◌, length, refl, ap, subst, arith, Some, None, is_some}
 use Rattle.std.specs.List.{position_from}
 
--- what holds of the first place where an element that passes stands there, and of the next place where one that doesn't comes before
+-- what holds of the first place where an element that passes stands there, and of the next place where one that doesn't
+-- comes before
 module _ {X : Type 0} (test : X → Bool) (At : List X → ℕ → Type 0) (here : (x : X) (xs : List X) → test x ≡ true → At (x ∷ xs) 0) (later : (x : X) (xs : List X) (k : ℕ) → test x ≡ false → At xs k → At (x ∷ xs) (suc k)) where
   found_from : (xs : List X) (n i : ℕ) → position_from test n xs ≡ Some i → (k : ℕ) × ((i ≡ n + k) × At xs k)
   found_from [] n i h = cc

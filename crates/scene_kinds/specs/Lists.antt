@@ -1,4 +1,5 @@
--- Maps from keys to lists, in which no key stands with an empty list: an entry holds the first of its list and the rest.
+-- Maps from keys to lists, in which no key stands with an empty list: an entry holds the first of its list and the
+-- rest.
 use Rattle.std.specs.Prelude.{List, [], ◌∷◌, Option, Some, None}
 use Rattle.std.specs.declared.cmp.Ordering.{Ordering}
 use Rattle.std.specs.Cmp.{IsTotalOrder}

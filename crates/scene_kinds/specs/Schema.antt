@@ -49,7 +49,8 @@ has_shape value (Some shape) = is_in_range value && same_shape (shape_of_value v
 abbrev pub fits_kind : Kinds → Value → ℕ → Bool
 fits_kind kinds value kind = has_shape value (shape_of kinds kind)
 
--- what always holds of a schema: it has at most 64 kinds, and their names are good and distinct, so that each is found by its name
+-- what always holds of a schema: it has at most 64 kinds, and their names are good and distinct, so that each is found
+-- by its name
 pub record IsSchema (kinds : Kinds) : Type 0 where
   pub few : length kinds ≤ 64
   pub good : All (λ k. is_good_name k.0 ≡ true) kinds

@@ -16,8 +16,8 @@ pub struct Cell {
 }
 
 impl Cell {
-    /// A cell that is added now, at a tick: both its ticks are that one (docs/MODEL.md, "The rule of ticks"). Its value is
-    /// in the range of its type.
+    /// A cell that is added now, at a tick: both its ticks are that one (docs/MODEL.md, "The rule of ticks"). Its value
+    /// is in the range of its type.
     pub fn new(value: Value, tick: u64) -> Cell
         ensures cell { result ≡ new_cell tick value }
         ensures in_range { is_in_range value ≡ true }

@@ -8,7 +8,7 @@ ghost use Rattle.scene_lock.specs.Steps.{IsFree};
 use crate::kept::Kept;
 use crate::knowledge::{Founding, Knowledge};
 use crate::pass::Pass;
-use crate::steps::OUT;
+use crate::plays::OUT;
 use atomic_table::{Refused, Seat, Table, TableRule};
 use std::alloc::{AllocError, Global};
 use std::marker::{Model, PhantomData};

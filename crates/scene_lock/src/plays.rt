@@ -2,10 +2,13 @@
 //! `specs/Steps.antt`.
 //!
 //! Beside these a lock is made with one seat for all passes, and closed with the seat of one.
+ghost use Rattle.std.specs.Prelude.{ℕ, refl};
+ghost use Rattle.scene_lock.specs.declared.knowledge.Kind.{Kind};
 ghost use Rattle.scene_lock.specs.declared.knowledge.Kind.TheVariants.{TakeToChange, TakeToShare, PutChanged, PutAsItWas, PutWanted};
 ghost use Rattle.scene_lock.specs.Members.{joined_seat, spent_seat, first_seat, others_seat};
 ghost use Rattle.scene_lock.specs.Rule.{taken, put, looked};
 ghost use Rattle.scene_lock.specs.Shared.{shared_good, shared_entries};
+ghost use Rattle.scene_lock.specs.Steps.{Turns};
 
 use crate::kept::Kept;
 use crate::knowledge::Knowledge;
@@ -13,39 +16,96 @@ use atomic_table::{Join, Play, Split};
 use std::marker::PhantomData;
 use std::sync::Arc;
 
-/// The state is taken out to be changed, at word 0 or at word 2.
-pub(crate) struct ToChange<S>(PhantomData<S>);
+/// The state is at home, and nobody asks for it.
+pub(crate) const FREE: u64 = 0;
 
-impl<S: Kept> Play<Option<Arc<S>>, Knowledge<S::Entry, S::Opening>> for ToChange<S> {
-    ghost then = { taken (shared_good S.good S.opening) (shared_entries S.entries) S.legal S.session TakeToChange };
+/// The state is out with a thread.
+pub(crate) const OUT: u64 = 1;
+
+/// The state is at home, and a `write` wants it: no new share is given out.
+pub(crate) const WANTED: u64 = 2;
+
+/// What the state is taken out for: by which kind of step.
+pub(crate) trait TakeKind {
+    ghost kind: { Kind };
 }
 
-/// The state is taken out to be shared, at word 0.
-pub(crate) struct ToShare<S>(PhantomData<S>);
+/// To be changed, at word 0 or at word 2.
+pub(crate) struct ToChange;
 
-impl<S: Kept> Play<Option<Arc<S>>, Knowledge<S::Entry, S::Opening>> for ToShare<S> {
-    ghost then = { taken (shared_good S.good S.opening) (shared_entries S.entries) S.legal S.session TakeToShare };
+impl TakeKind for ToChange {
+    ghost kind = { TakeToChange };
 }
 
-/// The state is put back with one entry more, and the word is 0.
-pub(crate) struct Changed<S>(PhantomData<S>);
+/// To be shared, at word 0.
+pub(crate) struct ToShare;
 
-impl<S: Kept> Play<Option<Arc<S>>, Knowledge<S::Entry, S::Opening>> for Changed<S> {
-    ghost then = { put (shared_entries S.entries) S.legal S.session PutChanged };
+impl TakeKind for ToShare {
+    ghost kind = { TakeToShare };
 }
 
-/// The state is put back as it was, and the word is 0.
-pub(crate) struct AsItWas<S>(PhantomData<S>);
+/// The state is taken out.
+pub(crate) struct Take<S, T>(PhantomData<(S, T)>);
 
-impl<S: Kept> Play<Option<Arc<S>>, Knowledge<S::Entry, S::Opening>> for AsItWas<S> {
-    ghost then = { put (shared_entries S.entries) S.legal S.session PutAsItWas };
+impl<S: Kept, T: TakeKind> Play<Option<Arc<S>>, Knowledge<S::Entry, S::Opening>> for Take<S, T> {
+    ghost then = { taken (shared_good S.good S.opening) (shared_entries S.entries) S.legal S.session T.kind };
 }
 
-/// The state is put back as it was, and the word is 2.
-pub(crate) struct Wanted<S>(PhantomData<S>);
+/// How the state is put back: by which kind of step, and which word that leaves.
+pub(crate) trait PutKind {
+    const WORD: u64;
 
-impl<S: Kept> Play<Option<Arc<S>>, Knowledge<S::Entry, S::Opening>> for Wanted<S> {
-    ghost then = { put (shared_entries S.entries) S.legal S.session PutWanted };
+    ghost WORD: { ℕ };
+
+    ghost kind: { Kind };
+
+    ghost turns: { Turns kind 1 WORD };
+}
+
+/// With one entry more, and free.
+pub(crate) struct Changed;
+
+impl PutKind for Changed {
+    const WORD: u64 = FREE;
+
+    ghost WORD = { 0 };
+
+    ghost kind = { PutChanged };
+
+    ghost turns = { (refl, refl) };
+}
+
+/// As it was, and free.
+pub(crate) struct AsItWas;
+
+impl PutKind for AsItWas {
+    const WORD: u64 = FREE;
+
+    ghost WORD = { 0 };
+
+    ghost kind = { PutAsItWas };
+
+    ghost turns = { (refl, refl) };
+}
+
+/// As it was, and wanted: no new share is given out until it was changed.
+pub(crate) struct Wanted;
+
+impl PutKind for Wanted {
+    const WORD: u64 = WANTED;
+
+    ghost WORD = { 2 };
+
+    ghost kind = { PutWanted };
+
+    ghost turns = { (refl, refl) };
+}
+
+/// The state is put back.
+pub(crate) struct Put<S, P>(PhantomData<(S, P)>);
+
+impl<S: Kept, P: PutKind> Play<Option<Arc<S>>, Knowledge<S::Entry, S::Opening>> for Put<S, P> {
+    ghost then = { put (shared_entries S.entries) S.legal S.session P.kind };
 }
 
 /// The whole history is looked at, and the state stays where it is.

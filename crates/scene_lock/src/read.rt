@@ -8,6 +8,7 @@ use crate::kept::Kept;
 use crate::lock::WordLock;
 use crate::look::Look;
 use crate::pass::Pass;
+use crate::plays::{AsItWas, FREE, ToShare};
 use crossbeam_utils::Backoff;
 use std::alloc::Global;
 use std::sync::{Arc, Wait};
@@ -27,12 +28,12 @@ impl<S: Kept + Drop> WordLock<S> {
             (λ s. L.answers question.now s a)) }
         ensures steps { TriesToRead pass.session pass.steps result.1 result.0.steps }
     {
-        let (state, holder) = match self.take_to_share(pass) {
+        let (state, holder) = match self.take::<ToShare>(pass, FREE) {
             Ok(taken) => taken,
             Err(pass) => return (pass, None),
         };
         let share = Arc::try_clone(&state);
-        let pass = self.put_as_it_was(holder, state);
+        let pass = self.put_back::<AsItWas>(holder, state);
         match share {
             Ok(share) => (pass, Some(question.look(alloc, &share))),
             Err(_) => (pass, None),

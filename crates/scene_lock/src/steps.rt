@@ -2,30 +2,20 @@
 //! of a lock.
 ghost use Rattle.std.specs.Prelude.{◌≡◌, ◌+◌, ◌-◌, ◌≤◌, ◌++◌, ◌∷◌, ℕ, suc, true, [], IfOk, IfErr, MatchResult, None, Some, vec_capacity, vec_len};
 ghost use Rattle.std.specs.Arc.{arc_value};
-ghost use Rattle.scene_lock.specs.declared.knowledge.Kind.TheVariants.{TakeToChange, TakeToShare, PutChanged, PutAsItWas, PutWanted};
 ghost use Rattle.scene_lock.specs.History.{IsLegal};
 ghost use Rattle.scene_lock.specs.Members.{member, seen_of, made_by, new_seat, opening_seat};
 ghost use Rattle.scene_lock.specs.Pass.{IsPassOf, Follows, first_pass, first_passes};
 ghost use Rattle.scene_lock.specs.Shared.{HasTaken, IsStateOf, Carries};
-ghost use Rattle.scene_lock.specs.Steps.{IsFree, Moves, step_of};
+ghost use Rattle.scene_lock.specs.Steps.{IsFree, Turns, Moves, step_of};
 
 use crate::holder::Holder;
 use crate::kept::Kept;
 use crate::knowledge::Knowledge;
 use crate::lock::WordLock;
 use crate::pass::Pass;
-use crate::plays::{AsItWas, Changed, Part, ToChange, ToShare, Wanted};
+use crate::plays::{FREE, OUT, Part, Put, PutKind, Take, TakeKind, WANTED};
 use atomic_table::Seat;
 use std::sync::Arc;
-
-/// The state is at home, and nobody asks for it.
-pub(crate) const FREE: u64 = 0;
-
-/// The state is out with a thread.
-pub(crate) const OUT: u64 = 1;
-
-/// The state is at home, and a `write` wants it: no new share is given out.
-const WANTED: u64 = 2;
 
 impl<S: Kept> WordLock<S> {
     /// The word at which a change may take the state out, should it still be this one then.
@@ -44,7 +34,8 @@ impl<S: Kept> WordLock<S> {
     ) -> (Arc<S>, Holder<S>)
         requires lock { seat.table_id ≡ self.now.id }
         requires out { Carries seat.me.1 }
-        requires holds { (seat.me.0.holding ≡ true) × (seat.me.0.members ≡ member number (seen_of seat.me.0.members) (made_by seat.me.0.members) ∷ []) }
+        requires holding { seat.me.0.holding ≡ true }
+        requires alone { seat.me.0.members ≡ member number (seen_of seat.me.0.members) (made_by seat.me.0.members) ∷ [] }
         ensures state { seat.me.1 ≡ (0, Some result.0) ∷ [] }
         ensures holder { result.1 ≡ record {
           id = self.now.id;
@@ -59,38 +50,22 @@ impl<S: Kept> WordLock<S> {
         (state, Holder { seat, number })
     }
 
-    /// Takes the state out to share it, at word 0. Else the pass has looked at the history.
-    pub(crate) fn take_to_share(&self, pass: Pass<S>) -> Result<(Arc<S>, Holder<S>), Pass<S>>
-        requires { IsPassOf self.now pass }
-        ensures taken { IfOk result (λ t. HasTaken S.good S.opening S.entries S.legal S.session self.now pass t.0 t.1) }
-        ensures busy { IfErr result (λ p. Follows S.legal S.session self.now pass p) }
-        ensures steps { MatchResult result (λ t. t.1.steps ≡ pass.steps ++ step_of pass.session TakeToShare 0 1 ∷ []) (λ p. p.steps ≡ pass.steps) }
-    {
-        let Pass { mut seat, number } = pass;
-        let shared = &self.table.shared;
-        let found = shared.compare_exchange::<ToShare<S>>(&mut seat, 0, FREE, OUT);
-        if found != FREE {
-            return Err(Pass { seat, number });
-        }
-        Ok(self.lift(seat, number))
-    }
-
-    /// Takes the state out to change it, at this word. Else the pass has looked at the history.
-    pub(crate) fn take_to_change(
+    /// Takes the state out by a step of this kind, at this word. Else the pass has looked at the history.
+    pub(crate) fn take<T: TakeKind>(
         &self,
         pass: Pass<S>,
         from: u64,
     ) -> Result<(Arc<S>, Holder<S>), Pass<S>>
         requires lock { IsPassOf self.now pass }
-        requires free { IsFree from }
+        requires turns { Turns T.kind from 1 }
         ensures taken { IfOk result (λ t. HasTaken S.good S.opening S.entries S.legal S.session self.now pass t.0 t.1) }
         ensures busy { IfErr result (λ p. Follows S.legal S.session self.now pass p) }
         ensures steps { MatchResult result
-            (λ t. t.1.steps ≡ pass.steps ++ step_of pass.session TakeToChange from 1 ∷ []) (λ p. p.steps ≡ pass.steps) }
+            (λ t. t.1.steps ≡ pass.steps ++ step_of pass.session T.kind from 1 ∷ []) (λ p. p.steps ≡ pass.steps) }
     {
         let Pass { mut seat, number } = pass;
         let shared = &self.table.shared;
-        let found = shared.compare_exchange::<ToChange<S>>(&mut seat, 0, from, OUT);
+        let found = shared.compare_exchange::<Take<S, T>>(&mut seat, 0, from, OUT);
         if found != from {
             return Err(Pass { seat, number });
         }
@@ -115,51 +90,19 @@ impl<S: Kept> WordLock<S> {
         (seat, number)
     }
 
-    /// Puts the state back with one entry of the session more, and leaves it free.
-    pub(crate) fn put_changed(&self, holder: Holder<S>, state: Arc<S>) -> Pass<S>
+    /// Puts the state back by a step of this kind.
+    pub(crate) fn put_back<P: PutKind>(&self, holder: Holder<S>, state: Arc<S>) -> Pass<S>
         requires lock { IsPassOf self.now holder }
         requires good { IsStateOf S.good S.opening self.now.terms.opening (arc_value state) }
-        requires moved { Moves S.session PutChanged holder.session holder.seen (S.entries (arc_value state)) }
+        requires moved { Moves S.session P.kind holder.session holder.seen (S.entries (arc_value state)) }
         ensures pass { result ≡ record holder {
           seen = S.entries (arc_value state);
-          steps = holder.steps ++ step_of holder.session PutChanged 1 0 ∷ [];
+          steps = holder.steps ++ step_of holder.session P.kind 1 P.WORD ∷ [];
         } }
         ensures legal { IsLegal S.legal S.session self.now.terms (S.entries (arc_value state)) }
     {
         let (mut seat, number) = self.fill(holder, state);
-        self.table.shared.swap::<Changed<S>>(&mut seat, 0, FREE);
-        Pass { seat, number }
-    }
-
-    /// Puts the state back as it was, and leaves it free.
-    pub(crate) fn put_as_it_was(&self, holder: Holder<S>, state: Arc<S>) -> Pass<S>
-        requires lock { IsPassOf self.now holder }
-        requires good { IsStateOf S.good S.opening self.now.terms.opening (arc_value state) }
-        requires moved { Moves S.session PutAsItWas holder.session holder.seen (S.entries (arc_value state)) }
-        ensures pass { result ≡ record holder {
-          seen = S.entries (arc_value state);
-          steps = holder.steps ++ step_of holder.session PutAsItWas 1 0 ∷ [];
-        } }
-        ensures legal { IsLegal S.legal S.session self.now.terms (S.entries (arc_value state)) }
-    {
-        let (mut seat, number) = self.fill(holder, state);
-        self.table.shared.swap::<AsItWas<S>>(&mut seat, 0, FREE);
-        Pass { seat, number }
-    }
-
-    /// Puts the state back as it was, and leaves it wanted: no new share is given out until it was changed.
-    pub(crate) fn put_wanted(&self, holder: Holder<S>, state: Arc<S>) -> Pass<S>
-        requires lock { IsPassOf self.now holder }
-        requires good { IsStateOf S.good S.opening self.now.terms.opening (arc_value state) }
-        requires moved { Moves S.session PutWanted holder.session holder.seen (S.entries (arc_value state)) }
-        ensures pass { result ≡ record holder {
-          seen = S.entries (arc_value state);
-          steps = holder.steps ++ step_of holder.session PutWanted 1 2 ∷ [];
-        } }
-        ensures legal { IsLegal S.legal S.session self.now.terms (S.entries (arc_value state)) }
-    {
-        let (mut seat, number) = self.fill(holder, state);
-        self.table.shared.swap::<Wanted<S>>(&mut seat, 0, WANTED);
+        self.table.shared.swap::<Put<S, P>>(&mut seat, 0, P::WORD);
         Pass { seat, number }
     }
 

@@ -11,7 +11,7 @@ use crate::holder::Holder;
 use crate::kept::Kept;
 use crate::lock::WordLock;
 use crate::pass::Pass;
-use crate::steps::FREE;
+use crate::plays::{AsItWas, Changed, FREE, ToChange, Wanted};
 use crossbeam_utils::Backoff;
 use std::alloc::Global;
 use std::sync::{Arc, Wait};
@@ -73,8 +73,8 @@ impl<S: Kept> WordLock<S> {
         ensures legal { IsLegal S.legal S.session self.now.terms (S.entries (arc_value state)) }
     {
         match reply {
-            Ok(_) => self.put_changed(holder, state),
-            Err(_) => self.put_as_it_was(holder, state),
+            Ok(_) => self.put_back::<Changed>(holder, state),
+            Err(_) => self.put_back::<AsItWas>(holder, state),
         }
     }
 
@@ -98,13 +98,13 @@ impl<S: Kept> WordLock<S> {
         ensures busy { IfErr result.1 (λ j. (j ≡ job) × Follows S.legal S.session self.now pass result.0) }
         ensures steps { TriesToWrite pass.session pass.steps result.1 result.0.steps }
     {
-        let (mut share, holder) = match self.take_to_change(pass, FREE) {
+        let (mut share, holder) = match self.take::<ToChange>(pass, FREE) {
             Ok(taken) => taken,
             Err(pass) => return (pass, Err(job)),
         };
         match change_alone(alloc, &mut share, job, holder.session()) {
             Ok(reply) => (self.put_after(holder, share, &reply), Ok(reply)),
-            Err(job) => (self.put_as_it_was(holder, share), Err(job)),
+            Err(job) => (self.put_back::<AsItWas>(holder, share), Err(job)),
         }
     }
 
@@ -125,13 +125,13 @@ impl<S: Kept> WordLock<S> {
         ensures steps { Attempts pass.session pass.steps result.1 result.0.steps }
     {
         let from = self.free_word();
-        let (mut share, holder) = match self.take_to_change(pass, from) {
+        let (mut share, holder) = match self.take::<ToChange>(pass, from) {
             Ok(taken) => taken,
             Err(pass) => return (pass, Err(job)),
         };
         match change_waiting(rt, alloc, &mut share, job, holder.session()) {
             Ok(reply) => (self.put_after(holder, share, &reply), Ok(reply)),
-            Err(job) => (self.put_wanted(holder, share), Err(job)),
+            Err(job) => (self.put_back::<Wanted>(holder, share), Err(job)),
         }
     }
 

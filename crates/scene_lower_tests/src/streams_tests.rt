@@ -84,8 +84,8 @@ fn a_source_without_turns_reads_no_more(rt: HostRuntime) {
     }
 }
 
-/// Whether a source of 1000 spaces, 100 a call, whose reader fails at one of its first 11 calls, fails then and stays so
-/// without a further call.
+/// Whether a source of 1000 spaces, 100 a call, whose reader fails at one of its first 11 calls, fails then and stays
+/// so without a further call.
 fn fails_for_good(alloc: Global, fails_at: u32) -> bool {
     let fault = Err(ReadError::Fault);
     let mut source = source_of(1000, 100, fails_at, ErrorKind::Other);
@@ -141,8 +141,8 @@ fn slow_sink(alloc: Global, stops_at: u32, fails: bool) -> Sink<Taker> {
     Sink::new(Taker::new(alloc, stops_at, fails))
 }
 
-/// Whether a sink whose writer stops at one call, from 1, takes just what came before it, fails, and calls the writer no
-/// more.
+/// Whether a sink whose writer stops at one call, from 1, takes just what came before it, fails, and calls the writer
+/// no more.
 fn stops_for_good(sink: Sink<Taker>, text: &[u8], stops_at: u32) -> bool {
     let mut sink = sink;
     let failed = sink.write_all(text).is_err() && sink.has_failed();

@@ -62,8 +62,8 @@ after_three =
 abbrev pub SpawnsGoLast : Type 0
 SpawnsGoLast = ends three ≡ after_three
 
--- the despawn of the first of three: the last row takes its place, its index is free with a raised generation; the undo gives
--- back the world before
+-- the despawn of the first of three: the last row takes its place, its index is free with a raised generation; the undo
+-- gives back the world before
 abbrev pub DespawnSwapsTheLastIn : Type 0
 DespawnSwapsTheLastIn =
     let after_despawn : List Call = three ++ only (Despawn (ent 0 1)) ∷ [] in
@@ -77,8 +77,8 @@ DespawnOfTheLastRow =
     (ends after_despawn ≡ world 4 (1 ∷ 1 ∷ 2 ∷ []) (2 ∷ []) ((1, (int_row (ent 0 1) 0 1 1, int_row (ent 1 1) 1 2 2 ∷ [])) ∷ []) tt)
     × (ends (after_despawn ++ Undo ∷ []) ≡ after_three)
 
--- an insert of another kind moves the row to another table, and its removal moves it back, last; two undos give back the rows'
--- order, and two redos the one after
+-- an insert of another kind moves the row to another table, and its removal moves it back, last; two undos give back
+-- the rows' order, and two redos the one after
 abbrev pub MovesGoLast : Type 0
 MovesGoLast =
     let moved : List Call = three ++ only (Insert (ent 1 1) 1 value.Tag) ∷ only (Remove (ent 1 1) 1) ∷ [] in
@@ -94,8 +94,8 @@ EqualValueIsAWrite =
     (ends calls ≡ world 2 (1 ∷ []) [] ((1, (int_row (ent 0 1) 5 1 2, [])) ∷ []) tt)
     × (ends (calls ++ Undo ∷ []) ≡ world 1 (1 ∷ []) [] ((1, (int_row (ent 0 1) 5 1 1, [])) ∷ []) tt)
 
--- one frame spawns a chain of three, a recursive despawn frees it children first, a spawn reuses the index that was freed last, and
--- two undos give back the chain
+-- one frame spawns a chain of three, a recursive despawn frees it children first, a spawn reuses the index that was
+-- freed last, and two undos give back the chain
 abbrev pub chain : Call
 chain =
     let under_first : _ = λ e. SetParent e (ent 0 1) in
@@ -117,7 +117,8 @@ RecursiveDespawnComesBack =
     × (replies fresh calls ≡ made (ent 0 1 ∷ ent 1 1 ∷ ent 2 1 ∷ []) ∷ done ∷ made (ent 0 2 ∷ []) ∷ [])
     × (ends (calls ++ Undo ∷ Undo ∷ []) ≡ family)
 
--- in one frame an entity goes and a spawn reuses its index; a recursive despawn that passes over the dead does nothing then
+-- in one frame an entity goes and a spawn reuses its index; a recursive despawn that passes over the dead does nothing
+-- then
 abbrev pub DeadArePassedOver : Type 0
 DeadArePassedOver =
     let calls : List Call =
@@ -125,7 +126,8 @@ DeadArePassedOver =
     (replies fresh (calls ++ only (DespawnRecursive (ent 0 1)) ∷ []) ≡ made (ent 0 1 ∷ []) ∷ made (ent 0 2 ∷ []) ∷ refused_first NoSuchEntity ∷ [])
     × (ends calls ≡ world 2 (2 ∷ []) [] ((2, (tag_row (ent 0 2) 2, [])) ∷ []) tt)
 
--- a child goes last in its new parent's list, also where that is its old one; an entity is no parent of itself or of its ancestor
+-- a child goes last in its new parent's list, also where that is its old one; an entity is no parent of itself or of
+-- its ancestor
 abbrev pub three_tags : World
 three_tags = world 3 (1 ∷ 1 ∷ 1 ∷ []) [] ((2, (tag_row (ent 0 1) 1, tag_row (ent 1 1) 2 ∷ tag_row (ent 2 1) 3 ∷ [])) ∷ []) tt
 
@@ -197,7 +199,8 @@ LastTickRefuses =
     (step late (one (spawn_int 1)) ≡ (late, refused TickFull))
     × (step late empty_frame ≡ (late, refused TickFull))
 
--- after an undo and another frame the tick is the same again, but not the count of rewinds: so an old cursor is known by it
+-- after an undo and another frame the tick is the same again, but not the count of rewinds: so an old cursor is known
+-- by it
 abbrev pub RewindsTellOldCursors : Type 0
 RewindsTellOldCursors =
     let before : Machine World = after_calls fresh (empty_frame ∷ []) in

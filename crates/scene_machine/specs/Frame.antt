@@ -19,7 +19,8 @@ abbrev pub whole_or_refused : {S : Type 0} → ℕ → Ended S → Outcome (List
 whole_or_refused q e = all_or_refused q e.progress.state e.progress.spawned e.refused
 
 module _ {S : Type 0} (act : Act S) where
-  -- a queue as a whole, the q-th of its frame: the entities that it spawned and the state after it, or its first refusal
+  -- a queue as a whole, the q-th of its frame: the entities that it spawned and the state after it, or its first
+  -- refusal
   abbrev pub queue : ℕ → List Request → S → Outcome (List Entity) S
   queue q rs s = whole_or_refused q (play act rs s)
 
@@ -28,7 +29,8 @@ module _ {S : Type 0} (act : Act S) where
   queues_from q [] s = Ok ([], s)
   queues_from q (rs ∷ rss) s = and_then (queue q rs s) (λ es t. and_then (queues_from (q + 1) rss t) (λ fs u. Ok (es ++ fs, u)))
 
--- a frame of whatever kind, by what it does to a world: it raises the tick, and then it is done; a refusal gives no world
+-- a frame of whatever kind, by what it does to a world: it raises the tick, and then it is done; a refusal gives no
+-- world
 abbrev pub framed : (World → Outcome (List Entity) World) → World → Outcome (List Entity) World
 framed does w = and_then (raise_tick w) (λ a v. does v)
 

@@ -3,8 +3,8 @@ use Rattle.std.specs.Prelude.{ℕ, ◌+◌, List, [], ◌∷◌, take, Ok, Err, 
 use Rattle.scene_kinds.specs.declared.fault.Fault.TheVariants.{NothingToUndo, NothingToRedo, TickFull}
 use Rattle.scene_kinds.specs.Answers.{Outcome, refuse}
 
--- the worlds before each frame, the newest first; the world now; the worlds that were undone, the next one first; how many undos
--- there were; and the depth: how many worlds its past keeps
+-- the worlds before each frame, the newest first; the world now; the worlds that were undone, the next one first; how
+-- many undos there were; and the depth: how many worlds its past keeps
 pub record Machine (W : Type 0) : Type 0 where
   pub past : List W
   pub now : W

@@ -7,8 +7,8 @@ use Rattle.scene_kinds.specs.declared.refusal.Refusal.{Refusal}
 use Rattle.scene_kinds.specs.Answers.{Outcome, refusal_of, refuse}
 use Rattle.scene_model.specs.Perform.{Command, Act}
 
--- a command as a queue holds it: the command that it is, once the entities are known that its queue has spawned so far; none where
--- it names one of them that isn't there yet
+-- a command as a queue holds it: the command that it is, once the entities are known that its queue has spawned so far;
+-- none where it names one of them that isn't there yet
 abbrev pub Request : Type 0
 Request = List Entity → Option Command
 
@@ -67,7 +67,8 @@ module _ {S : Type 0} (act : Act S) where
   abbrev pub play : List Request → S → Ended S
   play rs s = play_from 0 rs (reached s [])
 
--- a refusal of a frame has its place: the phase (0, where there are no systems), the queue and the command; want of memory has none
+-- a refusal of a frame has its place: the phase (0, where there are no systems), the queue and the command; want of
+-- memory has none
 abbrev pub refused_at : ℕ → ℕ → Fault → Refusal
 refused_at q i NoMemory = refusal_of NoMemory
 refused_at q i fault = record { fault = fault; place = Some (record { phase = 0; queue = q; command = i }) }

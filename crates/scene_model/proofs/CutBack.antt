@@ -1,4 +1,5 @@
--- A row that is cut with its slot and its link, and one that comes back to its place, keep a valid world valid and come back.
+-- A row that is cut with its slot and its link, and one that comes back to its place, keep a valid world valid and come
+-- back.
 use Rattle.std.proofs.Common.{◌≡◌, ℕ, ◌≤◌, Bool, true, false, ◌||◌, List, [], length, refl, ap, subst, sym, ◌∙◌, Option, Some, None, slice_get, nat_eq}
 use Rattle.std.specs.Prelude.{◌==◌, is_some, option_map}
 use Rattle.std.specs.Cmp.{nat_cmp_total}

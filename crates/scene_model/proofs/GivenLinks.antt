@@ -1,4 +1,5 @@
--- A forest in which an entity is given another link: who is above whom, whose link is which, and that it stays a forest.
+-- A forest in which an entity is given another link: who is above whom, whose link is which, and that it stays a
+-- forest.
 use Rattle.std.proofs.Common.{◌≡◌, ℕ, zero, suc, ◌<◌, ◌≤◌, true, false, cond, length, refl, ap, subst, sym, ◌∙◌, arith, Option, Some, None}
 use Rattle.std.specs.Prelude.{IfSome, option_map}
 use Rattle.std.proofs.lemmas.Bool.{or_parts, or_from, false_from_ne_true}

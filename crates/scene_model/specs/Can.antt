@@ -49,8 +49,8 @@ pub record IsPlaceIn (w : World) (children : Forest) (link : Entity × ℕ) : Ty
   pub live : is_live w link.0 ≡ true
   pub within : link.1 ≤ length (children_of children link.0)
 
--- a link that a live entity may get: it has a place in the parent's list without the entity, and the parent is neither the entity
--- nor below it
+-- a link that a live entity may get: it has a place in the parent's list without the entity, and the parent is neither
+-- the entity nor below it
 pub record CanHaveLink (w : World) (e : Entity) (link : Entity × ℕ) : Type 0 where
   pub room : IsPlaceIn w (cut w.children e) link
   pub other : is_same e link.0 ≡ false
@@ -81,7 +81,8 @@ pub record CanDrop (w : World) (e : Entity) (cells : List (ℕ × Cell)) (fresh 
   pub childless : children_of w.children e ≡ []
   pub newest : fresh ≡ true → IsFresh w.slots e
 
--- the row stands at this place with these cells, and the entity has this link, no child, and an index that retires or not
+-- the row stands at this place with these cells, and the entity has this link, no child, and an index that retires or
+-- not
 pub record CanCut (w : World) (e : Entity) (place : ℕ) (cells : List (ℕ × Cell)) (link : Option (Entity × ℕ)) (retired : Bool) : Type 0 where
   pub row : HasRow w e place cells
   pub childless : children_of w.children e ≡ []

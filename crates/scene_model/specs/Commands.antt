@@ -1,4 +1,5 @@
--- The nine commands, and raising the tick, as functions of whole worlds: the first refusal, or the answer with the world after.
+-- The nine commands, and raising the tick, as functions of whole worlds: the first refusal, or the answer with the
+-- world after.
 use Rattle.std.specs.Prelude.{ℕ, ◌+◌, List, [], ◌∷◌, Bool, false, not, ◌||◌, ◌&&◌, Option, Some, None, Ok, Err, is_some, nat_eq, if◌then◌else◌}
 use Rattle.std.specs.List.{list_any}
 use Rattle.scene_kinds.specs.declared.entity.Entity.{Entity}

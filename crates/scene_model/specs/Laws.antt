@@ -1,4 +1,5 @@
--- Laws of the commands: an accepted one keeps a valid world valid, and a recursive despawn is accepted or refused as a whole.
+-- Laws of the commands: an accepted one keeps a valid world valid, and a recursive despawn is accepted or refused as a
+-- whole.
 use Rattle.std.specs.Prelude.{◌≡◌, true, Option, Ok}
 use Rattle.scene_kinds.specs.declared.entity.Entity.{Entity}
 use Rattle.scene_model.specs.World.{World, is_live}

@@ -1,4 +1,5 @@
--- The commands as one type, and what each of them does to a world: the nine of a world, and the one that passes over a dead entity.
+-- The commands as one type, and what each of them does to a world: the nine of a world, and the one that passes over a
+-- dead entity.
 use Rattle.std.specs.Prelude.{ℕ, List, Bool, true, Option, Some, None, Ok, Err}
 use Rattle.std.specs.List.{list_all}
 use Rattle.scene_kinds.specs.declared.entity.Entity.{Entity}
@@ -28,7 +29,8 @@ pub data Command : Type 0 where
 abbrev pub Act : Type 0 → Type 0
 Act S = S → Command → Outcome (Option Entity) S
 
--- the values that a command gives are ones that their types can hold, as every value of a program is (`Value::shape` says so)
+-- the values that a command gives are ones that their types can hold, as every value of a program is (`Value::shape`
+-- says so)
 abbrev pub are_in_range : Command → Bool
 are_in_range (Spawn cells) = list_all (λ c. is_in_range c.1) cells
 are_in_range (Insert e kind value) = is_in_range value

@@ -1,5 +1,6 @@
--- The raw changes of a world, of which each is taken back by another: what a row, a cell, a link, a resource or the tick is made to
--- be. A change of an entity's row does nothing where the entity has none. `Can` says where each may be made.
+-- The raw changes of a world, of which each is taken back by another: what a row, a cell, a link, a resource or the
+-- tick is made to be. A change of an entity's row does nothing where the entity has none. `Can` says where each may be
+-- made.
 use Rattle.std.specs.Prelude.{ℕ, List, [], Bool, true, false, not, Option, Some, None, Ok, Err}
 use Rattle.scene_kinds.specs.declared.entity.Entity.{Entity}
 use Rattle.scene_kinds.specs.declared.cell.Cell.{Cell}

@@ -1,4 +1,5 @@
--- Laws of the raw changes: each keeps a valid world valid where it may be made, and is taken back exactly by its other one.
+-- Laws of the raw changes: each keeps a valid world valid where it may be made, and is taken back exactly by its other
+-- one.
 use Rattle.std.specs.Prelude.{◌≡◌, ℕ, List, Bool, Option}
 use Rattle.scene_kinds.specs.declared.entity.Entity.{Entity}
 use Rattle.scene_kinds.specs.declared.cell.Cell.{Cell}
@@ -7,8 +8,8 @@ use Rattle.scene_model.specs.Valid.{IsValid}
 use Rattle.scene_model.specs.Raw.{put_row, drop_last, cut_row, uncut_row, shift_row, unshift_row, set_cell, set_link, set_resource, set_tick}
 use Rattle.scene_model.specs.Can.{CanPut, CanDrop, CanCut, CanUncut, CanShift, CanUnshift, CanSetCell, CanSetLink, CanSetResource, CanSetTick}
 
--- in a valid world where a change may be made: the world after it is valid, its other one may be made there, and gives the world
--- from before
+-- in a valid world where a change may be made: the world after it is valid, its other one may be made there, and gives
+-- the world from before
 pub record IsTakenBack (may : World → Type 0) (change : World → World) (may_undo : World → Type 0) (undo : World → World) : Type 0 where
   pub keeps : (w : World) → IsValid w → may w → IsValid (change w)
   pub can_come_back : (w : World) → IsValid w → may w → may_undo (change w)

@@ -1,4 +1,5 @@
--- Lists of changes, each told by what was noted of it: they are made one after another, and taken back from the last to the first.
+-- Lists of changes, each told by what was noted of it: they are made one after another, and taken back from the last to
+-- the first.
 use Rattle.std.specs.Prelude.{◌≡◌, ℕ, List, [], ◌∷◌, Bool, Option, Ok, ⊤, map as each}
 use Rattle.scene_kinds.specs.declared.entity.Entity.{Entity}
 use Rattle.scene_kinds.specs.declared.cell.Cell.{Cell}

@@ -29,15 +29,16 @@ pub record IsRowOf (schema : Kinds) (mask : KindSet) (row : Row) : Type 0 where
 abbrev pub is_timely : ℕ → Cell → Bool
 is_timely tick c = nat_le c.added c.changed && nat_le c.changed tick
 
--- rules 3, 5, 7 and 10 of a row: its entity has its slot's generation and an index that isn't free, its cells fit its table and the schema, and
--- their ticks are in order
+-- rules 3, 5, 7 and 10 of a row: its entity has its slot's generation and an index that isn't free, its cells fit its
+-- table and the schema, and their ticks are in order
 pub record IsSoundRow (schema : Kinds) (slots : SlotState) (tick : ℕ) (mask : KindSet) (row : Row) : Type 0 where
   pub current : IsCurrent slots row.entity
   pub busy : is_free slots row.entity.index ≡ false
   pub fits : IsRowOf schema mask row
   pub timely : list_all (λ c. is_timely tick c.1) row.cells ≡ true
 
--- each row is sound, and rule 4: no entity has two (that kind sets are distinct and none stands without rows is the map's own)
+-- each row is sound, and rule 4: no entity has two (that kind sets are distinct and none stands without rows is the
+-- map's own)
 pub record RowsAreSound (schema : Kinds) (slots : SlotState) (tick : ℕ) (tables : Tables) : Type 0 where
   pub each : EachRow (IsSoundRow schema slots tick) tables
   pub once : StandsOnce tables

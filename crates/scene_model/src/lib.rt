@@ -1,9 +1,9 @@
-//! What a world is: its definition as one value, what is valid, its commands, and the raw changes of which they are made.
-//! There is no code here, but for the functions whose contracts say the laws.
+//! What a world is: its definition as one value, what is valid, its commands, and the raw changes of which they are
+//! made. There is no code here, but for the functions whose contracts say the laws.
 //!
-//! `specs/World.antt` says what a world is and what its readers answer, `specs/Commands.antt` what the nine commands do,
-//! `specs/Perform.antt` has them as one type, and `specs/Valid.antt` the ten rules of a valid world. `laws` says of all
-//! commands that an accepted one keeps a valid world valid. Frames of commands, undo and redo are in the crate
+//! `specs/World.antt` says what a world is and what its readers answer, `specs/Commands.antt` what the nine commands
+//! do, `specs/Perform.antt` has them as one type, and `specs/Valid.antt` the ten rules of a valid world. `laws` says of
+//! all commands that an accepted one keeps a valid world valid. Frames of commands, undo and redo are in the crate
 //! `scene_machine`.
 //!
 //! `specs/Raw.antt` has the raw changes, `specs/Can.antt` where each may be made, and `raw_laws` says that each keeps a

@@ -131,7 +131,8 @@ fn write_named(
     resources: &Resources,
     names: &[String],
 ) -> Result<(), AllocError>
-    ensures { OnOk result (Adds out.old out.new (compact_text (object_by resource_member (named_cells resources.now.cells (each string_bytes names.now))))) }
+    ensures { OnOk result (Adds out.old out.new
+        (compact_text (object_by resource_member (named_cells resources.now.cells (each string_bytes names.now))))) }
 {
     let mut later = false;
     out.push_str("{")?;

@@ -49,7 +49,8 @@ IsLeft act rs count old new = (es : List Entity) × (play act (take count rs) ol
 abbrev pub IsPassed : {S : Type 0} → Act S → List Request → (old new : S) → Type 0
 IsPassed act rs old new = (count : ℕ) × ((count < length rs) × IsLeft act rs count old new)
 
--- the fold stopped in this state, at a command whose refusal this is with its place, the queue being the q-th of its frame
+-- the fold stopped in this state, at a command whose refusal this is with its place, the queue being the q-th of its
+-- frame
 abbrev pub Stops : {S : Type 0} → Act S → ℕ → List Request → (old new : S) → Refusal → Type 0
 Stops act q rs old new r =
     (at : ℕ) × ((es : List Entity) × ((why : Refusal) × ((play act rs old ≡ stopped (reached new es) at why) × (r ≡ refused_at q at why.fault))))

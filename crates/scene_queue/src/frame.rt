@@ -11,8 +11,8 @@ use std::alloc::Global;
 
 /// A frame of queues, which are applied one after another (docs/MODEL.md, "The rule of frames").
 ///
-/// It spawns the entities of all its queues, in order. Its first refusal has the place of the command that was refused, by its
-/// queue and its place in it. There may be up to 4294967295 queues, so that each has a number.
+/// It spawns the entities of all its queues, in order. Its first refusal has the place of the command that was refused,
+/// by its queue and its place in it. There may be up to 4294967295 queues, so that each has a number.
 #[derive(Clone, Copy)]
 pub struct Queues<'a>(pub &'a [Queue]);
 

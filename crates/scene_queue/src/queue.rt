@@ -88,8 +88,8 @@ fn is_spawn(command: &Command) -> bool
     }
 }
 
-/// Makes room for one more command, where the limit allows one. Most queues have one command, so the first takes the room of
-/// one.
+/// Makes room for one more command, where the limit allows one. Most queues have one command, so the first takes the
+/// room of one.
 fn make_room(commands: &mut Vec<Command>, limit: u32) -> Result<(), Refusal>
     ensures items { commands.new.items ≡ commands.old.items }
     ensures room { OnOk result (vec_len commands.new < vec_capacity commands.new) }
@@ -210,8 +210,8 @@ impl Queue {
         }
     }
 
-    /// Gives back the memory that the queue has beyond what its commands and their components need: for a queue that is to be
-    /// kept. The commands stay as they are. It has no error, and may cost a move of them.
+    /// Gives back the memory that the queue has beyond what its commands and their components need: for a queue that is
+    /// to be kept. The commands stay as they are. It has no error, and may cost a move of them.
     pub fn shrink_to_fit(&mut self)
         ensures { self.new ≡ self.old }
     {
@@ -355,8 +355,8 @@ fn do_command<S: Stage>(
     }
 }
 
-/// Makes room for what a command will spawn, if anything, or finds no memory: before it is done, so that nothing is done that
-/// can't be noted. The first takes the room of one.
+/// Makes room for what a command will spawn, if anything, or finds no memory: before it is done, so that nothing is
+/// done that can't be noted. The first takes the room of one.
 fn make_room_for(command: &Command, spawned: &mut Vec<Entity>) -> Result<(), AllocError>
     ensures items { spawned.new.items ≡ spawned.old.items }
     ensures room { OnOk result (vec_len spawned.new + spawned_by command.now ≤ vec_capacity spawned.new) }

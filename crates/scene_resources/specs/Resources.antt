@@ -32,8 +32,8 @@ name_cmp_exact a b h = exact_bytes a b h
 abbrev pub NamedCells : Type 0
 NamedCells = Map name_cmp Cell
 
--- what contracts see of resources: the cell of each name that has one, and the names that are kept, by their bytes: for a
--- cell of each of these there is memory
+-- what contracts see of resources: the cell of each name that has one, and the names that are kept, by their bytes: for
+-- a cell of each of these there is memory
 pub record StoredResources : Type 0 where
   pub cells : NamedCells
   pub kept : List (List ℕ)

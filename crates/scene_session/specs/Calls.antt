@@ -22,6 +22,7 @@ pub data Asked : Type 0 where
   Undo : Asked
   Redo : Asked
 
+-- what a call asks
 abbrev pub asked : Call → Asked
 asked (call.Submit queues) = Submit queues.items
 asked (call.Advance schedule) = Advance schedule
@@ -48,6 +49,7 @@ pub data Answer : Type 0 where
   Redone : Answer
   Refused : Refusal → Answer
 
+-- what a reply to a call tells
 abbrev pub told : Reply → Answer
 told (reply.Done entities) = Done entities.items
 told reply.Undone = Undone

@@ -34,6 +34,7 @@ answer_after o history a = (step (replayed o history) a).1
 abbrev pub stopping_at : (limit count : ℕ) → Refusal
 stopping_at limit count = if nat_lt count limit then refusal_of NoMemory else refusal_of (HistoryFull limit)
 
+-- why none is entered in this history
 abbrev pub stopping : Beginning → List Entry → Refusal
 stopping o history = stopping_at o.limit (length history)
 

@@ -8,7 +8,8 @@
 //! also after a refusal. Nothing tells that a call fails, so the mark stands in for it: a fault is answered
 //! exactly where the mark is set after the call (docs/MODEL.md, "Faults").
 //!
-//! `Keep` and `KeptLines` are what keeps lines for good, as a store does: what was kept stays, and lines come behind it.
+//! `Keep` and `KeptLines` are what keeps lines for good, as a store does: what was kept stays, and lines come behind
+//! it.
 //!
 //! `specs/Source.antt` and `specs/Sink.antt` have what a clause sees of the two, `specs/Limits.antt` how much is read,
 //! and `specs/Known.antt` what is known of a stream after a refusal. `specs/Read.antt` and `specs/Written.antt` say in

@@ -71,7 +71,8 @@ pub returned_there : (t : Tables) (place : ℕ) (row : Row) → place ≤ length
 returned_there t place row l =
     there_written t (mask_of row.cells) (put_back (rows_at t (mask_of row.cells)) place row) (home_for row.cells place) row refl (put_back_stands (rows_at t (mask_of row.cells)) place row l)
 
--- a row that stands then is the one that came back, the one from its place at the end of the list, or an old one at another home
+-- a row that stands then is the one that came back, the one from its place at the end of the list, or an old one at
+-- another home
 pub returned : (P : Type 0) (t : Tables) (place : ℕ) (row : Row) (g : Home) (r : Row) → place ≤ length (rows_at t (mask_of row.cells)) → row_at (with_row_back t place row) g ≡ Some r
     → (g ≡ home_for row.cells place → row ≡ r → P)
     → (g.mask ≡ mask_of row.cells → g.place ≡ length (rows_at t (mask_of row.cells)) → row_at t (home_for row.cells place) ≡ Some r → P)

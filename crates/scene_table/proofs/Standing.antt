@@ -1,4 +1,5 @@
--- The rows of all tables after a row was added, taken out or written: facts of each row, and that each entity stands once.
+-- The rows of all tables after a row was added, taken out or written: facts of each row, and that each entity stands
+-- once.
 use Rattle.std.proofs.Common.{◌≡◌, ℕ, suc, ◌<◌, true, false, cond, List, [], ◌∷◌, ◌++◌, length, refl, ap, subst, sym, ◌∙◌, arith, Some}
 use Rattle.std.specs.Prelude.{slice_get, slice_set}
 use Rattle.std.specs.Ordering.{nat_cmp, eq_by_cmp}

@@ -102,7 +102,8 @@ least capacity (column ∷ columns) = min column.capacity (least capacity column
 abbrev pub AreColumnsOf : KindSet → List ColumnState → Type 0
 AreColumnsOf mask columns = (row : Row) → kinds_in row.cells ≡ kinds_of columns → HasKinds mask row
 
--- what holds in a table: its columns are as long as its entities, once it has memory they are those of its kinds, and its rows fit
+-- what holds in a table: its columns are as long as its entities, once it has memory they are those of its kinds, and
+-- its rows fit
 pub record IsTable (mask : KindSet) (entities : List Entity) (capacity : ℕ) (columns : List ColumnState) : Type 0 where
   pub long : AreLong (length entities) columns
   pub kinds : 0 < capacity → AreColumnsOf mask columns

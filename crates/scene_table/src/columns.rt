@@ -177,7 +177,8 @@ pub(crate) fn number_from(columns: &[Column], kind: u8) -> Option<usize>
     columns.iter().position(|column| column.kind() >= kind)
 }
 
-/// The number at which a cell of a kind goes among cells of the other columns' kinds: how many of these kinds are lower.
+/// The number at which a cell of a kind goes among cells of the other columns' kinds: how many of these kinds are
+/// lower.
 pub(crate) fn number_for(columns: &[Column], kind: u8) -> usize
     ensures within { result ≤ length columns.now }
     ensures goes { (cells : List (ℕ × Cell)) (cell : Cell) → kinds_in cells ≡ kinds_of columns.now → cell_of cells kind ≡ None

@@ -223,8 +223,8 @@ impl Table {
         Ok(self.swap_remove_into(at, room))
     }
 
-    /// Takes out the row at a place, and gives it, its cells in an empty list that has room for them. The last row takes
-    /// its place. It takes no memory, and leaves the room of the row behind.
+    /// Takes out the row at a place, and gives it, its cells in an empty list that has room for them. The last row
+    /// takes its place. It takes no memory, and leaves the room of the row behind.
     pub fn swap_remove_into(&mut self, at: usize, room: Vec<(u8, Cell)>) -> Row
         requires within { at < length self.old.rows }
         requires empty { room.items ≡ [] }
@@ -310,8 +310,8 @@ impl Table {
         }
     }
 
-    /// Moves the row at a place to a place of the table that has one kind more, with a cell of that kind (docs/MODEL.md,
-    /// "The rule of moves"). Its other cells go with it, ticks included.
+    /// Moves the row at a place to a place of the table that has one kind more, with a cell of that kind
+    /// (docs/MODEL.md, "The rule of moves"). Its other cells go with it, ticks included.
     ///
     /// Here the last row takes its place. There the row that stood at its place goes last; at the place behind the last
     /// it just goes there. It takes no memory, since there must be room in the other table, and leaves the room of the
@@ -340,8 +340,8 @@ impl Table {
     /// Moves the row at a place to a place of the table that has one kind less, and gives the cell of that kind
     /// (docs/MODEL.md, "The rule of moves"). It takes back what `move_with` did at those places, and the reverse.
     ///
-    /// The rows of both tables change places as in `move_with`. It takes no memory, since there must be room in the other
-    /// table, and leaves the room of the row behind. It costs a walk over the row's cells.
+    /// The rows of both tables change places as in `move_with`. It takes no memory, since there must be room in the
+    /// other table, and leaves the room of the row behind. It costs a walk over the row's cells.
     pub fn move_without(&mut self, at: usize, target: &mut Table, to: usize, kind: u8) -> Cell
         requires within { at < length self.old.rows }
         requires place { to ≤ length target.old.rows }

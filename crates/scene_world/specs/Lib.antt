@@ -1,3 +1,4 @@
+pub mod Codes
 pub mod Homes
 pub mod Moves
 pub mod Onto

@@ -51,11 +51,3 @@ stored_slots h = record { state = h.world.slots; capacity = h.room.slots }
 -- the tables and homes with their room
 abbrev pub stored_rows : Housed → ArchetypesState
 stored_rows h = record { tables = h.world.tables; rooms = h.room.rows; homes = h.room.homes }
-
--- the resources with the names that are kept
-abbrev pub stored_names : Housed → StoredResources
-stored_names h = record { cells = h.world.resources; kept = h.room.names }
-
--- the room with other names kept
-abbrev pub with_names : Room → List (List ℕ) → Room
-with_names room names = record room { names = names }

@@ -52,25 +52,31 @@ pub struct World {
 }
 
 impl Model for World {
-    ghost use Rattle.std.specs.Ordering.{nat_cmp};
-    ghost use Rattle.std.specs.Coded.{coded_ℕ, coded_list, coded×, codes};
-    ghost use Rattle.scene_kinds.specs.contracts.cells.Row as row;
-    ghost use Rattle.scene_kinds.specs.contracts.entity.Entity as entity;
-    ghost use Rattle.scene_kinds.specs.contracts.cell.Cell as cell;
+    ghost use Rattle.std.specs.Coded.{coded_list, coded_ℕ, codes};
     ghost use Rattle.scene_kinds.specs.contracts.shape.Shape as shape;
-    ghost use Rattle.scene_kinds.specs.Entity.{entity_cmp};
-    ghost use Rattle.scene_kinds.specs.Map as map;
-    ghost use Rattle.scene_resources.specs.Resources.{name_cmp};
+    ghost use Rattle.scene_world.specs.Codes.{forest_code, names_code, resources_code, rooms_code, tables_code};
     ghost use Rattle.scene_world.specs.Room.{Housed};
 
     ghost Value = { Housed };
 
-    ghost coded = { Prim.hlevel (codes, shape.the_row.coded, map.code {R = nat_cmp} coded_ℕ (coded× row.the_row.coded (coded_list row.the_row.coded)), map.code {R = nat_cmp} coded_ℕ coded_ℕ, coded_list coded_ℕ, coded_list (coded_list coded_ℕ), map.code {R = entity_cmp} entity.the_row.coded (coded× entity.the_row.coded (coded_list entity.the_row.coded)), map.code {R = name_cmp} (coded_list coded_ℕ) cell.the_row.coded) };
+    ghost coded = { Prim.hlevel (
+      codes,
+      shape.the_row.coded,
+      tables_code,
+      rooms_code,
+      coded_list coded_ℕ,
+      names_code,
+      forest_code,
+      resources_code,
+    ) };
 
     ghost use Rattle.scene_world.specs.Room.{room_of};
     ghost use Rattle.scene_world.specs.Stored.{world_of, AreSound};
 
-    ghost view = { λ w. record { world = world_of w.schema w.slots w.tick w.tables.tables w.links.forest w.resources; room = room_of w.slots w.tables w.links w.resources } };
+    ghost view = { λ w. record {
+      world = world_of w.schema w.slots w.tick w.tables.tables w.links.forest w.resources;
+      room = room_of w.slots w.tables w.links w.resources;
+    } };
 
     ghost invariant = { λ w. AreSound (world_of w.schema w.slots w.tick w.tables.tables w.links.forest w.resources) w.tables.homes };
 }

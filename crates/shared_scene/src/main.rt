@@ -1,9 +1,9 @@
-//! Three threads work in one garden at once: a tool places lamps and takes a change back, an importer plants trees, and a
-//! simulation lets fountains pour. Each has a session of its own (docs/SESSIONS.md). Then the sessions meet, and the program
-//! prints what each has seen, and what the garden has in the end.
+//! Three threads work in one garden at once: a tool places lamps and takes a change back, an importer plants trees, and
+//! a simulation lets fountains pour. Each has a session of its own (docs/SESSIONS.md). Then the sessions meet, and the
+//! program prints what each has seen, and what the garden has in the end.
 //!
-//! The threads come to their turns in any order, so whose change is taken back isn't known. But every change spawns as many
-//! things, so what is printed is the same in whatever order.
+//! The threads come to their turns in any order, so whose change is taken back isn't known. But every change spawns as
+//! many things, so what is printed is the same in whatever order.
 #![tactic(auto)]
 
 mod error;

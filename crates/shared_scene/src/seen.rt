@@ -59,7 +59,8 @@ pub fn entries_seen(alloc: Global, history: &[Entry]) -> Result<Vec<Seen>, Alloc
     Ok(seen)
 }
 
-/// Asks which entries there are. A query changes nothing, and its answer is of just the history that the session has then seen.
+/// Asks which entries there are. A query changes nothing, and its answer is of just the history that the session has
+/// then seen.
 #[derive(Clone, Copy)]
 pub struct EntriesNow;
 

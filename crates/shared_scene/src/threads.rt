@@ -51,7 +51,8 @@ fn passes_of(
     Ok(passes)
 }
 
-/// All workers do their work at once, each through its pass, on a thread of its own. The passes come back in the opposite order.
+/// All workers do their work at once, each through its pass, on a thread of its own. The passes come back in the
+/// opposite order.
 pub fn work_at_once<R: Threads + Wait + Sync>(
     rt: &R,
     alloc: Global,

@@ -1,5 +1,5 @@
-//! What is tried on editors. Two functions own one, and lend it to all others, since each function that drops one is dear to
-//! prove.
+//! What is tried on editors. Two functions own one, and lend it to all others, since each function that drops one is
+//! dear to prove.
 use crate::editors::{fault_tests, frame_tests, kept_tests, tree};
 use scene_kinds::{Fault, Refusal};
 use scene_undo::Editor;

@@ -7,6 +7,7 @@ ghost use Rattle.scene_model.specs.Raw.{taken_entity};
 ghost use Rattle.scene_world.specs.Room.{IsWider};
 
 use crate::given::{new_cells, spawn_fault};
+use crate::raw_changes::RawChanges;
 use crate::world::World;
 use scene_alloc::Slots;
 use scene_kinds::{Entity, Fault, Refusal, Value};

@@ -7,10 +7,10 @@ returns-clause-shape c =
     let first = with_arg _ _ _ c.in_ok-arg.ensures c.file_argument.ensures.local _ _ c.command.ensures.shape
     c.file_argument.ensures.rule in
     IfOk-weaker c.arg-2.result _ _
-    (λ made adds. with_arg _ _ _ adds c.copy_argument.ensures.local _ _ first c.copy_argument.ensures.rule) c.arg-2.ensures
+    (λ made adds. with_arg _ _ _ adds c.argument.ensures.local _ _ first c.argument.ensures.rule) c.arg-2.ensures
 
 pub returns-clause-local : goal.returns-clause-local
 returns-clause-local c =
     let first = without_globals _ _ _ c.in_ok-arg.ensures c.file_argument.ensures.local c.command.ensures.local in
     IfOk-weaker c.arg-2.result _ _
-    (λ made adds. without_globals _ _ _ adds c.copy_argument.ensures.local first) c.arg-2.ensures
+    (λ made adds. without_globals _ _ _ adds c.argument.ensures.local first) c.arg-2.ensures

@@ -1,12 +1,14 @@
-use Rattle.std.proofs.Common.{◌≡◌, ◌∙◌, Option, List, ap, ap₂, refl, sym, codes, option_map}
+use Rattle.std.proofs.Common.{◌≡◌, ◌∙◌, IfOk, Option, List, Result, ap, ap₂, refl, sym, codes, option_map}
 use Rattle.std.proofs.lemmas.Result.{IfOk-weaker}
 use Rattle.std.specs.Borrow.{Bor}
+use Rattle.std.specs.declared.alloc.AllocError.{AllocError}
 use Rattle.clap.specs.Matches.{first_value}
 use Rattle.clap.specs.Words.{Row, Text, first_of, found_of, rows_of}
 use Rattle.clap.specs.declared.parser.matches.ArgMatches.{ArgMatches}
 use Rattle.clap.proofs.WalkLemmas.{first_value-rows}
-use Rattle.scene_command_line.specs.Asks.{ToCompact, ToLog, ToShow}
+use Rattle.scene_command_line.specs.Asks.{Asks, ToCompact, ToLog, ToShow, asks_of}
 use Rattle.scene_command_line.specs.Words.{backup_asked, command_named, file_asked, has_flag, run_asked, shell_asked}
+use Rattle.scene_command_line.specs.declared.asked.Asked.{Asked}
 use Rattle.scene_command_line.proofs.reading.command_named.Goals as goal
 
 abbrev options_of : ArgMatches → List Row
@@ -16,6 +18,15 @@ options_of m = rows_of (found_of m)
 value_of : (m : ArgMatches) (name : Text) (read : Option (Bor Text)) → option_map (λ w. w.now) read ≡ first_value (found_of m) name
     → option_map (λ w. w.now) read ≡ first_of name (options_of m)
 value_of m name read is = is ∙ first_value-rows (found_of m) name
+
+-- a command that takes the file that is read
+of_file : (of : Text → Asks) (m : ArgMatches) (name : Text) (read : Option (Bor Text)) (answer : Result Asked AllocError)
+    → option_map (λ w. w.now) read ≡ first_value (found_of m) (codes "file")
+    → command_named name (options_of m) ≡ file_asked of (first_of (codes "file") (options_of m))
+    → IfOk answer (λ asked. asks_of asked ≡ file_asked of (option_map (λ w. w.now) read))
+    → IfOk answer (λ asked. asks_of asked ≡ command_named name (options_of m))
+of_file of m name read answer is named =
+    IfOk-weaker answer _ _ (λ asked asks. asks ∙ (ap (file_asked of) (value_of m (codes "file") read is) ∙ sym named))
 
 pub returns-in-run : goal.returns-in-run
 returns-in-run c =
@@ -44,29 +55,18 @@ returns-in-shell c =
 
 pub returns-in-show : goal.returns-in-show
 returns-in-show c =
-    let options = options_of c.args.options.now in
-    let file = value_of c.args.options.now (codes "file") c.get_str-in-show.result c.get_str-in-show.ensures in
-    let named : command_named c.args.name.now options ≡ file_asked ToShow (first_of (codes "file") options) =
-    rw c.in-show.is refl in
-    IfOk-weaker c.show_asked.result _ _
-    (λ asked is. is ∙ (ap (file_asked ToShow) file ∙ sym named)) c.show_asked.ensures
+    of_file ToShow c.args.options.now c.args.name.now _ c.show_asked.result c.get_str-in-show.ensures
+    (rw c.in-show.is refl) c.show_asked.ensures
 
 pub returns-in-log : goal.returns-in-log
 returns-in-log c =
-    let options = options_of c.args.options.now in
-    let file = value_of c.args.options.now (codes "file") c.get_str-in-log.result c.get_str-in-log.ensures in
-    let named : command_named c.args.name.now options ≡ file_asked ToLog (first_of (codes "file") options) =
-    rw c.in-log.is refl in
-    IfOk-weaker c.log_asked.result _ _ (λ asked is. is ∙ (ap (file_asked ToLog) file ∙ sym named)) c.log_asked.ensures
+    of_file ToLog c.args.options.now c.args.name.now _ c.log_asked.result c.get_str-in-log.ensures
+    (rw c.in-log.is refl) c.log_asked.ensures
 
 pub returns-in-compact : goal.returns-in-compact
 returns-in-compact c =
-    let options = options_of c.args.options.now in
-    let file = value_of c.args.options.now (codes "file") c.get_str-in-compact.result c.get_str-in-compact.ensures in
-    let named : command_named c.args.name.now options ≡ file_asked ToCompact (first_of (codes "file") options) =
-    rw c.in-compact.is refl in
-    IfOk-weaker c.compact_asked.result _ _
-    (λ asked is. is ∙ (ap (file_asked ToCompact) file ∙ sym named)) c.compact_asked.ensures
+    of_file ToCompact c.args.options.now c.args.name.now _ c.compact_asked.result c.get_str-in-compact.ensures
+    (rw c.in-compact.is refl) c.compact_asked.ensures
 
 pub returns-in-backup : goal.returns-in-backup
 returns-in-backup c =
