@@ -28,7 +28,8 @@ module _ {E : Type 0} where
 
   -- each has made this step, and has seen this history by it
   abbrev pub all_stepping : List E → Kind → ℕ → ℕ → List (Member E) → List (Member E)
-  all_stepping history kind before after ms = map (λ (m : Member E). member m.session history (m.steps ++ step_of m.session kind before after ∷ [])) ms
+  all_stepping history kind before after ms =
+      map (λ (m : Member E). member m.session history (m.steps ++ step_of m.session kind before after ∷ [])) ms
 
   -- n passes from this session on, which have seen nothing
   abbrev pub new_members : ℕ → ℕ → List (Member E)

@@ -16,7 +16,8 @@ use Rattle.scene_lock.specs.History.{BeginsWith, entries_of, Continues, IsLegal}
 use Rattle.scene_lock.specs.Members.{IsMember, AreDistinct, all_stepping, holding_seat, seeing}
 use Rattle.scene_lock.specs.Steps.{IsFree, Turns, Moves, Leads, steps_of}
 
-module _ {E O : Type 0} (legal : O → List E → Type 0) (by : E → ℕ) (terms : Terms O) (whole : List E) (made : List Step) (owner : ℕ → ℕ) (seat : ℕ) where
+module _ {E O : Type 0} (legal : O → List E → Type 0) (by : E → ℕ) (terms : Terms O) (whole : List E)
+    (made : List Step) (owner : ℕ → ℕ) (seat : ℕ) where
   -- What a seat knows of a pass is true: it is a pass of this lock and of no other seat. What it has seen is legal, is a beginning
   -- of the whole history, and has all entries of its session. The steps made through it are all steps of its session
   pub record IsTrueOfPass (named : Option (Terms O)) (pass : Member E) : Type 0 where
@@ -33,7 +34,8 @@ module _ {E O : Type 0} (legal : O → List E → Type 0) (by : E → ℕ) (term
     pub each : (p : Member E) → IsMember k.members p → IsTrueOfPass k.terms p
     pub distinct : AreDistinct k.members
 
-module _ {X E O : Type 0} (good : O → X → Type 0) (history : X → List E) (terms : Terms O) (homes : List (Maybe (Option X))) (views : List (Knowledge E O)) (whole : List E) where
+module _ {X E O : Type 0} (good : O → X → Type 0) (history : X → List E) (terms : Terms O)
+    (homes : List (Maybe (Option X))) (views : List (Knowledge E O)) (whole : List E) where
   -- The state is at home: the slot has a good state with the whole history, and no seat holds
   pub record IsHome : Type 0 where
     pub state : X

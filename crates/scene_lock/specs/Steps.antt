@@ -56,7 +56,8 @@ TriesToWrite session before (Err job) after = (after ≡ before) ⊎ (after ≡ 
 -- One round of a `write`: it goes in and does its job, or finds the state out, or leaves it wanted
 abbrev pub Attempts : {D Y J : Type 0} → ℕ → List Step → Result (Result D Y) J → List Step → Type 0
 Attempts session before (Ok reply) after = (from : ℕ) × IsFree from × (after ≡ before ++ visit session TakeToChange from (put_after reply) 0)
-Attempts session before (Err job) after = (after ≡ before) ⊎ ((from : ℕ) × IsFree from × (after ≡ before ++ visit session TakeToChange from PutWanted 2))
+Attempts session before (Err job) after = (after ≡ before)
+    ⊎ ((from : ℕ) × IsFree from × (after ≡ before ++ visit session TakeToChange from PutWanted 2))
 
 -- rounds that did no job, by the words that they found: each leaves the state wanted
 abbrev pub rounds : ℕ → List ℕ → List Step
