@@ -21,9 +21,9 @@ pub(crate) struct Turns {
 
 impl Model for Turns {
     ghost use Rattle.std.specs.Prelude.{List, Option};
-    ghost use Rattle.scene_schedule.specs.Turns.{Made};
+    ghost use Rattle.scene_schedule.specs.Turns.{SystemMade};
 
-    ghost Value = { List (Option Made) };
+    ghost Value = { List (Option SystemMade) };
 
     ghost view = { λ t. t.list.items };
 }

@@ -37,13 +37,13 @@ pub struct State {
 }
 
 impl Model for State {
-    ghost use Rattle.scene_session.specs.State.{StateView, IsKept};
+    ghost use Rattle.scene_session.specs.State.{StateView, IsReplayOf};
 
     ghost Value = { StateView };
 
     ghost view = { λ s. record { opening = record { editor = s.opening.value; limit = s.limit }; history = s.history.items } };
 
-    ghost invariant = { λ s. ∥ IsKept (record { editor = s.opening.value; limit = s.limit }) s.history.items s.editor ∥₁ };
+    ghost invariant = { λ s. ∥ IsReplayOf (record { editor = s.opening.value; limit = s.limit }) s.history.items s.editor ∥₁ };
 }
 
 /// Makes room for one more entry where the limit allows one, or says why there is none.
