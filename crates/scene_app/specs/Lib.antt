@@ -1,4 +1,5 @@
 pub mod Checked
 pub mod Play
 pub mod Reports
+pub mod Run
 pub mod Steps

@@ -1,11 +1,9 @@
 //! The commands over a scene text: one says whether it is good, one prints its world.
-ghost use Rattle.std.specs.Prelude.{◌≡◌, ◌≢◌, ◌<◌, ◌≤◌, ◌⊎◌, ◌↔◌, true, false, length, Ok, Err, string_bytes, OnOk, OnErr, IfOk, IfErr, IfSome};
-ghost use Rattle.std.specs.Io.KnownBytes.{Appends, IsAtEnd};
+ghost use Rattle.std.specs.Prelude.{◌≡◌, Ok, string_bytes, OnOk, IfOk, IfErr, IfSome};
 ghost use Rattle.scene_json.specs.Texts.{Adds};
-ghost use Rattle.scene_streams.specs.Known.{AppendsPrefix};
-ghost use Rattle.scene_streams.specs.Source.{reader_of, turns_left, read_failed};
-ghost use Rattle.scene_streams.specs.Sink.{writer_of, write_failed};
-ghost use Rattle.scene_streams.specs.Limits.{most_bytes};
+ghost use Rattle.scene_streams.specs.Read.{IsRead};
+ghost use Rattle.scene_streams.specs.Source.{reader_of};
+ghost use Rattle.scene_streams.specs.Written.{IsWritten};
 ghost use Rattle.scene_file.specs.Scene.{loaded};
 ghost use Rattle.scene_app.specs.Checked.{good_text, check_output, print_output, is_scene};
 ghost use Rattle.scene_shell.specs.declared.fault.AppFault.TheVariants.{NoMemory, ReadFault, WriteFault, TooLong};
@@ -83,27 +81,15 @@ fn printed(alloc: Global, text: &[u8]) -> Result<(String, bool), AppFault>
 /// hadn't then in a call of its reader; `TooLong` where the text is longer than 67,108,864 bytes or its end doesn't
 /// come in the turns of the source; `NoMemory`. `WriteFault` where the sink has failed, now or before; then a prefix of
 /// the line is written. It costs what the load of the text costs.
+#[tactic(auto, using(scene_streams::proofs::Writes::none_written))]
 pub fn check_scene<R: Read, W: Write>(
     alloc: Global,
     source: &mut Source<R>,
     sink: &mut Sink<W>,
 ) -> Result<bool, AppFault>
     ensures accepted { IfOk result (λ good. IfSome (R.remaining (reader_of source.old)) (λ text. good ≡ is_scene text)) }
-    ensures printed { OnOk result (IfSome (R.remaining (reader_of source.old))
-        (λ text. Appends (W.contents (writer_of sink.old)) (W.contents (writer_of sink.new)) (check_output text))) }
-    ensures within { OnOk result (IfSome (R.remaining (reader_of source.old)) (λ text. length text ≤ most_bytes)) }
-    ensures end { OnOk result (IsAtEnd (R.remaining (reader_of source.new))) }
-    ensures prefix { OnErr result (IfSome (R.remaining (reader_of source.old))
-        (λ text. AppendsPrefix (W.contents (writer_of sink.old)) (W.contents (writer_of sink.new)) (check_output text))) }
-    ensures nothing { IfErr result (λ f. f ≢ WriteFault → sink.new ≡ sink.old) }
-    ensures read { (result ≡ Err ReadFault) ↔ (read_failed source.new ≡ true) }
-    ensures marked { read_failed source.old ≡ true → source.new ≡ source.old }
-    ensures called { read_failed source.old ≡ false → IfErr result (λ f. f ≡ ReadFault → turns_left source.new < turns_left source.old) }
-    ensures long { IfErr result (λ f. f ≡ TooLong
-        → (turns_left source.new ≡ 0) ⊎ IfSome (R.remaining (reader_of source.old)) (λ text. most_bytes < length text)) }
-    ensures write { write_failed sink.old ≡ false → (result ≡ Err WriteFault) ↔ (write_failed sink.new ≡ true) }
-    ensures refused { write_failed sink.old ≡ true → sink.new ≡ sink.old }
-    ensures unmarked { OnOk result (write_failed sink.new ≡ false) }
+    ensures read { IsRead R.remaining source.old source.new result ReadFault TooLong }
+    ensures written { IsWritten check_output (R.remaining (reader_of source.old)) W.contents sink.old sink.new result WriteFault }
 {
     let text = source.read_all(alloc)?;
     let (out, accepted) = checked(alloc, text.as_slice())?;
@@ -116,27 +102,15 @@ pub fn check_scene<R: Read, W: Write>(
 ///
 /// Refused as `check_scene` is, where `WriteFault` leaves a prefix of the lines. It costs what the load of the text and
 /// `show` cost.
+#[tactic(auto, using(scene_streams::proofs::Writes::none_written))]
 pub fn print_scene<R: Read, W: Write>(
     alloc: Global,
     source: &mut Source<R>,
     sink: &mut Sink<W>,
 ) -> Result<bool, AppFault>
     ensures accepted { IfOk result (λ good. IfSome (R.remaining (reader_of source.old)) (λ text. good ≡ is_scene text)) }
-    ensures printed { OnOk result (IfSome (R.remaining (reader_of source.old))
-        (λ text. Appends (W.contents (writer_of sink.old)) (W.contents (writer_of sink.new)) (print_output text))) }
-    ensures within { OnOk result (IfSome (R.remaining (reader_of source.old)) (λ text. length text ≤ most_bytes)) }
-    ensures end { OnOk result (IsAtEnd (R.remaining (reader_of source.new))) }
-    ensures prefix { OnErr result (IfSome (R.remaining (reader_of source.old))
-        (λ text. AppendsPrefix (W.contents (writer_of sink.old)) (W.contents (writer_of sink.new)) (print_output text))) }
-    ensures nothing { IfErr result (λ f. f ≢ WriteFault → sink.new ≡ sink.old) }
-    ensures read { (result ≡ Err ReadFault) ↔ (read_failed source.new ≡ true) }
-    ensures marked { read_failed source.old ≡ true → source.new ≡ source.old }
-    ensures called { read_failed source.old ≡ false → IfErr result (λ f. f ≡ ReadFault → turns_left source.new < turns_left source.old) }
-    ensures long { IfErr result (λ f. f ≡ TooLong
-        → (turns_left source.new ≡ 0) ⊎ IfSome (R.remaining (reader_of source.old)) (λ text. most_bytes < length text)) }
-    ensures write { write_failed sink.old ≡ false → (result ≡ Err WriteFault) ↔ (write_failed sink.new ≡ true) }
-    ensures refused { write_failed sink.old ≡ true → sink.new ≡ sink.old }
-    ensures unmarked { OnOk result (write_failed sink.new ≡ false) }
+    ensures read { IsRead R.remaining source.old source.new result ReadFault TooLong }
+    ensures written { IsWritten print_output (R.remaining (reader_of source.old)) W.contents sink.old sink.new result WriteFault }
 {
     let text = source.read_all(alloc)?;
     let (out, accepted) = printed(alloc, text.as_slice())?;

@@ -1,13 +1,11 @@
 //! A run: a script is read, played, and what it prints is written.
-ghost use Rattle.std.specs.Prelude.{◌≡◌, ◌≢◌, ◌<◌, ◌≤◌, ◌⊎◌, ◌↔◌, true, false, length, take, Err, string_bytes, OnOk, OnErr, IfOk, IfErr, IfSome};
-ghost use Rattle.std.specs.Io.KnownBytes.{Appends, IsAtEnd};
-ghost use Rattle.scene_streams.specs.Known.{AppendsPrefix};
-ghost use Rattle.scene_streams.specs.Source.{reader_of, turns_left, read_failed};
-ghost use Rattle.scene_streams.specs.Sink.{writer_of, write_failed};
+ghost use Rattle.std.specs.Prelude.{◌≡◌, ◌≤◌, length, Some, string_bytes, IfOk, IfErr};
+ghost use Rattle.scene_streams.specs.Read.{IsRead};
+ghost use Rattle.scene_streams.specs.Source.{reader_of};
+ghost use Rattle.scene_streams.specs.Written.{IsWritten};
 ghost use Rattle.scene_streams.specs.Limits.{most_bytes};
-ghost use Rattle.scene_session.specs.Owner.{OwnerState};
-ghost use Rattle.scene_session.specs.Passes.{AreOf};
-ghost use Rattle.scene_app.specs.Play.{bad_lines, owner_after, output};
+ghost use Rattle.scene_app.specs.Play.{output};
+ghost use Rattle.scene_app.specs.Run.{IsEndOf};
 ghost use Rattle.scene_shell.specs.declared.fault.AppFault.TheVariants.{NoMemory, ReadFault, WriteFault, TooLong};
 
 use crate::play::play_script;
@@ -43,9 +41,7 @@ fn played<P: Performer>(
 ) -> Result<(String, RunEnd), AppFault>
     requires { length script.now ≤ most_bytes }
     ensures printed { IfOk result (λ p. string_bytes p.0 ≡ output script.now) }
-    ensures bad { IfOk result (λ p. p.1.bad_lines ≡ length (bad_lines script.now)) }
-    ensures reports { IfOk result (λ p. p.1.reports.items ≡ take 10 (bad_lines script.now)) }
-    ensures passes { IfOk result (λ p. AreOf p.1.lock p.1.passes.items (owner_after script.now)) }
+    ensures ends { IfOk result (λ p. IsEndOf (Some script.now) p.1) }
     ensures memory { IfErr result (λ f. f ≡ NoMemory) }
 {
     let mut out = String::new(alloc);
@@ -73,6 +69,7 @@ fn played<P: Performer>(
 /// source; `NoMemory`; and then nothing is written. `WriteFault` where the sink has failed, now or before; then a
 /// prefix of the output is written. A run costs what its lines ask for, some thirty loads of a word a line, and the
 /// memory of the script, of the output, of its calls and of the records of its frames.
+#[tactic(auto, using(scene_streams::proofs::Writes::none_written))]
 pub fn run_script<T: Threads + Wait + Sync, R: Read, W: Write>(
     rt: &T,
     alloc: Global,
@@ -80,26 +77,9 @@ pub fn run_script<T: Threads + Wait + Sync, R: Read, W: Write>(
     source: &mut Source<R>,
     sink: &mut Sink<W>,
 ) -> Result<RunEnd, AppFault>
-    ensures printed { OnOk result (IfSome (R.remaining (reader_of source.old))
-        (λ script. Appends (W.contents (writer_of sink.old)) (W.contents (writer_of sink.new)) (output script))) }
-    ensures bad { IfOk result (λ end. IfSome (R.remaining (reader_of source.old)) (λ script. end.bad_lines ≡ length (bad_lines script))) }
-    ensures reports { IfOk result (λ end. IfSome (R.remaining (reader_of source.old)) (λ script. end.reports.items ≡ take 10 (bad_lines script))) }
-    ensures passes { IfOk result (λ end. IfSome (R.remaining (reader_of source.old))
-        (λ script. AreOf end.lock end.passes.items (owner_after script))) }
-    ensures eight { IfOk result (λ end. (owner : OwnerState) × AreOf end.lock end.passes.items owner) }
-    ensures within { OnOk result (IfSome (R.remaining (reader_of source.old)) (λ script. length script ≤ most_bytes)) }
-    ensures end { OnOk result (IsAtEnd (R.remaining (reader_of source.new))) }
-    ensures prefix { OnErr result (IfSome (R.remaining (reader_of source.old))
-        (λ script. AppendsPrefix (W.contents (writer_of sink.old)) (W.contents (writer_of sink.new)) (output script))) }
-    ensures nothing { IfErr result (λ f. f ≢ WriteFault → sink.new ≡ sink.old) }
-    ensures read { (result ≡ Err ReadFault) ↔ (read_failed source.new ≡ true) }
-    ensures marked { read_failed source.old ≡ true → source.new ≡ source.old }
-    ensures called { read_failed source.old ≡ false → IfErr result (λ f. f ≡ ReadFault → turns_left source.new < turns_left source.old) }
-    ensures long { IfErr result (λ f. f ≡ TooLong
-        → (turns_left source.new ≡ 0) ⊎ IfSome (R.remaining (reader_of source.old)) (λ script. most_bytes < length script)) }
-    ensures write { write_failed sink.old ≡ false → (result ≡ Err WriteFault) ↔ (write_failed sink.new ≡ true) }
-    ensures refused { write_failed sink.old ≡ true → sink.new ≡ sink.old }
-    ensures unmarked { OnOk result (write_failed sink.new ≡ false) }
+    ensures ends { IfOk result (IsEndOf (R.remaining (reader_of source.old))) }
+    ensures read { IsRead R.remaining source.old source.new result ReadFault TooLong }
+    ensures written { IsWritten output (R.remaining (reader_of source.old)) W.contents sink.old sink.new result WriteFault }
 {
     let script = source.read_all(alloc)?;
     let performer = OnThreads::new(rt, workers);

@@ -1,10 +1,9 @@
 //! Loading a world from a scene text.
-ghost use Rattle.std.specs.Prelude.{◌≡◌, ◌≢◌, ◌<◌, ◌≤◌, ◌⊎◌, ◌↔◌, true, false, length, Some, Ok, Err, IfOk, IfErr, IfSome, OnOk};
-ghost use Rattle.std.specs.Io.KnownBytes.{IsAtEnd};
+ghost use Rattle.std.specs.Prelude.{◌≡◌, ◌≢◌, Some, Ok, IfOk, IfErr, IfSome};
 ghost use Rattle.serde_json.specs.Read.{read};
 ghost use Rattle.scene_json.specs.View.{view, whole};
-ghost use Rattle.scene_streams.specs.Source.{reader_of, turns_left, read_failed};
-ghost use Rattle.scene_streams.specs.Limits.{most_bytes};
+ghost use Rattle.scene_streams.specs.Read.{IsRead};
+ghost use Rattle.scene_streams.specs.Source.{reader_of};
 ghost use Rattle.scene_validate.specs.Rules.{first_broken};
 ghost use Rattle.scene_validate.specs.Seen.{seen};
 ghost use Rattle.scene_json_forms.specs.Outcome.{IsFault, IsTextFault};
@@ -105,14 +104,9 @@ pub fn load_text(alloc: Global, text: &[u8]) -> Result<World, FileFault>
 pub fn load<R: Read>(alloc: Global, source: &mut Source<R>) -> Result<World, FileFault>
     ensures world { IfOk result (λ world. IfSome (R.remaining (reader_of source.old)) (λ text. loaded text ≡ Ok world.world)) }
     ensures value { IfOk result (λ world. IfSome (R.remaining (reader_of source.old)) (λ text. read text ≡ Some (world_text world.world))) }
-    ensures within { OnOk result (IfSome (R.remaining (reader_of source.old)) (λ text. length text ≤ most_bytes)) }
-    ensures end { OnOk result (IsAtEnd (R.remaining (reader_of source.new))) }
-    ensures fault { IfErr result (λ e. e ≢ ReadFault → e ≢ TooLong → IfSome (R.remaining (reader_of source.old)) (λ text. IsFault e (loaded text))) }
-    ensures read { (result ≡ Err ReadFault) ↔ (read_failed source.new ≡ true) }
-    ensures marked { read_failed source.old ≡ true → source.new ≡ source.old }
-    ensures called { read_failed source.old ≡ false → IfErr result (λ e. e ≡ ReadFault → turns_left source.new < turns_left source.old) }
-    ensures long { IfErr result (λ e. e ≡ TooLong
-        → (turns_left source.new ≡ 0) ⊎ IfSome (R.remaining (reader_of source.old)) (λ text. most_bytes < length text)) }
+    ensures fault { IfErr result (λ e. e ≢ ReadFault → e ≢ TooLong
+        → IfSome (R.remaining (reader_of source.old)) (λ text. IsFault e (loaded text))) }
+    ensures read { IsRead R.remaining source.old source.new result ReadFault TooLong }
 {
     let text = source.read_all(alloc)?;
     load_text(alloc, text.as_slice())

@@ -1,8 +1,7 @@
 //! Loading an editor from a scene text.
-ghost use Rattle.std.specs.Prelude.{◌≡◌, ◌≢◌, ◌<◌, ◌≤◌, ◌⊎◌, ◌↔◌, true, false, length, Ok, Err, IfOk, IfErr, IfSome, OnOk};
-ghost use Rattle.std.specs.Io.KnownBytes.{IsAtEnd};
-ghost use Rattle.scene_streams.specs.Source.{reader_of, turns_left, read_failed};
-ghost use Rattle.scene_streams.specs.Limits.{most_bytes};
+ghost use Rattle.std.specs.Prelude.{◌≡◌, ◌≢◌, Ok, IfOk, IfErr, IfSome};
+ghost use Rattle.scene_streams.specs.Read.{IsRead};
+ghost use Rattle.scene_streams.specs.Source.{reader_of};
 ghost use Rattle.scene_json_forms.specs.Outcome.{IsFault, IsTextFault};
 ghost use Rattle.scene_json_forms.specs.declared.fault.FileFault.TheVariants.{ReadFault, TooLong, WriteFault};
 ghost use Rattle.scene_file.specs.EditorLaws.{IsTextOf};
@@ -112,15 +111,9 @@ pub fn load_editor<R: Read>(
 ) -> Result<Editor, FileFault>
     ensures editor { IfOk result (λ editor. IfSome (R.remaining (reader_of source.old)) (λ text. loaded_editor depth text ≡ Ok editor)) }
     ensures value { IfOk result (λ editor. IfSome (R.remaining (reader_of source.old)) (λ text. IsTextOf text editor)) }
-    ensures within { OnOk result (IfSome (R.remaining (reader_of source.old)) (λ text. length text ≤ most_bytes)) }
-    ensures end { OnOk result (IsAtEnd (R.remaining (reader_of source.new))) }
     ensures fault { IfErr result (λ e. e ≢ ReadFault → e ≢ TooLong
         → IfSome (R.remaining (reader_of source.old)) (λ text. IsFault e (loaded_editor depth text))) }
-    ensures read { (result ≡ Err ReadFault) ↔ (read_failed source.new ≡ true) }
-    ensures marked { read_failed source.old ≡ true → source.new ≡ source.old }
-    ensures called { read_failed source.old ≡ false → IfErr result (λ e. e ≡ ReadFault → turns_left source.new < turns_left source.old) }
-    ensures long { IfErr result (λ e. e ≡ TooLong
-        → (turns_left source.new ≡ 0) ⊎ IfSome (R.remaining (reader_of source.old)) (λ text. most_bytes < length text)) }
+    ensures read { IsRead R.remaining source.old source.new result ReadFault TooLong }
 {
     let text = source.read_all(alloc)?;
     load_editor_text(alloc, text.as_slice(), depth)

@@ -1,8 +1,6 @@
 //! Saving a world: its text, and the writing of it.
-ghost use Rattle.std.specs.Prelude.{◌≡◌, ◌≢◌, ◌↔◌, true, false, Ok, Err, IfOk, IfErr, OnOk, OnErr, string_bytes};
-ghost use Rattle.std.specs.Io.KnownBytes.{Appends};
-ghost use Rattle.scene_streams.specs.Known.{AppendsPrefix};
-ghost use Rattle.scene_streams.specs.Sink.{writer_of, write_failed};
+ghost use Rattle.std.specs.Prelude.{◌≡◌, ◌≢◌, Some, Ok, IfOk, IfErr, OnOk, string_bytes};
+ghost use Rattle.scene_streams.specs.Written.{IsWritten};
 ghost use Rattle.scene_json_forms.specs.declared.fault.FileFault.TheVariants.{WriteFault};
 ghost use Rattle.scene_json_forms.specs.Outcome.{IsFault};
 ghost use Rattle.scene_file.specs.Saving.{save_of};
@@ -59,16 +57,11 @@ pub fn save_text(alloc: Global, world: &World) -> Result<String, FileFault>
 /// a call of the writer fails or takes no byte, or did so before, and then a prefix of the text was written. It costs
 /// what `save_text` costs, and a call of the writer for each part that it takes.
 pub fn save<W: Write>(alloc: Global, sink: &mut Sink<W>, world: &World) -> Result<(), FileFault>
-    ensures written { OnOk result (Appends (W.contents (writer_of sink.old)) (W.contents (writer_of sink.new)) (saved world.now.world)) }
+    ensures written { IsWritten saved (Some world.now.world) W.contents sink.old sink.new result WriteFault }
     ensures loads { OnOk result (loaded (saved world.now.world) ≡ Ok world.now.world) }
     ensures within { OnOk result (save_of world.now.world ≡ Ok (saved world.now.world)) }
-    ensures prefix { OnErr result (AppendsPrefix (W.contents (writer_of sink.old)) (W.contents (writer_of sink.new)) (saved world.now.world)) }
-    ensures nothing { IfErr result (λ f. f ≢ WriteFault → sink.new ≡ sink.old) }
     ensures fault { IfErr result (λ f. f ≢ WriteFault → IsFault f (save_of world.now.world)) }
     ensures first { IfErr result (λ f. f ≡ WriteFault → save_of world.now.world ≡ Ok (saved world.now.world)) }
-    ensures write { write_failed sink.old ≡ false → (result ≡ Err WriteFault) ↔ (write_failed sink.new ≡ true) }
-    ensures refused { write_failed sink.old ≡ true → sink.new ≡ sink.old }
-    ensures unmarked { OnOk result (write_failed sink.new ≡ false) }
 {
     let _tick = world.tick();
     let text = short_text(alloc, world)?;

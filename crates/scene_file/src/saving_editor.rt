@@ -1,13 +1,10 @@
 //! Saving an editor: its text, and the writing of it.
-ghost use Rattle.std.specs.Prelude.{◌≡◌, ◌≢◌, ◌↔◌, ℕ, true, false, reverse, Ok, Err, IfOk, IfErr, OnOk, OnErr, string_bytes};
-ghost use Rattle.std.specs.Io.KnownBytes.{Appends};
-ghost use Rattle.scene_streams.specs.Known.{AppendsPrefix};
-ghost use Rattle.scene_streams.specs.Sink.{writer_of, write_failed};
+ghost use Rattle.std.specs.Prelude.{◌≡◌, ◌≢◌, ℕ, reverse, Some, Ok, IfOk, IfErr, OnOk, string_bytes};
+ghost use Rattle.scene_streams.specs.Written.{IsWritten};
 ghost use Rattle.scene_json_forms.specs.declared.fault.FileFault.TheVariants.{WriteFault};
 ghost use Rattle.scene_json_forms.specs.Outcome.{IsFault};
-ghost use Rattle.scene_file.specs.Saving.{save_editor_of};
+ghost use Rattle.scene_file.specs.Saving.{save_editor_of, saved_editor};
 ghost use Rattle.scene_file.specs.EditorScene.{loaded_again, loaded_editor};
-ghost use Rattle.scene_file.specs.EditorText.{editor_saved};
 ghost use Rattle.scene_file.specs.SavedLaws.{FitTogether};
 
 use crate::write_editor::write_editor;
@@ -27,7 +24,7 @@ fn records_fit(editor: &Editor)
 
 /// The text of an editor and a newline, however long they are.
 fn whole_text(alloc: Global, editor: &Editor) -> Result<String, AllocError>
-    ensures { IfOk result (λ text. string_bytes text ≡ editor_saved editor.now.world (reverse editor.now.past) editor.now.future) }
+    ensures { IfOk result (λ text. string_bytes text ≡ saved_editor editor.now) }
 {
     let mut text = String::new(alloc);
     write_editor(alloc, &mut text, editor)?;
@@ -66,22 +63,14 @@ pub fn save_editor<W: Write>(
     sink: &mut Sink<W>,
     editor: &Editor,
 ) -> Result<(), FileFault>
-    ensures written { OnOk result (Appends (W.contents (writer_of sink.old)) (W.contents (writer_of sink.new))
-        (editor_saved editor.now.world (reverse editor.now.past) editor.now.future)) }
-    ensures loads { OnOk result ((depth : ℕ) → loaded_editor depth (editor_saved editor.now.world (reverse editor.now.past) editor.now.future)
-        ≡ Ok (loaded_again depth editor.now)) }
+    ensures written { IsWritten saved_editor (Some editor.now) W.contents sink.old sink.new result WriteFault }
+    ensures loads { OnOk result ((depth : ℕ) → loaded_editor depth (saved_editor editor.now) ≡ Ok (loaded_again depth editor.now)) }
     ensures within { OnOk result (save_editor_of editor.now.world (reverse editor.now.past) editor.now.future
-        ≡ Ok (editor_saved editor.now.world (reverse editor.now.past) editor.now.future)) }
-    ensures prefix { OnErr result (AppendsPrefix (W.contents (writer_of sink.old)) (W.contents (writer_of sink.new))
-        (editor_saved editor.now.world (reverse editor.now.past) editor.now.future)) }
-    ensures nothing { IfErr result (λ f. f ≢ WriteFault → sink.new ≡ sink.old) }
+        ≡ Ok (saved_editor editor.now)) }
     ensures fault { IfErr result (λ f. f ≢ WriteFault
         → IsFault f (save_editor_of editor.now.world (reverse editor.now.past) editor.now.future)) }
     ensures first { IfErr result (λ f. f ≡ WriteFault → save_editor_of editor.now.world (reverse editor.now.past) editor.now.future
-        ≡ Ok (editor_saved editor.now.world (reverse editor.now.past) editor.now.future)) }
-    ensures write { write_failed sink.old ≡ false → (result ≡ Err WriteFault) ↔ (write_failed sink.new ≡ true) }
-    ensures refused { write_failed sink.old ≡ true → sink.new ≡ sink.old }
-    ensures unmarked { OnOk result (write_failed sink.new ≡ false) }
+        ≡ Ok (saved_editor editor.now)) }
 {
     records_fit(editor);
     let text = save_editor_text(alloc, editor)?;

@@ -1,12 +1,8 @@
-use Rattle.std.proofs.Common.{rules, ap, ◌∙◌}
+use Rattle.std.proofs.Common.{ap, ◌∙◌}
 use Rattle.std.proofs.lemmas.Option.{IfSome_then}
 use Rattle.scene_streams.specs.Source.{reader_of}
-use Rattle.scene_streams.proofs.Writes.{none_written}
 use Rattle.scene_app.specs.Checked.{is_scene}
 use Rattle.scene_app.proofs.check.check_scene.Goals as goal
-
-pub returns-in_err-text-clause-prefix : goal.returns-in_err-text-clause-prefix
-returns-in_err-text-clause-prefix g c = search (rules, none_written)
 
 pub returns-clause-accepted : goal.returns-clause-accepted
 returns-clause-accepted g c = IfSome_then (g.R.Read.remaining (reader_of c.args.source.now)) c.in_ok-text.ensures.all
