@@ -58,6 +58,7 @@ pub fn save_editor_text(alloc: Global, editor: &Editor) -> Result<String, FileFa
 /// Refused, in this order: `TooLong` or `NoMemory` as by `save_editor_text`, and then nothing was written; `WriteFault`
 /// where a call of the writer fails or takes no byte, or did so before, and then a prefix of the text was written. It
 /// costs what `save_editor_text` costs, and a call of the writer for each part that it takes.
+#[tactic(auto, using(scene_streams::proofs::Writes::none_written))]
 pub fn save_editor<W: Write>(
     alloc: Global,
     sink: &mut Sink<W>,
