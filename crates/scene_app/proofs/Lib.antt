@@ -1,3 +1,4 @@
+pub mod Ends
 pub mod LockedLaws
 pub mod PlayLaws
 pub mod ReportLaws

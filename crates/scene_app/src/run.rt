@@ -1,10 +1,11 @@
 //! A run: a script is read, played, and what it prints is written.
-ghost use Rattle.std.specs.Prelude.{◌≡◌, ◌≤◌, length, Some, string_bytes, IfOk, IfErr};
+ghost use Rattle.std.specs.Prelude.{◌≡◌, ◌≤◌, length, take, string_bytes, IfOk, IfErr};
+ghost use Rattle.scene_session.specs.Passes.{AreOf};
 ghost use Rattle.scene_streams.specs.Read.{IsRead};
 ghost use Rattle.scene_streams.specs.Source.{reader_of};
 ghost use Rattle.scene_streams.specs.Written.{IsWritten};
 ghost use Rattle.scene_streams.specs.Limits.{most_bytes};
-ghost use Rattle.scene_app.specs.Play.{output};
+ghost use Rattle.scene_app.specs.Play.{bad_lines, output, owner_after};
 ghost use Rattle.scene_app.specs.Run.{IsEndOf};
 ghost use Rattle.scene_shell.specs.declared.fault.AppFault.TheVariants.{NoMemory, ReadFault, WriteFault, TooLong};
 
@@ -41,7 +42,9 @@ fn played<P: Performer>(
 ) -> Result<(String, RunEnd), AppFault>
     requires { length script.now ≤ most_bytes }
     ensures printed { IfOk result (λ p. string_bytes p.0 ≡ output script.now) }
-    ensures ends { IfOk result (λ p. IsEndOf (Some script.now) p.1) }
+    ensures bad { IfOk result (λ p. p.1.bad_lines ≡ length (bad_lines script.now)) }
+    ensures reports { IfOk result (λ p. p.1.reports.items ≡ take 10 (bad_lines script.now)) }
+    ensures passes { IfOk result (λ p. AreOf p.1.lock p.1.passes.items (owner_after script.now)) }
     ensures memory { IfErr result (λ f. f ≡ NoMemory) }
 {
     let mut out = String::new(alloc);

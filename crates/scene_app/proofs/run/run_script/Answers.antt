@@ -1,0 +1,15 @@
+use Rattle.std.proofs.Common.{◌≡◌, length, subst}
+use Rattle.std.specs.Prelude.{take}
+use Rattle.scene_session.specs.Passes.{AreOf}
+use Rattle.scene_streams.specs.Source.{reader_of}
+use Rattle.scene_app.specs.Play.{bad_lines, owner_after}
+use Rattle.scene_app.proofs.Ends.{ends_so}
+use Rattle.scene_app.proofs.run.run_script.Goals as goal
+
+pub returns-clause-ends : goal.returns-clause-ends
+returns-clause-ends g c =
+    let end = c.in_ok-out.end in let is = c.as_slice.ensures.value in let played = c.in_ok-out.ensures in
+    ends_so (g.R.Read.remaining (reader_of c.args.source.now)) c.in_ok-script.script.items end c.in_ok-script.ensures.all
+    (subst (λ b. end.bad_lines ≡ length (bad_lines b)) is played.bad)
+    (subst (λ b. end.reports.items ≡ take 10 (bad_lines b)) is played.reports)
+    (subst (λ b. AreOf end.lock end.passes.items (owner_after b)) is played.passes)
