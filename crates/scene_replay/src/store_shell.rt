@@ -2,6 +2,7 @@
 ghost use Rattle.std.specs.Prelude.{◌≡◌};
 ghost use Rattle.std.specs.Io.Buffered.{reader_remaining};
 ghost use Rattle.scene_interpreter.specs.Interpreter.{interpreter_of};
+ghost use Rattle.scene_shell.specs.Kept.{both_mean};
 ghost use Rattle.scene_replay.specs.StoreShell.{EndsStored, GoesOn, PlaysOn, kept_interpreter};
 
 use crate::fault::KeptLineFault;
@@ -62,8 +63,12 @@ fn play_on<P: Performer, R: Read, W: Write + Drop, E: Write, S: KeptLines + Drop
     reader: &mut BufReader<R>,
     errors: &mut E,
 ) -> Result<u64, StoreShellFault<S::Fault>>
-    ensures { PlaysOn (λ s. S.keeps s.store) (λ s. W.contents s.writer) style (interpreter_of interpreter.old) text.items
-        both.old both.new (reader_remaining R.remaining reader.old) (reader_remaining R.remaining reader.new) result }
+    ensures { PlaysOn (both_mean S.keeps W.contents) (record {
+      style = style;
+      first = interpreter_of interpreter.old;
+      start = both.old;
+      script = reader_remaining R.remaining reader.old;
+    }) text.items both.new (reader_remaining R.remaining reader.new) result }
 {
     let played = replay(performer, alloc, interpreter, text.as_slice());
     // The lines aren't held while the shell runs.
@@ -99,8 +104,16 @@ fn go_on<P: Performer, R: Read, W: Write + Drop, E: Write, S: KeptLines + Drop, 
     errors: &mut E,
 ) -> Result<u64, StoreShellFault<S::Fault>>
     requires { S.is_store both.old.store }
-    ensures { GoesOn S.is_store S.keeps S.plays W.contents style both.old both.new
-        (reader_remaining R.remaining reader.old) (reader_remaining R.remaining reader.new) result }
+    ensures { GoesOn (record {
+      is_store = S.is_store;
+      keeps = S.keeps;
+      plays = S.plays;
+      contents = W.contents;
+    }) (record {
+      style = style;
+      start = both.old.writer;
+      script = reader_remaining R.remaining reader.old;
+    }) both.new (reader_remaining R.remaining reader.new) result }
 {
     let KeptText { calls, text } = match both.store.lines(alloc) {
         Ok(found) => found,
@@ -142,8 +155,16 @@ pub fn run_store_shell<P: Performer, R: Read, W: Write + Drop, E: Write, S: Stor
     writer: W,
     errors: &mut E,
 ) -> (Result<u64, StoreShellFault<<S::Store as Keep>::Fault>>, W)
-    ensures { EndsStored S.Store.is_store S.Store.keeps S.Store.plays S.closes W.contents style writer result.1
-        (reader_remaining R.remaining reader.old) (reader_remaining R.remaining reader.new) result.0 }
+    ensures { EndsStored (record {
+      is_store = S.Store.is_store;
+      keeps = S.Store.keeps;
+      plays = S.Store.plays;
+      contents = W.contents;
+    }) S.closes (record {
+      style = style;
+      start = writer;
+      script = reader_remaining R.remaining reader.old;
+    }) result.1 (reader_remaining R.remaining reader.new) result.0 }
 {
     let began = Instant::now(clock).ok();
     let store = match place.open() {

@@ -15,10 +15,11 @@ use Rattle.scene_interpreter.specs.Interpreter.{Interpreter, interpreter_reply}
 use Rattle.scene_interpreter.specs.Changes.{frame_is_open}
 use Rattle.scene_shell.specs.declared.kept_fault.KeptFault.{KeptFault}
 use Rattle.scene_shell.specs.declared.kept_fault.KeptFault.TheVariants.{Ended, Keep}
-use Rattle.scene_shell.specs.Shell.{AddsAnswer, Answers, AnswerStyle, HasSaid, IsSaid, Parts, Stops, StopsWith, bad_count, interpreter_after}
+use Rattle.scene_shell.specs.declared.waiting.Waiting.{Waiting}
+use Rattle.scene_shell.specs.Shell.{AddsAnswer, Answers, AnswerStyle, Exchange, HasSaid, IsSaid, Parts, Stops, StopsWith, bad_count, interpreter_after}
 use Rattle.scene_streams.specs.Keep.{Grows, StaysKept}
-use Rattle.scene_shell.specs.Kept.{Continues, EndsAs, IsSettled, Keeping, MaySend, StopsBy, behind, kept_after, kept_line, kept_of, noted, released, starting}
-use Rattle.scene_shell.specs.Waits.{FailsToSettle, HasCome, IsBad, IsPlayed, IsStop, IsUnread, LeadsTo, MaySettle}
+use Rattle.scene_shell.specs.Kept.{Beginning, Continues, EndsAs, HasAnswered, HasKept, IsSettled, Keeping, Meaning, MaySend, StopsBy, behind, kept_after, kept_line, kept_of, noted, released, starting}
+use Rattle.scene_shell.specs.Waits.{FailsToSettle, HasCome, HasStopped, IsBad, IsPlayed, IsStop, IsUnread, LeadsTo, MaySettle, Pending, Standing, stands_with}
 use Rattle.scene_shell.proofs.Lines.{first_line_of}
 
 released_behind : (b : Bool) (p : Interpreter) (t due held : List ℕ)
@@ -144,26 +145,50 @@ Grows-trans keeps a b c x y z is first next text has =
 Grows-stays : {K : Type 0} (keeps : K → List ℕ → Type 0) (a b c : K) (x : List ℕ) → Grows keeps a b x → StaysKept keeps b c → Grows keeps a c x
 Grows-stays keeps a b c x first stays text has = stays (text ++ x) (first text has)
 
-module _ {K : Type 0} (keeps : K → List ℕ → Type 0) (contents : K → Option (List ℕ)) (begun : K → K → Interpreter → AnswerStyle → Type 0)
-    (style : AnswerStyle) (first : Interpreter) (start : K) (script : Option (List ℕ)) where
-  abbrev Come : K → Option (List ℕ) → List ℕ → Keeping → List ℕ → ℕ → ℕ → Type 0
-  Come now rest last keeping answers count number = HasCome keeps contents begun style first start now script rest last keeping answers count number
+-- why a line wasn't read
+unread_stops : {K : Type 0} (script : Option (List ℕ)) (here : Standing K) (fault : AppFault) → IsUnread fault → IsStop script here (Err fault)
+unread_stops script here NoMemory h = tt
+unread_stops script here ReadFault h = tt
+unread_stops script here WriteFault h = absurd h
+unread_stops script here TooLong h = absurd h
+
+-- between two lines
+abbrev pub between : {K : Type 0} → (now : K) → (rest : Option (List ℕ)) → Pending → (count number : ℕ) → Standing K
+between now rest pending count number = record { now = now; rest = rest; last = []; pending = pending; count = count; number = number }
+
+-- behind a line more, which counts so much as a bad one
+abbrev pub line_on : {K : Type 0} → Standing K → (rest : Option (List ℕ)) → Pending → (bad : ℕ) → Standing K
+line_on here rest pending bad = between here.now rest pending (here.count + bad) (here.number + 1)
+
+-- behind a line that isn't played
+abbrev pub unplayed : {K : Type 0} → Standing K → (rest : Option (List ℕ)) → (last answers : List ℕ) → Standing K
+unplayed here rest last answers = record here { rest = rest; last = last; pending = record here.pending { answers = answers } }
+
+module _ {K : Type 0} (m : Meaning K) (shell : Beginning K) where
+  abbrev Come : Standing K → Type 0
+  Come here = HasCome m shell here
+
+  abbrev Leads : Type 0 → K → Option (List ℕ) → Waiting → Result ℕ AppFault → Type 0
+  Leads F now rest waiting played = LeadsTo m {F = F} shell now rest waiting (Ok played)
 
   -- before the first line
-  pub comes_first : (due held answers : List ℕ) → due ≡ [] → held ≡ [] → answers ≡ [] → begun start start first style
-      → Come start script [] (record { interpreter = first; due = due; held = held }) answers 0 1
+  abbrev first_at : (due held answers : List ℕ) → Standing K
+  first_at due held answers = between shell.start shell.script (record { keeping = record { interpreter = shell.first; due = due; held = held }; answers = answers }) 0 1
+
+  pub comes_first : (due held answers : List ℕ) → due ≡ [] → held ≡ [] → answers ≡ [] → m.begun shell.start shell.start shell.first shell.style
+      → Come (first_at due held answers)
   comes_first due held answers none unheld nothing is_of =
-      subst (λ d. Come start script [] (record { interpreter = first; due = d; held = held }) answers 0 1) (sym none)
-      (subst (λ h. Come start script [] (record { interpreter = first; due = []; held = h }) answers 0 1) (sym unheld)
-      (subst (λ t. Come start script [] (starting first) t 0 1) (sym nothing) record {
+      subst (λ d. Come (first_at d held answers)) (sym none)
+      (subst (λ h. Come (first_at [] h answers)) (sym unheld)
+      (subst (λ t. Come (first_at [] [] t)) (sym nothing) record {
         is_of = is_of;
         front = [];
         next = [];
-        parted = parts_first script;
+        parted = parts_first shell.script;
         said = [];
         is_said = refl;
-        written = Appends-nil (contents start);
-        grown = λ text has. subst (keeps start) (sym (append-nil text)) has;
+        written = Appends-nil (m.contents shell.start);
+        grown = λ text has. subst (m.keeps shell.start) (sym (append-nil text)) has;
         waits = refl;
         reached = refl;
         counted = refl;
@@ -171,18 +196,21 @@ module _ {K : Type 0} (keeps : K → List ℕ → Type 0) (contents : K → Opti
       }))
 
   -- the interpreter is that of the lines so far
-  interpreter_now : (front next : List (List ℕ)) (keeping : Keeping) → kept_after (starting first) (front ++ next) ≡ behind (kept_of first front) keeping
-      → interpreter_after (interpreter_after first front) next ≡ keeping.interpreter
+  interpreter_now : (front next : List (List ℕ)) (keeping : Keeping) → kept_after (starting shell.first) (front ++ next) ≡ behind (kept_of shell.first front) keeping
+      → interpreter_after (interpreter_after shell.first front) next ≡ keeping.interpreter
   interpreter_now front next keeping reached =
-      sym (after_append first front next) ∙ sym (kept_interpreter (starting first) (front ++ next)) ∙ ap (λ (k : Keeping). k.interpreter) reached
+      sym (after_append shell.first front next) ∙ sym (kept_interpreter (starting shell.first) (front ++ next)) ∙ ap (λ (k : Keeping). k.interpreter) reached
 
   -- a line that is played and noted
-  come_line : (l : List ℕ) (now : K) (rest more : Option (List ℕ)) (keeping : Keeping) (answers said : List ℕ) (count number : ℕ)
-      → AddsAnswer style keeping.interpreter l answers said
-      → (so : Come now rest [] keeping answers count number) → Parts script more ((so.front ++ so.next) ++ l ∷ []) []
-      → Come now more [] (kept_line keeping l) said (count + (if is_some (interpreter_reply keeping.interpreter l).bad then 1 else 0)) (number + 1)
-  come_line l now rest more keeping answers said count number adds so parted =
+  come_line : (l : List ℕ) (here : Standing K) (more : Option (List ℕ)) (said : List ℕ)
+      → AddsAnswer shell.style here.pending.keeping.interpreter l here.pending.answers said
+      → (so : Come here) → Parts shell.script more ((so.front ++ so.next) ++ l ∷ []) []
+      → Come (line_on here more (record { keeping = kept_line here.pending.keeping l; answers = said })
+      (if is_some (interpreter_reply here.pending.keeping.interpreter l).bad then 1 else 0))
+  come_line l here more said adds so parted =
+      let keeping = here.pending.keeping in
       let next = so.next ++ l ∷ [] in
+      let first = shell.first in
       let interpreter = interpreter_now so.front so.next keeping so.reached in
       let all : so.front ++ next ≡ (so.front ++ so.next) ++ l ∷ [] = sym (append_assoc so.front so.next (l ∷ [])) in
       let bad : ℕ = (if is_some (interpreter_reply keeping.interpreter l).bad then 1 else 0) in
@@ -190,15 +218,15 @@ module _ {K : Type 0} (keeps : K → List ℕ → Type 0) (contents : K → Opti
         is_of = so.is_of;
         front = so.front;
         next = next;
-        parted = subst (λ ls. Parts script more ls []) (sym all) parted;
+        parted = subst (λ ls. Parts shell.script more ls []) (sym all) parted;
         written = so.written;
         grown = so.grown;
         said = so.said;
         is_said = so.is_said;
         waits =
-            let one : IsSaid style keeping.interpreter (l ∷ []) adds.0 = (adds.0, [], adds.1, refl, sym (append-nil adds.0)) in
-            subst (IsSaid style (interpreter_after first so.front) next) (sym adds.2)
-            (said_append style (interpreter_after first so.front) so.next (l ∷ []) answers adds.0 so.waits (subst (λ p. IsSaid style p (l ∷ []) adds.0) (sym interpreter) one));
+            let one : IsSaid shell.style keeping.interpreter (l ∷ []) adds.0 = (adds.0, [], adds.1, refl, sym (append-nil adds.0)) in
+            subst (IsSaid shell.style (interpreter_after first so.front) next) (sym adds.2)
+            (said_append shell.style (interpreter_after first so.front) so.next (l ∷ []) here.pending.answers adds.0 so.waits (subst (λ p. IsSaid shell.style p (l ∷ []) adds.0) (sym interpreter) one));
         reached =
             ap (kept_after (starting first)) all ∙ fold-append kept_line (starting first) (so.front ++ so.next) (l ∷ []) ∙ ap (λ k. kept_line k l) so.reached
             ∙ line_behind (kept_of first so.front) keeping l;
@@ -206,7 +234,7 @@ module _ {K : Type 0} (keeps : K → List ℕ → Type 0) (contents : K → Opti
             let before : interpreter_after first (so.front ++ so.next) ≡ keeping.interpreter = after_append first so.front so.next ∙ interpreter in
             let more_bad : bad_count first (so.front ++ next) ≡ bad_count first (so.front ++ so.next) + bad_count keeping.interpreter (l ∷ []) =
             ap (bad_count first) all ∙ bad_append first (so.front ++ so.next) (l ∷ []) ∙ ap (λ p. bad_count first (so.front ++ so.next) + bad_count p (l ∷ [])) before in
-            let is : count + bad ≡ bad_count first (so.front ++ so.next) + (bad + 0) = omega (arith, so.counted) in
+            let is : here.count + bad ≡ bad_count first (so.front ++ so.next) + (bad + 0) = omega (arith, so.counted) in
             is ∙ sym more_bad;
         numbered =
             let longer : length (so.front ++ next) ≡ length (so.front ++ so.next) + 1 = ap length all ∙ length-append (so.front ++ so.next) (l ∷ []) in
@@ -214,29 +242,29 @@ module _ {K : Type 0} (keeps : K → List ℕ → Type 0) (contents : K → Opti
       }
 
   -- a line of a reader that is read, played and noted
-  pub comes_line : (now : K) (rest more : Option (List ℕ)) (keeping next : Keeping) (answers said : List ℕ) (count bad number : ℕ) (line : List ℕ)
-      → Come now rest [] keeping answers count number
-      → IfSome rest (λ r. line ≡ take_through 10 r) → DropsThrough rest more 10 → StopsAt line 10 → 0 < length line
-      → IsPlayed style line keeping next answers said → IsBad line keeping.interpreter bad
-      → Come now more [] next said (count + bad) (number + 1)
-  comes_line now rest more keeping next answers said count bad number line so taken left part some played is_bad =
+  pub comes_line : (here : Standing K) (more : Option (List ℕ)) (next : Pending) (bad : ℕ) (line : List ℕ)
+      → Come (record here { last = [] })
+      → IfSome here.rest (λ r. line ≡ take_through 10 r) → DropsThrough here.rest more 10 → StopsAt line 10 → 0 < length line
+      → IsPlayed shell.style line here.pending next → IsBad line here.pending.keeping.interpreter bad
+      → Come (line_on here more next bad)
+  comes_line here more next bad line so taken left part some played is_bad =
       let it = first_line_of line some in
       let l = it.0 in
       let one : lines line ≡ l ∷ [] = ap lines (sym (stops_whole line part)) ∙ it.1.0 in
       let did = played l [] one in
-      let come = come_line l now rest more keeping answers said count number did.1 so (parts_line script rest more (so.front ++ so.next) line l one so.parted taken left some) in
-      subst (λ n. Come now more [] next said (count + n) (number + 1)) (sym (is_bad l [] one))
-      (subst (λ k. Come now more [] k said (count + (if is_some (interpreter_reply keeping.interpreter l).bad then 1 else 0)) (number + 1)) (sym did.0) come)
+      let come = come_line l (record here { last = [] }) more next.answers did.1 so (parts_line shell.script here.rest more (so.front ++ so.next) line l one so.parted taken left some) in
+      subst (λ n. Come (line_on here more next n)) (sym (is_bad l [] one))
+      (subst (λ k. Come (line_on here more (record { keeping = k; answers = next.answers }) (if is_some (interpreter_reply here.pending.keeping.interpreter l).bad then 1 else 0))) (sym did.0) come)
 
   -- one that isn't played
-  come_unplayed : (now : K) (rest more : Option (List ℕ)) (line : List ℕ) (keeping : Keeping) (answers said : List ℕ) (count number : ℕ)
-      → Come now rest [] keeping answers count number → Consumes rest more line → said ≡ answers → Come now more line keeping said count number
-  come_unplayed now rest more line keeping answers said count number so taken unsaid =
-      subst (λ t. Come now more line keeping t count number) (sym unsaid) record {
+  come_unplayed : (here : Standing K) (more : Option (List ℕ)) (line said : List ℕ)
+      → Come (record here { last = [] }) → Consumes here.rest more line → said ≡ here.pending.answers → Come (unplayed here more line said)
+  come_unplayed here more line said so taken unsaid =
+      subst (λ t. Come (unplayed here more line t)) (sym unsaid) record {
         is_of = so.is_of;
         front = so.front;
         next = so.next;
-        parted = parts_unplayed script rest more (so.front ++ so.next) line so.parted taken;
+        parted = parts_unplayed shell.script here.rest more (so.front ++ so.next) line so.parted taken;
         said = so.said;
         is_said = so.is_said;
         written = so.written;
@@ -248,23 +276,25 @@ module _ {K : Type 0} (keeps : K → List ℕ → Type 0) (contents : K → Opti
       }
 
   -- what waited is kept and written
-  come_settled : (now later : K) (rest : Option (List ℕ)) (last : List ℕ) (keeping : Keeping) (answers : List ℕ) (count number : ℕ)
-      → Come now rest last keeping answers count number → Grows keeps now later keeping.due → Appends (contents now) (contents later) answers
-      → Continues begun now later
-      → Come later rest last (record keeping { due = [] }) [] count number
-  come_settled now later rest last keeping answers count number so grew wrote goes_on =
+  come_settled : (here : Standing K) (later : K)
+      → Come here → Grows m.keeps here.now later here.pending.keeping.due → Appends (m.contents here.now) (m.contents later) here.pending.answers
+      → Continues m here.now later
+      → Come (record here { now = later; pending = record { keeping = record here.pending.keeping { due = [] }; answers = [] } })
+  come_settled here later so grew wrote goes_on =
+      let first = shell.first in
+      let keeping = here.pending.keeping in
       let all = so.front ++ so.next in
       let none : all ++ [] ≡ all = append-nil all in
       let due : kept_of first all ≡ kept_of first so.front ++ keeping.due = ap (λ (k : Keeping). k.due) so.reached in
       record {
-        is_of = goes_on start first style so.is_of;
+        is_of = goes_on shell.start first shell.style so.is_of;
         front = all;
         next = [];
-        parted = subst (λ ls. Parts script rest ls last) (sym none) so.parted;
-        said = so.said ++ answers;
-        is_said = said_append style first so.front so.next so.said answers so.is_said so.waits;
-        written = Appends-trans (contents start) (contents now) (contents later) so.said answers so.written wrote;
-        grown = Grows-trans keeps start now later (kept_of first so.front) keeping.due (kept_of first all) due so.grown grew;
+        parted = subst (λ ls. Parts shell.script here.rest ls here.last) (sym none) so.parted;
+        said = so.said ++ here.pending.answers;
+        is_said = said_append shell.style first so.front so.next so.said here.pending.answers so.is_said so.waits;
+        written = Appends-trans (m.contents shell.start) (m.contents here.now) (m.contents later) so.said here.pending.answers so.written wrote;
+        grown = Grows-trans m.keeps shell.start here.now later (kept_of first so.front) keeping.due (kept_of first all) due so.grown grew;
         waits = refl;
         reached = ap (kept_after (starting first)) none ∙ so.reached ∙ ap (λ d. record keeping { due = d }) (sym due ∙ sym (append-nil (kept_of first all)));
         counted = so.counted ∙ ap (bad_count first) (sym none);
@@ -272,173 +302,207 @@ module _ {K : Type 0} (keeps : K → List ℕ → Type 0) (contents : K → Opti
       }
 
   -- the same by its parts
-  pub comes_on : (now later : K) (rest : Option (List ℕ)) (last : List ℕ) (p : Interpreter) (due held answers d h t : List ℕ) (count number : ℕ)
-      → Grows keeps now later due → Appends (contents now) (contents later) answers → Continues begun now later → d ≡ [] → h ≡ held → t ≡ []
-      → Come now rest last (record { interpreter = p; due = due; held = held }) answers count number
-      → Come later rest last (record { interpreter = p; due = d; held = h }) t count number
-  comes_on now later rest last p due held answers d h t count number grew wrote goes_on none same nothing so =
-      subst (λ x. Come later rest last (record { interpreter = p; due = x; held = h }) t count number) (sym none)
-      (subst (λ x. Come later rest last (record { interpreter = p; due = []; held = x }) t count number) (sym same)
-      (subst (λ x. Come later rest last (record { interpreter = p; due = []; held = held }) x count number) (sym nothing)
-      (come_settled now later rest last (record { interpreter = p; due = due; held = held }) answers count number so grew wrote goes_on)))
+  abbrev later_at : Standing K → (later : K) → (due held answers : List ℕ) → Standing K
+  later_at here later due held answers =
+      record here { now = later; pending = record { keeping = record { interpreter = here.pending.keeping.interpreter; due = due; held = held }; answers = answers } }
+
+  pub comes_on : (here : Standing K) (now later : K) (old new : Waiting)
+      → Grows m.keeps now later old.due.items → Appends (m.contents now) (m.contents later) old.answers.items → Continues m now later
+      → new.due.items ≡ [] → new.held.items ≡ old.held.items → new.answers.items ≡ []
+      → Come (stands_with here now old) → Come (stands_with here later new)
+  comes_on here now later old new grew wrote goes_on none same nothing so =
+      subst (λ x. Come (later_at here later x new.held.items new.answers.items)) (sym none)
+      (subst (λ x. Come (later_at here later [] x new.answers.items)) (sym same)
+      (subst (λ x. Come (later_at here later [] old.held.items x)) (sym nothing)
+      (come_settled (stands_with here now old) later so grew wrote goes_on)))
+
+  -- what all lines so far have to keep
+  all_due : (here : Standing K) (due : List ℕ) → here.pending.keeping.due ≡ due → (so : Come here)
+      → kept_of shell.first (so.front ++ so.next) ≡ kept_of shell.first so.front ++ due
+  all_due here due is so = ap (λ (k : Keeping). k.due) so.reached ∙ ap (λ d. kept_of shell.first so.front ++ d) is
 
   -- what waits may be settled
-  pub come_may : (now : K) (rest : Option (List ℕ)) (last : List ℕ) (keeping : Keeping) (due answers : List ℕ) (count number : ℕ) → keeping.due ≡ due
-      → Come now rest last keeping answers count number → MaySettle keeps contents begun now due answers
-  come_may now rest last keeping due answers count number is so later grew same goes_on = record {
-    start = start;
-    first = first;
-    style = style;
-    is_of = goes_on start first style so.is_of;
+  pub come_may : (here : Standing K) (due : List ℕ) → here.pending.keeping.due ≡ due
+      → Come here → MaySettle m here.now due here.pending.answers
+  come_may here due is so later grew same goes_on = record {
+    start = shell.start;
+    first = shell.first;
+    style = shell.style;
+    is_of = goes_on shell.start shell.first shell.style so.is_of;
     front = so.front ++ so.next;
     said = so.said;
-    written = Appends-kept (contents start) (contents now) (contents later) so.said so.written same;
-    are_answers = said_append style first so.front so.next so.said answers so.is_said so.waits;
+    written = Appends-kept (m.contents shell.start) (m.contents here.now) (m.contents later) so.said so.written same;
+    are_answers = said_append shell.style shell.first so.front so.next so.said here.pending.answers so.is_said so.waits;
     grown =
-        let all : kept_of first (so.front ++ so.next) ≡ kept_of first so.front ++ due = ap (λ (k : Keeping). k.due) so.reached ∙ ap (λ d. kept_of first so.front ++ d) is in
-        Grows-trans keeps start now later (kept_of first so.front) due (kept_of first (so.front ++ so.next)) all so.grown grew;
+        Grows-trans m.keeps shell.start here.now later (kept_of shell.first so.front) due (kept_of shell.first (so.front ++ so.next)) (all_due here due is so) so.grown grew;
   }
 
   -- a line that isn't played stops it
-  pub come_stops : (F : Type 0) (fault : AppFault) (now : K) (rest more : Option (List ℕ)) (line : List ℕ) (keeping : Keeping) (due answers said : List ℕ) (count number : ℕ)
-      → Come now rest [] keeping answers count number → StopsAt line 10 → Consumes rest more line → keeping.due ≡ due → said ≡ answers
-      → IsStop script more line count number (Err fault)
-      → LeadsTo {F = F} keeps contents begun style first start now script more due said (Ok (Err fault))
-  come_stops F fault now rest more line keeping due answers said count number so part taken is unsaid stop =
-      (line, keeping, count, number, part, is, come_unplayed now rest more line keeping answers said count number so taken unsaid, stop)
+  pub come_stops : (F : Type 0) (fault : AppFault) (here : Standing K) (more : Option (List ℕ)) (line : List ℕ) (waiting : Waiting)
+      → Come (record here { last = [] }) → here.pending.keeping.due ≡ waiting.due.items → waiting.answers.items ≡ here.pending.answers
+      → StopsAt line 10 → Consumes here.rest more line → IsUnread fault → Leads F here.now more waiting (Err fault)
+  come_stops F fault here more line waiting so is unsaid part taken unread = (
+    line,
+    here.pending.keeping,
+    here.count,
+    here.number,
+    record {
+      come = come_unplayed here more line waiting.answers.items so taken unsaid;
+      part = part;
+      is_due = is;
+      stop = unread_stops shell.script (unplayed here more line waiting.answers.items) fault unread;
+    },
+  )
 
   -- and so does the reader's end
-  pub nothing_left : (F : Type 0) (now : K) (rest more : Option (List ℕ)) (line : List ℕ) (keeping : Keeping) (answers : List ℕ) (count number : ℕ)
-      → Come now rest [] keeping answers count number → length line ≡ 0 → IfSome rest (λ r. line ≡ take_through 10 r) → DropsThrough rest more 10 → Consumes rest more line
-      → LeadsTo {F = F} keeps contents begun style first start now script more keeping.due answers (Ok (Ok count))
-  nothing_left F now rest more line keeping answers count number so none taken left gone =
+  pub nothing_left : (F : Type 0) (here : Standing K) (more : Option (List ℕ)) (line : List ℕ) (waiting : Waiting)
+      → Come (record here { last = [] }) → here.pending.keeping.due ≡ waiting.due.items → waiting.answers.items ≡ here.pending.answers
+      → length line ≡ 0 → IfSome here.rest (λ r. line ≡ take_through 10 r) → DropsThrough here.rest more 10 → Consumes here.rest more line
+      → Leads F here.now more waiting (Ok here.count)
+  nothing_left F here more line waiting so is unsaid none taken left gone =
       let empty : line ≡ [] = nil_from_length line none in (
         [],
-        keeping,
-        count,
-        number,
-        stops_none,
-        refl,
-        come_unplayed now rest more [] keeping answers answers count number so (subst (Consumes rest more) empty gone) refl,
-        (refl, rest_ended script rest more (so.front ++ so.next) line none so.parted taken left, refl),
+        here.pending.keeping,
+        here.count,
+        here.number,
+        record {
+          come = come_unplayed here more [] waiting.answers.items so (subst (Consumes here.rest more) empty gone) unsaid;
+          part = stops_none;
+          is_due = is;
+          stop = (refl, rest_ended shell.script here.rest more (so.front ++ so.next) line none so.parted taken left, refl);
+        },
       )
 
   -- and the number of lines
-  pub too_long : (F : Type 0) (now : K) (rest : Option (List ℕ)) (keeping : Keeping) (answers : List ℕ) (count number : ℕ)
-      → Come now rest [] keeping answers count number → 2 ^ 64 ≤ number + 1
-      → LeadsTo {F = F} keeps contents begun style first start now script rest keeping.due answers (Ok (Err TooLong))
-  too_long F now rest keeping answers count number so many = ([], keeping, count, number, stops_none, refl, so, many)
+  pub too_long : (F : Type 0) (here : Standing K) (waiting : Waiting)
+      → Come (record here { last = [] }) → here.pending.keeping.due ≡ waiting.due.items → waiting.answers.items ≡ here.pending.answers
+      → 2 ^ 64 ≤ here.number + 1 → Leads F here.now here.rest waiting (Err TooLong)
+  too_long F here waiting so is unsaid many = (
+    [],
+    here.pending.keeping,
+    here.count,
+    here.number,
+    record {
+      come = subst (λ t. Come (unplayed here here.rest [] t)) (sym unsaid) so;
+      part = stops_none;
+      is_due = is;
+      stop = many;
+    },
+  )
 
   -- ---- how it ends
 
   -- what waits isn't settled
-  pub come_fails : {F : Type 0} (fault : KeptFault F) (now later : K) (rest : Option (List ℕ)) (last : List ℕ) (keeping : Keeping) (due answers : List ℕ) (count number : ℕ)
-      → Come now rest last keeping answers count number → StopsAt last 10 → keeping.due ≡ due
-      → FailsToSettle keeps contents now later due fault
-      → EndsAs keeps contents style first start later script rest (Err fault)
-  come_fails (Ended WriteFault) now later rest last keeping due answers count number so part is fails =
-      let all : kept_of first (so.front ++ so.next) ≡ kept_of first so.front ++ due = ap (λ (k : Keeping). k.due) so.reached ∙ ap (λ d. kept_of first so.front ++ d) is in
-      (so.front ++ so.next, last, part, so.parted, Grows-trans keeps start now later (kept_of first so.front) due (kept_of first (so.front ++ so.next)) all so.grown fails.1)
-  come_fails (Ended NoMemory) now later rest last keeping due answers count number so part is fails = absurd (let e = fails.0 in cc)
-  come_fails (Ended ReadFault) now later rest last keeping due answers count number so part is fails = absurd (let e = fails.0 in cc)
-  come_fails (Ended TooLong) now later rest last keeping due answers count number so part is fails = absurd (let e = fails.0 in cc)
-  come_fails (Keep fault) now later rest last keeping due answers count number so part is fails =
-      let front = parts_front script rest so.front so.next last so.parted in
-      (so.front, front.0, front.1, (so.said, so.is_said, Appends-kept (contents start) (contents now) (contents later) so.said so.written fails))
-
-  -- what waits is settled
-  settled : (now later : K) (rest : Option (List ℕ)) (last : List ℕ) (keeping : Keeping) (due answers : List ℕ) (count number : ℕ)
-      → (so : Come now rest last keeping answers count number) → keeping.due ≡ due → Grows keeps now later due → Appends (contents now) (contents later) answers
-      → IsSettled keeps contents style first start later (so.front ++ so.next)
-  settled now later rest last keeping due answers count number so is grew wrote =
-      let all : kept_of first (so.front ++ so.next) ≡ kept_of first so.front ++ due = ap (λ (k : Keeping). k.due) so.reached ∙ ap (λ d. kept_of first so.front ++ d) is in (
-        (
-          so.said ++ answers,
-          said_append style first so.front so.next so.said answers so.is_said so.waits,
-          Appends-trans (contents start) (contents now) (contents later) so.said answers so.written wrote,
-        ),
-        Grows-trans keeps start now later (kept_of first so.front) due (kept_of first (so.front ++ so.next)) all so.grown grew,
-      )
-
-  -- behind the last line
-  pub ends_ok : (F : Type 0) (bad : ℕ) (now later : K) (rest : Option (List ℕ)) (due answers : List ℕ)
-      → LeadsTo {F = F} keeps contents begun style first start now script rest due answers (Ok (Ok bad))
-      → Grows keeps now later due → Appends (contents now) (contents later) answers
-      → EndsAs {F = F} keeps contents style first start later script rest (Ok bad)
-  ends_ok F bad now later rest due answers (last, keeping, count, number, part, is, so, stop) grew wrote = (
+  pub come_fails : {F : Type 0} (fault : KeptFault F) (here : Standing K) (later : K) (due : List ℕ)
+      → Come here → StopsAt here.last 10 → here.pending.keeping.due ≡ due
+      → FailsToSettle m here.now later due fault
+      → EndsAs m shell later here.rest (Err fault)
+  come_fails (Ended WriteFault) here later due so part is fails = (
     so.front ++ so.next,
-    parts_all script rest (so.front ++ so.next) stop.1 (subst (λ l. Parts script rest (so.front ++ so.next) l) stop.2 so.parted),
-    settled now later rest last keeping due answers count number so is grew wrote,
-    stop.0 ∙ so.counted,
-  )
-
-  -- behind a line that something stopped
-  stops : (fault : AppFault) (later : K) (rest : Option (List ℕ)) (last : List ℕ) (count number : ℕ) (ls : List (List ℕ)) → number ≡ length ls + 1
-      → IsSettled keeps contents style first start later ls → IsStop script rest last count number (Err fault)
-      → StopsBy keeps contents style first start later ls fault
-  stops NoMemory later rest last count number ls numbered so stop = so
-  stops ReadFault later rest last count number ls numbered so stop = so
-  stops WriteFault later rest last count number ls numbered so stop = absurd stop
-  stops TooLong later rest last count number ls numbered so stop = (so, omega (arith, numbered, stop))
-
-  pub ends_stopped : (F : Type 0) (fault : AppFault) (now later : K) (rest : Option (List ℕ)) (due answers : List ℕ)
-      → LeadsTo {F = F} keeps contents begun style first start now script rest due answers (Ok (Err fault))
-      → Grows keeps now later due → Appends (contents now) (contents later) answers
-      → EndsAs {F = F} keeps contents style first start later script rest (Err (Ended fault))
-  ends_stopped F fault now later rest due answers (last, keeping, count, number, part, is, so, stop) grew wrote = (
-    so.front ++ so.next,
-    last,
+    here.last,
     part,
     so.parted,
-    stops fault later rest last count number (so.front ++ so.next) so.numbered (settled now later rest last keeping due answers count number so is grew wrote) stop,
+    Grows-trans m.keeps shell.start here.now later (kept_of shell.first so.front) due (kept_of shell.first (so.front ++ so.next)) (all_due here due is so) so.grown fails.1,
+  )
+  come_fails (Ended NoMemory) here later due so part is fails = absurd (let e = fails.0 in cc)
+  come_fails (Ended ReadFault) here later due so part is fails = absurd (let e = fails.0 in cc)
+  come_fails (Ended TooLong) here later due so part is fails = absurd (let e = fails.0 in cc)
+  come_fails (Keep fault) here later due so part is fails =
+      let front = parts_front shell.script here.rest so.front so.next here.last so.parted in
+      (so.front, front.0, front.1, (so.said, so.is_said, Appends-kept (m.contents shell.start) (m.contents here.now) (m.contents later) so.said so.written fails))
+
+  -- what waits is settled
+  settled : (here : Standing K) (later : K) (due : List ℕ)
+      → (so : Come here) → here.pending.keeping.due ≡ due → Grows m.keeps here.now later due → Appends (m.contents here.now) (m.contents later) here.pending.answers
+      → IsSettled m shell later (so.front ++ so.next)
+  settled here later due so is grew wrote = (
+    (
+      so.said ++ here.pending.answers,
+      said_append shell.style shell.first so.front so.next so.said here.pending.answers so.is_said so.waits,
+      Appends-trans (m.contents shell.start) (m.contents here.now) (m.contents later) so.said here.pending.answers so.written wrote,
+    ),
+    Grows-trans m.keeps shell.start here.now later (kept_of shell.first so.front) due (kept_of shell.first (so.front ++ so.next)) (all_due here due is so) so.grown grew,
   )
 
+  -- where it has stopped
+  abbrev stopped_at : (now : K) → (rest : Option (List ℕ)) → Waiting → (last : List ℕ) → Keeping → (count number : ℕ) → Standing K
+  stopped_at now rest waiting last keeping count number =
+      record { now = now; rest = rest; last = last; pending = record { keeping = keeping; answers = waiting.answers.items }; count = count; number = number }
+
+  -- behind the last line
+  pub ends_ok : (F : Type 0) (bad : ℕ) (now later : K) (rest : Option (List ℕ)) (waiting : Waiting) → Leads F now rest waiting (Ok bad)
+      → Grows m.keeps now later waiting.due.items → Appends (m.contents now) (m.contents later) waiting.answers.items
+      → EndsAs m {F = F} shell later rest (Ok bad)
+  ends_ok F bad now later rest waiting (last, keeping, count, number, it) grew wrote =
+      let so = it.come in (
+        so.front ++ so.next,
+        parts_all shell.script rest (so.front ++ so.next) it.stop.1 (subst (λ l. Parts shell.script rest (so.front ++ so.next) l) it.stop.2 so.parted),
+        settled (stopped_at now rest waiting last keeping count number) later waiting.due.items so it.is_due grew wrote,
+        it.stop.0 ∙ so.counted,
+      )
+
+  -- behind a line that something stopped
+  stops : (fault : AppFault) (later : K) (here : Standing K) (ls : List (List ℕ)) → here.number ≡ length ls + 1
+      → IsSettled m shell later ls → IsStop shell.script here (Err fault) → StopsBy m shell later ls fault
+  stops NoMemory later here ls numbered so stop = so
+  stops ReadFault later here ls numbered so stop = so
+  stops WriteFault later here ls numbered so stop = absurd stop
+  stops TooLong later here ls numbered so stop = (so, omega (arith, numbered, stop))
+
+  pub ends_stopped : (F : Type 0) (fault : AppFault) (now later : K) (rest : Option (List ℕ)) (waiting : Waiting) → Leads F now rest waiting (Err fault)
+      → Grows m.keeps now later waiting.due.items → Appends (m.contents now) (m.contents later) waiting.answers.items
+      → EndsAs m {F = F} shell later rest (Err (Ended fault))
+  ends_stopped F fault now later rest waiting (last, keeping, count, number, it) grew wrote =
+      let here = stopped_at now rest waiting last keeping count number in
+      let so = it.come in (
+        so.front ++ so.next,
+        last,
+        it.part,
+        so.parted,
+        stops fault later here (so.front ++ so.next) so.numbered (settled here later waiting.due.items so it.is_due grew wrote) it.stop,
+      )
+
   -- or what waits isn't settled
-  pub ends_unsettled : {F : Type 0} (played : Result ℕ AppFault) (fault : KeptFault F) (now later : K) (rest : Option (List ℕ)) (due answers : List ℕ)
-      → LeadsTo {F = F} keeps contents begun style first start now script rest due answers (Ok played)
-      → FailsToSettle keeps contents now later due fault
-      → EndsAs {F = F} keeps contents style first start later script rest (Err fault)
-  ends_unsettled played fault now later rest due answers (last, keeping, count, number, part, is, so, stop) fails =
-      come_fails fault now later rest last keeping due answers count number so part is fails
+  pub ends_unsettled : {F : Type 0} (played : Result ℕ AppFault) (fault : KeptFault F) (now later : K) (rest : Option (List ℕ)) (waiting : Waiting)
+      → Leads F now rest waiting played → FailsToSettle m now later waiting.due.items fault
+      → EndsAs m {F = F} shell later rest (Err fault)
+  ends_unsettled played fault now later rest waiting (last, keeping, count, number, it) fails =
+      come_fails fault (stopped_at now rest waiting last keeping count number) later waiting.due.items it.come it.part it.is_due fails
 
   -- and it may be
-  pub led_may : (F : Type 0) (played : Result ℕ AppFault) (now : K) (rest : Option (List ℕ)) (due answers : List ℕ)
-      → LeadsTo {F = F} keeps contents begun style first start now script rest due answers (Ok played)
-      → MaySettle keeps contents begun now due answers
-  led_may F played now rest due answers (last, keeping, count, number, part, is, so, stop) = come_may now rest last keeping due answers count number is so
-
--- why a line wasn't read
-pub unread_stops : (script rest : Option (List ℕ)) (last : List ℕ) (count number : ℕ) (fault : AppFault) → IsUnread fault → IsStop script rest last count number (Err fault)
-unread_stops script rest last count number NoMemory h = tt
-unread_stops script rest last count number ReadFault h = tt
-unread_stops script rest last count number WriteFault h = absurd h
-unread_stops script rest last count number TooLong h = absurd h
+  pub led_may : (F : Type 0) (played : Result ℕ AppFault) (now : K) (rest : Option (List ℕ)) (waiting : Waiting)
+      → Leads F now rest waiting played → MaySettle m now waiting.due.items waiting.answers.items
+  led_may F played now rest waiting (last, keeping, count, number, it) =
+      come_may (stopped_at now rest waiting last keeping count number) waiting.due.items it.is_due it.come
 
 -- ---- from the call on
 
-module _ {K : Type 0} (keeps : K → List ℕ → Type 0) (contents : K → Option (List ℕ)) (style : AnswerStyle) (first : Interpreter) (old start now : K)
-    (stays : StaysKept keeps old start) (same : contents start ≡ contents old) where
-  grows_from : (x : List ℕ) → Grows keeps start now x → Grows keeps old now x
-  grows_from x grew text has = grew text (stays text has)
+module _ {K : Type 0} (m : Meaning K) (shell : Beginning K) (old now : K)
+    (stays : StaysKept m.keeps old shell.start) (same : m.contents shell.start ≡ m.contents old) where
+  abbrev called : Beginning K
+  called = record shell { start = old }
 
-  said_from : (ls : List (List ℕ)) → HasSaid style first ls (contents start) (contents now) → HasSaid style first ls (contents old) (contents now)
-  said_from ls said = subst (λ o. HasSaid style first ls o (contents now)) same said
+  kept_from : (ls : List (List ℕ)) → HasKept m shell now ls → HasKept m called now ls
+  kept_from ls grew text has = grew text (stays text has)
 
-  settled_from : (ls : List (List ℕ)) → IsSettled keeps contents style first start now ls → IsSettled keeps contents style first old now ls
-  settled_from ls so = (said_from ls so.0, grows_from (kept_of first ls) so.1)
+  answered_from : (ls : List (List ℕ)) → HasAnswered m shell now ls → HasAnswered m called now ls
+  answered_from ls said = subst (λ o. HasSaid shell.style shell.first ls o (m.contents now)) same said
 
-  stops_from : (ls : List (List ℕ)) (fault : AppFault) → StopsBy keeps contents style first start now ls fault → StopsBy keeps contents style first old now ls fault
+  settled_from : (ls : List (List ℕ)) → IsSettled m shell now ls → IsSettled m called now ls
+  settled_from ls so = (answered_from ls so.0, kept_from ls so.1)
+
+  stops_from : (ls : List (List ℕ)) (fault : AppFault) → StopsBy m shell now ls fault → StopsBy m called now ls fault
   stops_from ls NoMemory so = settled_from ls so
   stops_from ls ReadFault so = settled_from ls so
-  stops_from ls WriteFault so = grows_from (kept_of first ls) so
+  stops_from ls WriteFault so = kept_from ls so
   stops_from ls TooLong so = (settled_from ls so.0, so.1)
 
   -- what a shell did since it began it did since it was called
-  pub ends_from : {F : Type 0} (script rest : Option (List ℕ)) (r : Result ℕ (KeptFault F))
-      → EndsAs keeps contents style first start now script rest r → EndsAs keeps contents style first old now script rest r
-  ends_from script rest (Ok count) (ls, all, so, counted) = (ls, all, settled_from ls so, counted)
-  ends_from script rest (Err (Ended fault)) (ls, last, part, parted, so) = (ls, last, part, parted, stops_from ls fault so)
-  ends_from script rest (Err (Keep fault)) (ls, others, parted, said) = (ls, others, parted, said_from ls said)
+  pub ends_from : {F : Type 0} (rest : Option (List ℕ)) (r : Result ℕ (KeptFault F))
+      → EndsAs m shell now rest r → EndsAs m (record shell { start = old }) now rest r
+  ends_from rest (Ok count) (ls, all, so, counted) = (ls, all, settled_from ls so, counted)
+  ends_from rest (Err (Ended fault)) (ls, last, part, parted, so) = (ls, last, part, parted, stops_from ls fault so)
+  ends_from rest (Err (Keep fault)) (ls, others, parted, said) = (ls, others, parted, answered_from ls said)
 
 -- ---- parts
 
@@ -459,17 +523,19 @@ noted_line k l p d h is is_due is_held = released_parts (frame_is_open p) p k.du
 
 -- ---- without a store
 
-module _ {K : Type 0} (keeps : K → List ℕ → Type 0) (contents : K → Option (List ℕ)) (style : AnswerStyle) (first : Interpreter) (start now : K) (script rest : Option (List ℕ)) where
-  pub ends_answered : (F : Type 0) (count : ℕ) → EndsAs {F = F} keeps contents style first start now script rest (Ok count)
-      → Answers style first (contents start) (contents now) script count
+module _ {K : Type 0} (m : Meaning K) (shell : Beginning K) (now : K) (rest : Option (List ℕ)) where
+  -- what went in and out
+  abbrev pub exchanged : Exchange
+  exchanged = record { style = shell.style; first = shell.first; before = m.contents shell.start; after = m.contents now; script = shell.script; rest = rest }
+
+  pub ends_answered : (F : Type 0) (count : ℕ) → EndsAs m {F = F} shell now rest (Ok count) → Answers exchanged count
   ends_answered F count (ls, all, so, counted) = (ls, all, so.0, counted)
 
-  with_fault : (ls : List (List ℕ)) (fault : AppFault) → StopsBy keeps contents style first start now ls fault → StopsWith style first (contents start) (contents now) ls fault
+  with_fault : (ls : List (List ℕ)) (fault : AppFault) → StopsBy m shell now ls fault → StopsWith exchanged ls fault
   with_fault ls NoMemory so = so.0
   with_fault ls ReadFault so = so.0
   with_fault ls WriteFault so = tt
   with_fault ls TooLong so = (so.0.0, so.1)
 
-  pub ends_unanswered : (F : Type 0) (fault : AppFault) → EndsAs {F = F} keeps contents style first start now script rest (Err (Ended fault))
-      → Stops style first (contents start) (contents now) script rest fault
+  pub ends_unanswered : (F : Type 0) (fault : AppFault) → EndsAs m {F = F} shell now rest (Err (Ended fault)) → Stops exchanged fault
   ends_unanswered F fault (ls, last, part, parted, so) = (ls, last, part, parted, with_fault ls fault so)

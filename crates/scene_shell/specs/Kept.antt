@@ -1,8 +1,8 @@
 -- What a shell keeps of the lines that it answers.
-use Rattle.std.specs.Prelude.{Result, Ok, Err, ◌≡◌, ℕ, ◌+◌, ◌-◌, ◌^◌, ◌≤◌, List, [], ◌∷◌, ◌++◌, Option, IfSome, if◌then◌else◌, codes, length, slice_index, ◌==◌}
+use Rattle.std.specs.Prelude.{⊤, Result, Ok, Err, ◌≡◌, ℕ, ◌+◌, ◌-◌, ◌^◌, ◌≤◌, List, [], ◌∷◌, ◌++◌, Option, IfSome, if◌then◌else◌, codes, length, slice_index, ◌==◌}
 use Rattle.std.specs.List.{fold}
 use Rattle.std.specs.Io.{StopsAt}
-use Rattle.std.specs.Io.KnownBytes.{Appends, Keeps}
+use Rattle.std.specs.Io.KnownBytes.{Appends}
 use Rattle.std.specs.Str.Lines.{lines}
 use Rattle.scene_streams.specs.Keep.{Grows}
 use Rattle.scene_interpreter.specs.Interpreter.{Interpreter, interpreter_reply}
@@ -11,6 +11,7 @@ use Rattle.scene_shell.specs.declared.fault.AppFault.{AppFault}
 use Rattle.scene_shell.specs.declared.fault.AppFault.TheVariants.{NoMemory, ReadFault, WriteFault, TooLong}
 use Rattle.scene_shell.specs.declared.kept_fault.KeptFault.{KeptFault}
 use Rattle.scene_shell.specs.declared.kept_fault.KeptFault.TheVariants.{Ended, Keep}
+use Rattle.scene_shell.specs.declared.store_writer.StoreWriter.{StoreWriter}
 use Rattle.scene_shell.specs.Shell.{AnswerStyle, HasSaid, IsSaid, Parts, bad_count}
 
 -- the line break behind a line; where the line ends with a carriage return (13), one more stands before the line feed,
@@ -59,52 +60,83 @@ behind t k = record k { due = t ++ k.due }
 
 -- ---- who keeps lines and writes answers
 
--- the shell that one is at goes on
-abbrev pub Continues : {K : Type 0} → (K → K → Interpreter → AnswerStyle → Type 0) → K → K → Type 0
-Continues begun old new = (start : _) (first : Interpreter) (style : AnswerStyle) → begun old start first style → begun new start first style
+-- What a `KeptWriter` means
+pub record Meaning (K : Type 0) : Type 1 where
+  -- these are the bytes of all lines that it keeps
+  pub keeps : K → List ℕ → Type 0
+  -- what is written, where that is known
+  pub contents : K → Option (List ℕ)
+  -- it is at a shell that began with this writer and this interpreter before its first line, in this style
+  pub begun : K → K → Interpreter → AnswerStyle → Type 0
 
--- When answers may be sent: with what was written since the shell began they are the answers to lines of its
--- interpreter, and what these lines have to keep is kept.
-pub record MaySend {K : Type 0} (keeps : K → List ℕ → Type 0) (contents : K → Option (List ℕ))
-    (begun : K → K → Interpreter → AnswerStyle → Type 0) (now : K) (answers : List ℕ) : Type 0 where
-  pub start : K
-  pub first : Interpreter
-  pub style : AnswerStyle
-  pub is_of : begun now start first style
-  pub front : List (List ℕ)
-  pub said : List ℕ
-  pub written : Appends (contents start) (contents now) said
-  pub are_answers : IsSaid style first front (said ++ answers)
-  pub grown : Grows keeps start now (kept_of first front)
+-- a store that keeps so, beside a stream of which this is known; it has no notes of the shell that it is at
+abbrev pub both_mean : {S W : Type 0} → (S → List ℕ → Type 0) → (W → Option (List ℕ)) → Meaning (StoreWriter S W)
+both_mean keeps contents =
+    record { keeps = λ s. keeps s.store; contents = λ s. contents s.writer; begun = λ _ _ _ _. ⊤ }
+
+module _ {K : Type 0} (m : Meaning K) where
+  -- the shell that one is at goes on
+  abbrev pub Continues : (old new : K) → Type 0
+  Continues old new = (start : K) (first : Interpreter) (style : AnswerStyle) → m.begun old start first style
+      → m.begun new start first style
+
+  -- When answers may be sent: with what was written since the shell began they are the answers to lines of its
+  -- interpreter, and what these lines have to keep is kept.
+  pub record MaySend (now : K) (answers : List ℕ) : Type 0 where
+    pub start : K
+    pub first : Interpreter
+    pub style : AnswerStyle
+    pub is_of : m.begun now start first style
+    pub front : List (List ℕ)
+    pub said : List ℕ
+    pub written : Appends (m.contents start) (m.contents now) said
+    pub are_answers : IsSaid style first front (said ++ answers)
+    pub grown : Grows m.keeps start now (kept_of first front)
 
 -- ---- how a shell ends
 
--- the answers to these lines are written, and what they have to keep is kept
-abbrev pub IsSettled : {K : Type 0} → (K → List ℕ → Type 0) → (K → Option (List ℕ)) → AnswerStyle → Interpreter → (start now : K)
-    → List (List ℕ) → Type 0
-IsSettled keeps contents style first start now ls =
-    HasSaid style first ls (contents start) (contents now) × Grows keeps start now (kept_of first ls)
+-- How a shell begins
+pub record Beginning (K : Type 0) : Type 0 where
+  -- how its answers are written
+  pub style : AnswerStyle
+  -- the interpreter before the first line
+  pub first : Interpreter
+  -- the writer
+  pub start : K
+  -- what the reader is to give, where that is known
+  pub script : Option (List ℕ)
 
--- what is known of the lines before the one that was read when a stream, the memory or the number of lines stopped it
-abbrev pub StopsBy : {K : Type 0} → (K → List ℕ → Type 0) → (K → Option (List ℕ)) → AnswerStyle → Interpreter → (start now : K)
-    → List (List ℕ) → AppFault → Type 0
-StopsBy keeps contents style first start now ls WriteFault = Grows keeps start now (kept_of first ls)
-StopsBy keeps contents style first start now ls NoMemory = IsSettled keeps contents style first start now ls
-StopsBy keeps contents style first start now ls ReadFault = IsSettled keeps contents style first start now ls
-StopsBy keeps contents style first start now ls TooLong =
-    IsSettled keeps contents style first start now ls × (2 ^ 64 ≤ length ls + 2)
+module _ {K : Type 0} (m : Meaning K) where
+  -- the answers to these lines are written
+  abbrev pub HasAnswered : Beginning K → (now : K) → List (List ℕ) → Type 0
+  HasAnswered shell now ls = HasSaid shell.style shell.first ls (m.contents shell.start) (m.contents now)
 
--- How a shell that keeps its lines ends: all lines are answered and kept; or all before the one that was read when a
--- stream or the memory stopped it, which are kept where the writer failed. Where lines weren't kept, first lines are
--- answered.
-abbrev pub EndsAs : {K F : Type 0} → (K → List ℕ → Type 0) → (K → Option (List ℕ)) → AnswerStyle → Interpreter → (start now : K)
-    → (script rest : Option (List ℕ)) → Result ℕ (KeptFault F) → Type 0
-EndsAs keeps contents style first start now script rest (Ok count) =
-    (ls : List (List ℕ)) × IfSome script (λ s. lines s ≡ ls) × IsSettled keeps contents style first start now ls
-    × (count ≡ bad_count first ls)
-EndsAs keeps contents style first start now script rest (Err (Ended fault)) =
-    (ls : List (List ℕ)) × (last : List ℕ) × StopsAt last 10 × Parts script rest ls last
-    × StopsBy keeps contents style first start now ls fault
-EndsAs keeps contents style first start now script rest (Err (Keep fault)) =
-    (ls : List (List ℕ)) × (others : List (List ℕ)) × IfSome script (λ s. lines s ≡ ls ++ others)
-    × HasSaid style first ls (contents start) (contents now)
+  -- what these lines have to keep is kept
+  abbrev pub HasKept : Beginning K → (now : K) → List (List ℕ) → Type 0
+  HasKept shell now ls = Grows m.keeps shell.start now (kept_of shell.first ls)
+
+  -- both
+  abbrev pub IsSettled : Beginning K → (now : K) → List (List ℕ) → Type 0
+  IsSettled shell now ls = HasAnswered shell now ls × HasKept shell now ls
+
+  -- what is known of the lines before the one that was read when a stream, the memory or the number of lines stopped it
+  abbrev pub StopsBy : Beginning K → (now : K) → List (List ℕ) → AppFault → Type 0
+  StopsBy shell now ls WriteFault = HasKept shell now ls
+  StopsBy shell now ls NoMemory = IsSettled shell now ls
+  StopsBy shell now ls ReadFault = IsSettled shell now ls
+  StopsBy shell now ls TooLong = IsSettled shell now ls × (2 ^ 64 ≤ length ls + 2)
+
+  -- How a shell that keeps its lines ends, with this writer and with so much left of its reader: all lines are answered
+  -- and kept; or all before the one that was read when a stream or the memory stopped it, which are kept where the
+  -- writer failed. Where lines weren't kept, first lines are answered.
+  abbrev pub EndsAs : {F : Type 0} → Beginning K → (now : K) → (rest : Option (List ℕ)) → Result ℕ (KeptFault F)
+      → Type 0
+  EndsAs shell now rest (Ok count) =
+      (ls : List (List ℕ)) × IfSome shell.script (λ s. lines s ≡ ls) × IsSettled shell now ls
+      × (count ≡ bad_count shell.first ls)
+  EndsAs shell now rest (Err (Ended fault)) =
+      (ls : List (List ℕ)) × (last : List ℕ) × StopsAt last 10 × Parts shell.script rest ls last
+      × StopsBy shell now ls fault
+  EndsAs shell now rest (Err (Keep fault)) =
+      (ls : List (List ℕ)) × (others : List (List ℕ)) × IfSome shell.script (λ s. lines s ≡ ls ++ others)
+      × HasAnswered shell now ls

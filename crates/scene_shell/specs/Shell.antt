@@ -1,5 +1,5 @@
 -- What a shell says to the lines that it is given.
-use Rattle.std.specs.Prelude.{◌≡◌, ℕ, ◌+◌, ◌^◌, ◌≤◌, List, [], ◌∷◌, ◌++◌, ⊤, Bool, true, false, Option, Some, None, IfSome, is_some, if◌then◌else◌, codes, length}
+use Rattle.std.specs.Prelude.{◌≡◌, ℕ, ◌+◌, ◌^◌, ◌≤◌, List, [], ◌∷◌, ◌++◌, ⊤, Bool, true, false, Option, Some, None, IfSome, Result, Ok, Err, is_some, if◌then◌else◌, codes, length}
 use Rattle.std.specs.Io.{StopsAt}
 use Rattle.std.specs.Io.KnownBytes.{Appends}
 use Rattle.std.specs.Str.Lines.{lines}
@@ -65,19 +65,38 @@ Parts None rest ls last = ⊤
 Parts (Some script) None ls last = ⊥
 Parts (Some script) (Some rest) ls last = lines script ≡ ls ++ lines (last ++ rest)
 
+-- What went in and out of a shell, each text where it is known
+pub record Exchange : Type 0 where
+  -- how its answers are written
+  pub style : AnswerStyle
+  -- the interpreter before the first line
+  pub first : Interpreter
+  -- what was written before it, and what is written after it
+  pub before : Option (List ℕ)
+  pub after : Option (List ℕ)
+  -- what its reader was to give, and what is left of it
+  pub script : Option (List ℕ)
+  pub rest : Option (List ℕ)
+
 -- all lines of a reader are answered, of which so many are bad
-abbrev pub Answers : AnswerStyle → Interpreter → (old new script : Option (List ℕ)) → ℕ → Type 0
-Answers style p old new script count =
-    (ls : List (List ℕ)) × IfSome script (λ s. lines s ≡ ls) × HasSaid style p ls old new × (count ≡ bad_count p ls)
+abbrev pub Answers : Exchange → ℕ → Type 0
+Answers x count =
+    (ls : List (List ℕ)) × IfSome x.script (λ s. lines s ≡ ls) × HasSaid x.style x.first ls x.before x.after
+    × (count ≡ bad_count x.first ls)
 
 -- what is known of the answers to the lines before the one that was read when something stopped a shell
-abbrev pub StopsWith : AnswerStyle → Interpreter → (old new : Option (List ℕ)) → List (List ℕ) → AppFault → Type 0
-StopsWith style p old new ls WriteFault = ⊤
-StopsWith style p old new ls NoMemory = HasSaid style p ls old new
-StopsWith style p old new ls ReadFault = HasSaid style p ls old new
-StopsWith style p old new ls TooLong = HasSaid style p ls old new × (2 ^ 64 ≤ length ls + 2)
+abbrev pub StopsWith : Exchange → List (List ℕ) → AppFault → Type 0
+StopsWith x ls WriteFault = ⊤
+StopsWith x ls NoMemory = HasSaid x.style x.first ls x.before x.after
+StopsWith x ls ReadFault = HasSaid x.style x.first ls x.before x.after
+StopsWith x ls TooLong = HasSaid x.style x.first ls x.before x.after × (2 ^ 64 ≤ length ls + 2)
 
 -- all lines are answered before the one that was read, or a part of it, when something stopped a shell
-abbrev pub Stops : AnswerStyle → Interpreter → (old new script rest : Option (List ℕ)) → AppFault → Type 0
-Stops style p old new script rest fault =
-    (ls : List (List ℕ)) × (last : List ℕ) × StopsAt last 10 × Parts script rest ls last × StopsWith style p old new ls fault
+abbrev pub Stops : Exchange → AppFault → Type 0
+Stops x fault =
+    (ls : List (List ℕ)) × (last : List ℕ) × StopsAt last 10 × Parts x.script x.rest ls last × StopsWith x ls fault
+
+-- how a shell ends: all lines are answered, or something stopped it
+abbrev pub AnswersOrStops : Exchange → Result ℕ AppFault → Type 0
+AnswersOrStops x (Ok count) = Answers x count
+AnswersOrStops x (Err fault) = Stops x fault

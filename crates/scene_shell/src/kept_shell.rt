@@ -31,10 +31,13 @@ fn play_lines<P: Performer, R: Read, E: Write, K: KeptWriter>(
     requires due { waiting.old.due.items ≡ [] }
     requires held { waiting.old.held.items ≡ [] }
     requires answers { waiting.old.answers.items ≡ [] }
-    requires begun { K.begun keeper.old keeper.old (interpreter_of interpreter.old) style }
-    ensures { LeadsTo K.keeps K.contents K.begun style (interpreter_of interpreter.old) keeper.old keeper.new
-        (reader_remaining R.remaining reader.old) (reader_remaining R.remaining reader.new)
-        waiting.new.due.items waiting.new.answers.items result }
+    requires begun { K.meaning.begun keeper.old keeper.old (interpreter_of interpreter.old) style }
+    ensures { LeadsTo K.meaning (record {
+      style = style;
+      first = interpreter_of interpreter.old;
+      start = keeper.old;
+      script = reader_remaining R.remaining reader.old;
+    }) keeper.new (reader_remaining R.remaining reader.new) waiting.new result }
 {
     let mut line = Vec::new(alloc);
     let mut bad_lines = 0u64;
@@ -69,9 +72,13 @@ fn play_settled<P: Performer, R: Read, E: Write, K: KeptWriter>(
     reader: &mut BufReader<R>,
     errors: &mut E,
 ) -> Result<u64, KeptFault<K::Fault>>
-    requires { K.begun keeper.old keeper.old (interpreter_of interpreter.old) style }
-    ensures { EndsAs K.keeps K.contents style (interpreter_of interpreter.old) keeper.old keeper.new
-        (reader_remaining R.remaining reader.old) (reader_remaining R.remaining reader.new) result }
+    requires { K.meaning.begun keeper.old keeper.old (interpreter_of interpreter.old) style }
+    ensures { EndsAs K.meaning (record {
+      style = style;
+      first = interpreter_of interpreter.old;
+      start = keeper.old;
+      script = reader_remaining R.remaining reader.old;
+    }) keeper.new (reader_remaining R.remaining reader.new) result }
 {
     let mut waiting = Waiting::new(alloc);
     let played = play_lines(
@@ -111,8 +118,12 @@ pub fn run_kept_shell<P: Performer, R: Read, E: Write, K: KeptWriter>(
     reader: &mut BufReader<R>,
     errors: &mut E,
 ) -> Result<u64, KeptFault<K::Fault>>
-    ensures { EndsAs K.keeps K.contents style (interpreter_of interpreter.old) keeper.old keeper.new
-        (reader_remaining R.remaining reader.old) (reader_remaining R.remaining reader.new) result }
+    ensures { EndsAs K.meaning (record {
+      style = style;
+      first = interpreter_of interpreter.old;
+      start = keeper.old;
+      script = reader_remaining R.remaining reader.old;
+    }) keeper.new (reader_remaining R.remaining reader.new) result }
 {
     keeper.begin(interpreter, style);
     play_settled(performer, alloc, interpreter, style, keeper, reader, errors)

@@ -1,8 +1,7 @@
 //! The shell without a store.
-ghost use Rattle.std.specs.Prelude.{IfErr, IfOk};
 ghost use Rattle.std.specs.Io.Buffered.{reader_remaining};
 ghost use Rattle.scene_interpreter.specs.Interpreter.{lone_interpreter, interpreter_of};
-ghost use Rattle.scene_shell.specs.Shell.{Answers, Stops};
+ghost use Rattle.scene_shell.specs.Shell.{AnswersOrStops};
 
 use crate::fault::AppFault;
 use crate::kept_fault::KeptFault;
@@ -34,11 +33,14 @@ fn run_unkept<P: Performer, R: Read, W: Write + Drop, E: Write>(
     writer: &mut Unkept<W>,
     errors: &mut E,
 ) -> Result<u64, AppFault>
-    ensures answers { IfOk result (Answers style (interpreter_of interpreter.old) (W.contents writer.old.writer)
-        (W.contents writer.new.writer) (reader_remaining R.remaining reader.old)) }
-    ensures stops { IfErr result (Stops style (interpreter_of interpreter.old) (W.contents writer.old.writer)
-        (W.contents writer.new.writer) (reader_remaining R.remaining reader.old)
-        (reader_remaining R.remaining reader.new)) }
+    ensures { AnswersOrStops (record {
+      style = style;
+      first = interpreter_of interpreter.old;
+      before = W.contents writer.old.writer;
+      after = W.contents writer.new.writer;
+      script = reader_remaining R.remaining reader.old;
+      rest = reader_remaining R.remaining reader.new;
+    }) result }
 {
     match run_kept_shell(performer, alloc, interpreter, style, writer, reader, errors) {
         Ok(bad_lines) => Ok(bad_lines),
@@ -63,11 +65,14 @@ pub fn run_shell<P: Performer, R: Read, W: Write + Drop, E: Write>(
     writer: W,
     errors: &mut E,
 ) -> (Result<u64, AppFault>, W)
-    ensures answers { IfOk result.0 (Answers settings.style (lone_interpreter settings.interpreter.depth settings.interpreter.calls)
-        (W.contents writer) (W.contents result.1) (reader_remaining R.remaining reader.old)) }
-    ensures stops { IfErr result.0 (Stops settings.style (lone_interpreter settings.interpreter.depth settings.interpreter.calls)
-        (W.contents writer) (W.contents result.1) (reader_remaining R.remaining reader.old)
-        (reader_remaining R.remaining reader.new)) }
+    ensures { AnswersOrStops (record {
+      style = settings.style;
+      first = lone_interpreter settings.interpreter.depth settings.interpreter.calls;
+      before = W.contents writer;
+      after = W.contents result.1;
+      script = reader_remaining R.remaining reader.old;
+      rest = reader_remaining R.remaining reader.new;
+    }) result.0 }
 {
     let ShellSettings {
         interpreter: settings,

@@ -19,14 +19,9 @@ pub struct StoreWriter<K, W> {
 impl<K: Keep + Drop, W: Write + Drop> KeptWriter for StoreWriter<K, W> {
     type Fault = K::Fault;
 
-    ghost use Rattle.std.specs.Prelude.{⊤};
+    ghost use Rattle.scene_shell.specs.Kept.{both_mean};
 
-    ghost keeps = { λ s. K.keeps s.store };
-
-    ghost contents = { λ s. W.contents s.writer };
-
-    // It has no notes of the shell that it is at.
-    ghost begun = { λ _ _ _ _. ⊤ };
+    ghost meaning = { both_mean K.keeps W.contents };
 
     fn begin(&mut self, _interpreter: &Interpreter, _style: AnswerStyle) {}
 

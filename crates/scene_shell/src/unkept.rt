@@ -19,11 +19,7 @@ impl<W: Write + Drop> KeptWriter for Unkept<W> {
 
     ghost use Rattle.std.specs.Prelude.{⊤};
 
-    ghost keeps = { λ _ _. ⊤ };
-
-    ghost contents = { λ s. W.contents s.writer };
-
-    ghost begun = { λ _ _ _ _. ⊤ };
+    ghost meaning = { record { keeps = λ _ _. ⊤; contents = λ s. W.contents s.writer; begun = λ _ _ _ _. ⊤ } };
 
     fn begin(&mut self, _interpreter: &Interpreter, _style: AnswerStyle) {}
 

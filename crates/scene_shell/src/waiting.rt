@@ -1,12 +1,12 @@
 //! Lines that were played, whose answers wait until they are kept.
-ghost use Rattle.std.specs.Prelude.{ℕ, List, Option, ◌≡◌, ◌++◌, ◌<◌, ◌≤◌, [], IfErr, IfOk, OnErr, OnOk, if◌then◌else◌, length, string_bytes};
+ghost use Rattle.std.specs.Prelude.{◌≡◌, ◌++◌, ◌<◌, ◌≤◌, [], IfErr, IfOk, OnErr, OnOk, if◌then◌else◌, length, string_bytes};
 ghost use Rattle.std.specs.Io.KnownBytes.{Appends, Keeps};
 ghost use Rattle.scene_shell.specs.declared.fault.AppFault.TheVariants.{NoMemory, WriteFault};
-ghost use Rattle.scene_interpreter.specs.Interpreter.{Interpreter as State, interpreter_of, interpreter_reply};
+ghost use Rattle.scene_interpreter.specs.Interpreter.{interpreter_of, interpreter_reply};
 ghost use Rattle.scene_streams.specs.Keep.{Grows, StaysKept};
-ghost use Rattle.scene_shell.specs.Kept.{Continues, MaySend, ended, kept_line};
-ghost use Rattle.scene_shell.specs.Waits.{FailsToSettle, HasCome, IsBad, IsPlayed, MaySettle, keeping_of, waiting_of};
-ghost use Rattle.scene_shell.specs.Shell.{AddsAnswer, AnswerStyle as Style, IsAnswer, IsSent};
+ghost use Rattle.scene_shell.specs.Kept.{Beginning, Continues, MaySend, ended, kept_line};
+ghost use Rattle.scene_shell.specs.Waits.{FailsToSettle, HasCome, IsBad, IsPlayed, MaySettle, Standing, keeping_of, pending_of, stands_with};
+ghost use Rattle.scene_shell.specs.Shell.{AddsAnswer, IsAnswer, IsSent};
 
 use crate::fault::AppFault;
 use crate::keep::KeptWriter;
@@ -177,8 +177,8 @@ impl Waiting {
         errors: &mut E,
     ) -> Result<u64, AppFault>
         requires { 0 < length line.now }
-        ensures played { OnOk result (IsPlayed style line.now (keeping_of interpreter.old self.old)
-            (keeping_of interpreter.new self.new) self.old.answers.items self.new.answers.items) }
+        ensures played { OnOk result (IsPlayed style line.now (pending_of (interpreter_of interpreter.old) self.old)
+            (pending_of (interpreter_of interpreter.new) self.new)) }
         ensures bad { IfOk result (λ bad. IsBad line.now (interpreter_of interpreter.old) bad) }
         ensures one { IfOk result (λ bad. bad ≤ 1) }
         ensures fault { IfErr result (λ f. f ≡ NoMemory) }
@@ -202,9 +202,9 @@ impl Waiting {
     /// Keeps the lines that are due.
     #[tactic(auto, using(crate::proofs::KeptLaws::grows_none))]
     fn keep_due<K: KeptWriter>(&mut self, keeper: &mut K) -> Result<(), K::Fault>
-        ensures kept { OnOk result (Grows K.keeps keeper.old keeper.new self.old.due.items) }
-        ensures unsaid { Keeps (K.contents keeper.old) (K.contents keeper.new) }
-        ensures begun { Continues K.begun keeper.old keeper.new }
+        ensures kept { OnOk result (Grows K.meaning.keeps keeper.old keeper.new self.old.due.items) }
+        ensures unsaid { Keeps (K.meaning.contents keeper.old) (K.meaning.contents keeper.new) }
+        ensures begun { Continues K.meaning keeper.old keeper.new }
         ensures due { OnOk result (self.new.due.items ≡ []) }
         ensures held { self.new.held ≡ self.old.held }
         ensures answers { self.new.answers ≡ self.old.answers }
@@ -223,13 +223,13 @@ impl Waiting {
 
     /// Sends the answers.
     fn send_answers<K: KeptWriter>(&mut self, keeper: &mut K) -> Result<(), AppFault>
-        requires { MaySend K.keeps K.contents K.begun keeper.old self.old.answers.items }
-        ensures sent { OnOk result (Appends (K.contents keeper.old) (K.contents keeper.new)
+        requires { MaySend K.meaning keeper.old self.old.answers.items }
+        ensures sent { OnOk result (Appends (K.meaning.contents keeper.old) (K.meaning.contents keeper.new)
             self.old.answers.items) }
         ensures answers { OnOk result (self.new.answers.items ≡ []) }
         ensures fault { IfErr result (λ f. f ≡ WriteFault) }
-        ensures kept { StaysKept K.keeps keeper.old keeper.new }
-        ensures begun { Continues K.begun keeper.old keeper.new }
+        ensures kept { StaysKept K.meaning.keeps keeper.old keeper.new }
+        ensures begun { Continues K.meaning keeper.old keeper.new }
         ensures due { self.new.due ≡ self.old.due }
         ensures held { self.new.held ≡ self.old.held }
     {
@@ -247,15 +247,15 @@ impl Waiting {
         &mut self,
         keeper: &mut K,
     ) -> Result<(), KeptFault<K::Fault>>
-        requires { MaySettle K.keeps K.contents K.begun keeper.old self.old.due.items self.old.answers.items }
-        ensures kept { OnOk result (Grows K.keeps keeper.old keeper.new self.old.due.items) }
-        ensures sent { OnOk result (Appends (K.contents keeper.old) (K.contents keeper.new)
+        requires { MaySettle K.meaning keeper.old self.old.due.items self.old.answers.items }
+        ensures kept { OnOk result (Grows K.meaning.keeps keeper.old keeper.new self.old.due.items) }
+        ensures sent { OnOk result (Appends (K.meaning.contents keeper.old) (K.meaning.contents keeper.new)
             self.old.answers.items) }
-        ensures begun { OnOk result (Continues K.begun keeper.old keeper.new) }
+        ensures begun { OnOk result (Continues K.meaning keeper.old keeper.new) }
         ensures due { OnOk result (self.new.due.items ≡ []) }
         ensures held { OnOk result (self.new.held ≡ self.old.held) }
         ensures answers { OnOk result (self.new.answers.items ≡ []) }
-        ensures fails { IfErr result (FailsToSettle K.keeps K.contents keeper.old keeper.new self.old.due.items) }
+        ensures fails { IfErr result (FailsToSettle K.meaning keeper.old keeper.new self.old.due.items) }
     {
         match self.keep_due(keeper) {
             Ok(()) => {}
@@ -274,14 +274,11 @@ impl Waiting {
         is_due: bool,
         keeper: &mut K,
     ) -> Result<(), KeptFault<K::Fault>>
-        requires { MaySettle K.keeps K.contents K.begun keeper.old self.old.due.items self.old.answers.items }
-        ensures come { OnOk result ((style : Style) (first : State) (start : K) (script rest : Option (List ℕ))
-            (last : List ℕ) (interpreter : State) (count number : ℕ)
-            → HasCome K.keeps K.contents K.begun style first start keeper.old script rest last
-            (waiting_of interpreter self.old) self.old.answers.items count number
-            → HasCome K.keeps K.contents K.begun style first start keeper.new script rest last
-            (waiting_of interpreter self.new) self.new.answers.items count number) }
-        ensures fails { IfErr result (FailsToSettle K.keeps K.contents keeper.old keeper.new self.old.due.items) }
+        requires { MaySettle K.meaning keeper.old self.old.due.items self.old.answers.items }
+        ensures come { OnOk result ((shell : Beginning K) (here : Standing K)
+            → HasCome K.meaning shell (stands_with here keeper.old self.old)
+            → HasCome K.meaning shell (stands_with here keeper.new self.new)) }
+        ensures fails { IfErr result (FailsToSettle K.meaning keeper.old keeper.new self.old.due.items) }
     {
         if is_due { self.settle(keeper) } else { Ok(()) }
     }
