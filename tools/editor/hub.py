@@ -6,13 +6,15 @@ from collections import deque
 
 from calls import Call
 from events import Events, event_bytes
+from files import Files
 from model import Model
+from own_links import with_own_links
 from played_scene import Trouble
 from sessions import Sessions
 from setup_end import place_of_end
 from shell import Gone, Shell
 from stored import log_of, store_fault
-from texts import json_text
+from texts import compact, json_text
 
 MOST_BEGUN, SECONDS_BEGUN = 2, 10
 SECONDS_TO_CLOSE = 5
@@ -46,6 +48,7 @@ class Hub:
         self.events, self.sessions = Events(), Sessions()
         self.begun = deque(maxlen=MOST_BEGUN)
         self.model, self.shell, self.is_here = None, None, False
+        self.files = Files(self)
         with self.lock:
             self.begin()
         self.keeper = threading.Thread(target=self.keep, daemon=True)
@@ -71,6 +74,33 @@ class Hub:
                 raise
             raise store_fault(self.store, b"".join(shell.told)) from None
         self.model, self.shell, self.is_here = model, shell, True
+
+    def let_go(self):
+        """Ends the shell as one that isn't begun again."""
+        shell, self.shell, self.is_here = self.shell, None, False
+        if shell is not None:
+            shell.close()
+
+    def go_to(self, store, words):
+        """Goes to another store, or to the same again; where that can't be used, it stays at the one before."""
+        before = self.store
+        self.let_go()
+        self.store = store
+        try:
+            self.begin()
+        except Trouble:
+            self.go_back_to(before)
+            raise
+        self.tell_whole(words)
+
+    def go_back_to(self, store):
+        self.store = store
+        try:
+            self.begin()
+        except Trouble as trouble:
+            self.is_gone(f"{trouble}; it isn't begun again".replace("\n", ": "))
+        else:
+            self.tell_whole("the store is as it was")
 
     def shell_ended(self, shell):
         """The shell has ended by itself: another one is begun, twice at most within some seconds."""
@@ -127,6 +157,7 @@ class Hub:
             "phases": model.phases,
             "sessions": self.sessions.numbers(),
             "shell": "here" if self.is_here else "gone",
+            "store": self.store.name,
         })  # fmt: skip
 
     def whole_event(self):
@@ -185,12 +216,18 @@ class Hub:
 
     # Calls
 
-    def call(self, session, lines):
-        """Plays a session's lines as one, and answers them."""
+    def call(self, session, lines, words=None, seen=()):
+        """Plays a session's lines as one, and answers them. `words` are those of the frame that they make; nothing is
+        done where a cell of `seen` has changed since it was."""
         with self.lock:
             self.seat(session)
             if not self.is_here:
                 return json_text({"gone": True})
+            stale = self.model.is_stale(seen)
+            if stale:
+                return json_text({"stale": stale})
+            lines = with_own_links(self.model, lines)
+            self.model.call_words = words
             turn = f"as {session}" if session != self.model.turn else None
             try:
                 call = Call(lines, turn, self.place_of_end if self.model.in_setup else None)
@@ -203,6 +240,25 @@ class Hub:
                 shell.close()
                 return json_text({"gone": True})
             return json_text({"answers": call.answers})
+
+    def frames(self, after, first, count):
+        """Frames as `Timeline.frames_from` has them, for a tab that has seen all events up to one."""
+        with self.lock:
+            if after != self.events.last or self.model.world is None:
+                return json_text({"again": True})
+            begin, frames = self.model.world.frames_from(first, count)
+            return json_text({"first": begin, "frames": frames})
+
+    def scene_text(self, line):
+        """The scene text that a line prints, or None where there is none."""
+        with self.lock:
+            if not self.is_here or self.model.in_setup:
+                return None
+            try:
+                answer = self.shell.ask([line])[0]
+            except Gone:
+                return None
+            return compact(answer["text"]) if answer["answer"] == "scene" else None
 
     def place_of_end(self, lines):
         return place_of_end(self.program, self.model.kinds, lines)

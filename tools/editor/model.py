@@ -22,6 +22,7 @@ class Model(Log):
         super().__init__()
         self.world, self.events, self.news, self.difference = None, [], None, None
         self.unmarked, self.marked_tick, self.touched = [], 0, {}
+        self.call_words = None
 
     def load(self, scene):
         """Takes the world of a scene text, with the frames' words as far as they are known."""
@@ -51,7 +52,8 @@ class Model(Log):
             self.tell(sort="phases", session=self.turn, phases=self.phases)
 
     def on_frame(self, queues, entities):
-        frame = Frame(self.turn, words_of_frame(self.shapes, queues, entities))
+        words = [self.call_words] if self.call_words else words_of_frame(self.shapes, queues, entities)
+        frame = Frame(self.turn, words)
         self.made(frame, entities, lambda: [apply_queue(self.world, queue) for queue in queues])
 
     def on_advance(self, entities):
@@ -159,6 +161,14 @@ class Model(Log):
         if self.world is not None:
             entity = line.split()[1]
             self.hold([answer.get("cells")], [self.world.cells.get(entity)], f"the row of {entity}")
+
+    def is_stale(self, seen):
+        """The first of cells, each an entity, a kind and the tick of its change, that has changed since; or None."""
+        for entity, kind, tick in seen if self.world is not None else ():
+            cell = self.world.cells.get(entity, {}).get(kind)
+            if cell is not None and str(cell[2]) != str(tick):
+                return entity, kind
+        return None
 
     def take_events(self):
         events, self.events = self.events, []

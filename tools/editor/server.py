@@ -10,13 +10,15 @@ from urllib.parse import parse_qs
 
 from sessions import TABS
 from strangers import MOST_STRANGERS, Strangers
+from texts import json_text
 
 HERE = Path(__file__).resolve().parent
+EXAMPLES = HERE.parent.parent / "examples" / "levels"
 SHARED = HERE.parent / "picture"
 NOT_SHARED = ("page.js", "drive.js")
 TYPES = {
     ".html": "text/html; charset=utf-8", ".css": "text/css; charset=utf-8", ".js": "text/javascript; charset=utf-8",
-    ".svg": "image/svg+xml", ".png": "image/png",
+    ".svg": "image/svg+xml", ".png": "image/png", ".scene": "text/plain; charset=utf-8",
 }  # fmt: skip
 ALLOWED = "default-src 'none'; script-src 'self'; style-src 'self'; connect-src 'self'; img-src 'self' data:; "
 ALLOWED += "base-uri 'none'; form-action 'none'; frame-ancestors 'none'"
@@ -26,6 +28,8 @@ HEADERS = {
 }  # fmt: skip
 MOST_BODY = 16 * 2**20
 MOST_TAB = 64
+MOST_WORDS, MOST_FRAMES = 200, 1000
+EXPORTS = ("dump", "dumpall")
 MOST_DIGITS = 15
 SECONDS_IDLE = 60
 SECONDS_ALIVE = 10
@@ -42,7 +46,8 @@ class Refusal(Exception):
 def page_files():
     """The files of the page by their names; no other is ever read."""
     shared = [path for path in SHARED.glob("*.js") if path.name not in NOT_SHARED]
-    files = {path.name: path for path in (*shared, *(HERE / "page").glob("*")) if path.suffix in TYPES}
+    own = [*(HERE / "page").glob("*"), *EXAMPLES.glob("*.scene")]
+    files = {path.name: path for path in (*shared, *own) if path.suffix in TYPES}
     return {**files, "": files.get("index.html", HERE / "page" / "index.html")}
 
 
@@ -137,10 +142,11 @@ class Handler(BaseHTTPRequestHandler):
 
     # What is answered
 
-    def answer(self, status, text, sort="text/plain; charset=utf-8", close=False):
+    def answer(self, status, text, sort="text/plain; charset=utf-8", close=False, more=None):
         content = text if isinstance(text, bytes) else text.encode()
         self.send_response(status)
-        for header, value in (*HEADERS.items(), ("Content-Type", sort), ("Content-Length", str(len(content)))):
+        said = {**HEADERS, "Content-Type": sort, "Content-Length": str(len(content)), **(more or {})}
+        for header, value in said.items():
             self.send_header(header, value)
         if close:
             self.send_header("Connection", "close")
@@ -154,6 +160,9 @@ class Handler(BaseHTTPRequestHandler):
         if name == "events":
             self.send_events(parse_qs(query))
             return
+        if name == "export":
+            self.send_export(parse_qs(query).get("what", [""])[0])
+            return
         path = self.server.files.get(name)
         if path is None or not path.is_file():
             raise Refusal(404, "there is nothing of this name")
@@ -161,7 +170,9 @@ class Handler(BaseHTTPRequestHandler):
 
     def post(self, name):
         hub = self.server.hub
-        calls = {"join": self.join, "call": self.call, "leave": self.leave}
+        calls = {
+            "join": self.join, "call": self.call, "leave": self.leave, "frames": self.frames, "file": self.file,
+        }  # fmt: skip
         if name not in calls:
             raise Refusal(404, "there is nothing of this name")
         self.answer(200, calls[name](hub, self.body()), "application/json")
@@ -194,7 +205,40 @@ class Handler(BaseHTTPRequestHandler):
         lines = body.get("lines")
         if not isinstance(lines, list) or not all(isinstance(line, str) for line in lines):
             raise Refusal(400, "lines has to be a list of texts")
-        return hub.call(session_of(body.get("session")), lines)
+        words, seen = body.get("words"), body.get("seen") or ()
+        if words is not None and not (isinstance(words, str) and 0 < len(words) and "\n" not in words):
+            raise Refusal(400, "words has to be a text of one line")
+        if not (isinstance(seen, (list, tuple)) and all(isinstance(each, list) and len(each) == 3 for each in seen)):
+            raise Refusal(400, "seen has to be a list of an entity, a kind and a tick each")
+        if not all(isinstance(part, str) for entity, kind, _ in seen for part in (entity, kind)):
+            raise Refusal(400, "seen has to be a list of an entity, a kind and a tick each")
+        return hub.call(session_of(body.get("session")), lines, words and words[:MOST_WORDS], seen)
+
+    @staticmethod
+    def frames(hub, body):
+        numbers = [body.get(name) for name in ("after", "first", "count")]
+        if not all(isinstance(number, int) and not isinstance(number, bool) for number in numbers):
+            raise Refusal(400, "after, first and count have to be numbers")
+        after, first, count = numbers
+        return hub.frames(after, first, max(0, min(count, MOST_FRAMES)))
+
+    @staticmethod
+    def file(hub, body):
+        what, name = body.get("what"), body.get("name")
+        if not isinstance(what, str) or not isinstance(name, str):
+            raise Refusal(400, "what and name have to be texts")
+        return json_text(hub.files.do(what, name))
+
+    def send_export(self, what):
+        """A scene text as a file to keep."""
+        if what not in EXPORTS:
+            raise Refusal(400, "what has to be dump or dumpall")
+        text = self.server.hub.scene_text(what)
+        if text is None:
+            raise Refusal(409, "the scene has no text now")
+        name = f"{self.server.hub.store.stem}.{'world' if what == 'dump' else 'scene'}.json"
+        kept = "".join(letter if letter.isascii() and letter.isalnum() or letter in "._-" else "_" for letter in name)
+        self.answer(200, text, "application/json", more={"Content-Disposition": f'attachment; filename="{kept}"'})
 
     @staticmethod
     def leave(hub, body):

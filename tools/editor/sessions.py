@@ -5,6 +5,8 @@ import time
 TABS = range(1, 8)
 SECONDS_WITHOUT_STREAM = 5
 SECONDS_TO_LOAD = 30
+# Where all are taken, a tab that hasn't listened for so long gives way to a new one: its page was loaded anew.
+SECONDS_TO_LISTEN = 8
 
 
 class Seat:
@@ -14,6 +16,7 @@ class Seat:
     def __init__(self, number, tab):
         self.number, self.tab = number, tab
         self.streams, self.free_at = 0, time.monotonic() + SECONDS_TO_LOAD
+        self.taken_at = time.monotonic()
 
     def opened(self):
         self.streams += 1
@@ -21,6 +24,9 @@ class Seat:
     def closed(self):
         self.streams -= 1
         self.free_at = time.monotonic() + SECONDS_WITHOUT_STREAM
+
+    def gives_way(self):
+        return self.streams == 0 and time.monotonic() > self.taken_at + SECONDS_TO_LISTEN
 
     def is_left(self):
         return self.streams == 0 and time.monotonic() > self.free_at
@@ -43,6 +49,8 @@ class Sessions:
         free = [number for number in TABS if number not in self.seats and number not in self.gone]
         if session is None:
             session = wanted if wanted in free else next(iter([*free, *self.gone]), None)
+        if session is None:
+            session = next((number for number, seat in self.seats.items() if seat.gives_way()), None)
         return None if session is None else self.take(session, tab)
 
     def session_of(self, tab):

@@ -90,6 +90,15 @@ class Timeline(Recorder):
         """The frames of the past and of the future, the nearest last, also of those that aren't held."""
         return [*self.older, *(each.frame for each in self.past)], [*self.later, *(each.frame for each in self.future)]
 
+    def frames_from(self, first, count):
+        """So many frames from one on, of those of the past and then of the future: 0 is the newest of the past. Gives
+        which is the first of those that there are, too."""
+        past, future = self.all_frames()
+        frames = [*past, *reversed(future)]
+        begin = max(0, len(past) - 1 + first)
+        found = frames[begin : max(0, len(past) - 1 + first + count)]
+        return begin - len(past) + 1, [{"session": frame.session, "words": frame.words} for frame in found]
+
     def frames(self):
         """The frames that are held, of the past, oldest first, and then of the future, next one first."""
         near = [each.frame for each in (*self.past, *reversed(self.future))]

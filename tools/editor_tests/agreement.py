@@ -1,5 +1,9 @@
 """Holds what the page shows to what the store has, worked out from `dumpall` apart from the page's scripts."""
 import json
+import time
+
+from person import EXPORTED
+from remote import SECONDS
 
 
 def value_text(shape, value):
@@ -20,9 +24,15 @@ def rows_of(scene):
             yield row["entity"], [(name, shape, cell[0]) for (name, shape), cell in zip(kinds, row["cells"])]
 
 
+def called(cells):
+    """The name of a row as a line of the forest has it: that of its kind Name, or else its cells."""
+    name = next((value for name, _, value in cells if name == "Name"), "")
+    return name or " ".join(cell_text(*cell) for cell in cells) or "without components"
+
+
 def forest_of(scene):
-    """The entities in the order of the forest, each with its level and its cells as a line has them."""
-    texts = {entity: " ".join(cell_text(*cell) for cell in cells) for entity, cells in rows_of(scene)}
+    """The entities in the order of the forest, each with its level and its name."""
+    texts = {entity: called(cells) for entity, cells in rows_of(scene)}
     children = {each["parent"]: each["list"] for each in scene["children"]}
     below = {child for each in children.values() for child in each}
     left = [(root, 0) for root in sorted(set(texts) - below, key=lambda entity: int(entity.split("v")[0]))][::-1]
@@ -49,7 +59,25 @@ def assert_same(shown, wanted, what):
 
 
 def shown(person):
-    """All that a page shows of the scene, from the first line of each list to the last."""
+    """All that a page shows of the scene, once it has heard of all that the server has, or what it shows instead."""
+    scene = json.loads(person.evaluate(EXPORTED % "dumpall"))
+    end = time.monotonic() + SECONDS
+    while True:
+        seen = read(person)
+        if agrees(seen, scene) or time.monotonic() > end:
+            return seen
+
+
+def agrees(seen, scene):
+    try:
+        hold(seen, scene)
+    except AssertionError:
+        return False
+    return True
+
+
+def read(person):
+    """What a page shows now, from the first line of each list to the last."""
     return {
         "forest": person.forest(),
         "tables": [[entity, cells] for entity, cells in person.table_lines() if entity is not None],

@@ -2,10 +2,9 @@
 import os
 import signal
 import subprocess
-import time
 
 from asking import Asker
-from editor_process import SECONDS, EditorProcess, edit, program_of, saved, try_each, wait_until
+from editor_process import SECONDS, EditorProcess, edit, has_ended, program_of, saved, try_each, wait_until
 
 # Lines of a tab of which one ends the setup, and their answers.
 FIRST_CHANGES = (
@@ -140,7 +139,7 @@ def try_ends(program, room):
             status = editor.process.wait(SECONDS)
             assert status == (-number if number == signal.SIGKILL else 0), (number, status, editor.errors())
             stream.close()
-            assert has_ended(shell), f"the shell lives on behind signal {number}"
+            wait_until(lambda: has_ended(shell), f"the shell has ended behind signal {number}")
             # That it was killed is no fault here.
             editor.process.returncode = 0
     assert saved(program, room / "ends.db")["tick"] == 3
@@ -157,18 +156,8 @@ def try_hangs(program, room):
         asker.connection.request("POST", f"{asker.path}call", '{"session":1,"lines":["spawn"]}')
         editor.process.send_signal(signal.SIGTERM)
         assert editor.process.wait(SECONDS) == 0, editor.errors()
-        assert has_ended(shell), "the shell hangs on"
+        wait_until(lambda: has_ended(shell), "the shell that hung has ended")
         stream.close()
-
-
-def has_ended(process):
-    for _ in range(100):
-        try:
-            os.kill(process, 0)
-        except ProcessLookupError:
-            return True
-        time.sleep(0.1)
-    return False
 
 
 def try_beginnings(program, room):

@@ -47,8 +47,9 @@ class EditorProcess:
         self.told.close()
 
     def errors(self):
-        self.told.seek(0)
-        return self.told.read().decode(errors="replace")
+        """What it told on standard error; by a seek it would write elsewhere, since both have one place in the file."""
+        told = self.told.fileno()
+        return os.pread(told, os.fstat(told).st_size, 0).decode(errors="replace")
 
     def shells(self):
         """The processes of the shell that the server has begun."""
@@ -93,6 +94,15 @@ def wait_until(asked, what, seconds=SECONDS):
     while not asked():
         assert time.monotonic() < end, f"not in {seconds} s: {what}"
         time.sleep(0.01)
+
+
+def has_ended(process):
+    """Whether a process is no more. One that nobody has taken notice of stays, as a zombie: where the first process of
+    a container does nothing, each whose parent has ended."""
+    try:
+        return Path(f"/proc/{process}/stat").read_text().rpartition(")")[2].split()[0] in "ZX"
+    except (FileNotFoundError, ProcessLookupError):
+        return True
 
 
 def saved(program, store, line="dumpall"):

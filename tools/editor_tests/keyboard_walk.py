@@ -6,10 +6,11 @@ from editor_process import LEVELS, EditorProcess, saved
 from person import Person
 from village_walk import CAT, GERRIC, INN, NESS, SMITHY, TAPROOM, TOM, children_of
 
-LEFTS = """["forest", "tables", "detail", "strip", "line"].map((id) =>
-  Math.round(document.getElementById(id).getBoundingClientRect().left))"""
+SHOWN = """[...document.querySelectorAll(".pane")].filter((pane) => pane.getClientRects().length > 0)
+  .map((pane) => pane.id.replace("pane-", ""))"""
+PANES = ("forest", "picture", "tables", "entity", "resources", "systems", "frames", "changes", "lines")
 BACKGROUND = "getComputedStyle(document.body).backgroundColor"
-ACTIVE = "document.querySelector('#%s .line.active b')?.textContent"
+ACTIVE = "document.querySelector('#%s .line.active')?.dataset.entity"
 
 
 def go_to(person, name, entity):
@@ -28,7 +29,9 @@ def try_moves(person):
     person.key("/")
     assert person.evaluate("document.activeElement.id") == "search"
     person.write("farm_none")
+    person.wait("document.getElementById('found').textContent.includes(' of ')", "it is searched for")
     person.key("Escape")
+    person.wait("!document.getElementById('found').textContent.includes(' of ')", "Escape empties the search")
     go_to(person, "forest", TOM)
     person.key(" ")
     person.key("ArrowDown")
@@ -82,7 +85,7 @@ def try_rest(person):
     person.tab_to("spawn-cells")
     person.write("Name=Pilgrim")
     person.key("Enter")
-    person.wait_for(lambda: 'Name="Pilgrim"' in [line[2] for line in person.forest()], "a pilgrim has come")
+    person.wait_for(lambda: "Pilgrim" in [line[2] for line in person.forest()], "a pilgrim has come")
     person.tab_to("line")
     person.write("put weather Text=fog")
     person.key("Enter")
@@ -101,19 +104,21 @@ def try_rest(person):
 
 
 def try_small_and_dark(person):
-    """At 200% zoom all is in one column, which the window's width holds; each scheme has its colors."""
+    """At 200% zoom one pane is shown at a time, which the window's width holds; each scheme has its colors."""
     person.sized(zoom=2)
-    lefts = person.evaluate(LEFTS)
-    assert max(lefts) - min(lefts) < 40, f"at 200% the parts stand at {lefts}"
-    too_wide = person.evaluate("document.documentElement.scrollWidth - window.innerWidth")
-    assert too_wide <= 0, f"at 200% the page is {too_wide} pixels too wide"
+    for name in PANES:
+        person.show_pane(name)
+        assert person.evaluate(SHOWN) == [name], f"at 200% {person.evaluate(SHOWN)} are shown in place of {name}"
+        too_wide = person.evaluate("document.documentElement.scrollWidth - window.innerWidth")
+        assert too_wide <= 0, f"at 200% the page of {name} is {too_wide} pixels too wide"
+    person.show_pane("tables")
     person.edit_cell(NESS, "Age", "8")
     person.wait_for(lambda: person.cell_text(NESS, "Age") == "8", "a cell is edited at 200%")
-    lights = []
-    for scheme in ("light", "dark"):
-        person.schemed(scheme)
-        lights.append(sum(map(int, re.findall("[0-9]+", person.evaluate(BACKGROUND))[:3])))
-    assert lights[0] > 600 and lights[1] < 200, f"light and dark have the lights {lights}"
+    light = lambda: sum(map(int, re.findall("[0-9]+", person.evaluate(BACKGROUND))[:3]))  # noqa: E731
+    person.schemed("light")
+    person.wait_for(lambda: light() > 600, "the page is light")
+    person.schemed("dark")
+    person.wait_for(lambda: light() < 200, "the page is dark")
     person.sized()
 
 

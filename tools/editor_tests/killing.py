@@ -50,17 +50,24 @@ def names_in(scene):
     return {row["cells"][table["kinds"].index(name)][0] for table in tables for row in table["rows"]}
 
 
+def listen(stream, seconds):
+    """Hears events for so long. They come all the time, and the server keeps only so many that nobody has heard."""
+    end = time.monotonic() + seconds
+    while time.monotonic() < end:
+        stream.next()
+
+
 def kill_often(editor, stream):
     """Kills the shell at moments by chance, and waits each time until it is here again."""
     chance = random.Random(SEED)
     for _ in range(KILLS):
-        time.sleep(chance.uniform(0.2, 1.0))
+        listen(stream, chance.uniform(0.2, 1.0))
         editor.kill_shell()
         states = [event for event in stream.until("whole") if event["sort"] == "shell"]
         assert [state["state"] for state in states] == ["gone", "here"], states
         assert "was killed by signal 9" in states[0]["words"], states
         # more than twice within ten seconds it isn't begun again
-        time.sleep(SECONDS_BETWEEN)
+        listen(stream, SECONDS_BETWEEN)
 
 
 def try_kills(program, room):

@@ -4,9 +4,11 @@ import json
 from tab import Tab
 
 # The drawn line of an entity in a list. Only lines in sight are drawn, so the list is scrolled until it is.
+ENTITY_OF = 'const entityOf = (line) => line.dataset.entity ?? line.querySelector("b")?.textContent;'
 FIND = """(async () => {
+  """ + ENTITY_OF + """
   const box = document.getElementById(%s);
-  const at = () => [...box.querySelectorAll(".line")].find((line) => line.querySelector("b")?.textContent === %s);
+  const at = () => [...box.querySelectorAll(".line")].find((line) => entityOf(line) === %s);
   if (at()) return true;
   const step = Math.max(box.clientHeight - 48, 24);
   for (let top = 0; top < box.scrollHeight; top += step) {
@@ -31,27 +33,103 @@ READ = """(async () => {
 })()"""
 TEXT = "(line) => line.textContent"
 FOREST_LINE = """(line) => [
-  line.querySelector("b")?.textContent, Number(line.ariaLevel) - 1, line.querySelector(".text")?.textContent.trim(),
+  line.querySelector(".id")?.textContent, Number(line.ariaLevel) - 1, line.querySelector(".name")?.textContent,
 ]"""
 TABLE_LINE = """(line) => [
   line.querySelector("b")?.textContent ?? null,
-  Object.fromEntries([...line.querySelectorAll("[data-kind]")].map((cell) => [cell.dataset.kind, cell.textContent])),
+  Object.fromEntries([...line.querySelectorAll("[data-kind]")].map((cell) => [
+    cell.dataset.kind, (cell.querySelector(".id") ?? cell).textContent,
+  ])),
 ]"""
 
 
+SHOWN = "document.getElementById('detail').dataset.entity"
+EXPORTED = "fetch('export?what=%s').then((answer) => answer.text())"
+# The sizes at which a row's pictures are kept: a desk, the least for all panes, and a phone.
+SIZES = {"wide": (1400, 900), "least": (1000, 700), "narrow": (420, 800)}
+
+
 class Person(Tab):
-    """A tab on the editor's page."""
+    """A tab on the editor's page. Pictures of it are kept in the folder `album`, if it is set."""
+
+    album = None
 
     def __init__(self, remote, address):
         super().__init__(remote, address)
         self.arrived()
 
     def arrived(self):
-        """Waits until the page has joined."""
+        """Waits until the page has joined, and has drawn what it got."""
         self.wait("/[1-7]/.test(document.getElementById('session')?.textContent)", "the page has joined")
+        self.wait("document.getElementById('found').textContent !== ''", "the page has drawn the scene")
+
+    def reload(self):
+        super().reload()
+        self.arrived()
 
     def session_number(self):
         return int(self.evaluate("document.getElementById('session').textContent.match(/[1-7]/)[0]"))
+
+    def keep(self, name, pane=None, schemes=("light",)):
+        """Keeps pictures of what is seen, at each size; where panes are shown one at a time, of a pane."""
+        if self.album is None:
+            return
+        for scheme in schemes:
+            self.schemed(scheme)
+            for size, (width, height) in SIZES.items():
+                self.sized(width, height)
+                if pane is not None and size == "narrow":
+                    self.show_pane(pane)
+                self.settle()
+                kept = name if scheme == "light" else f"{name}_{scheme}"
+                (self.album / f"{kept}_{size}.png").write_bytes(self.picture())
+        self.schemed("light")
+        self.sized()
+
+    def choose_all(self, entities):
+        """Chooses entities in the forest, each by a click with Ctrl but for the first."""
+        for at, entity in enumerate(entities):
+            self.choose(entity, *(["Control"] if at > 0 else []))
+
+    def wait_chosen(self, entity):
+        """Waits until the pane of what is chosen is of an entity."""
+        self.wait(f"{SHOWN} === {json.dumps(entity)}", f"{entity} is chosen")
+
+    def menu(self, words):
+        """Picks what the open menu has with such words."""
+        entries = "[...document.querySelectorAll('.menu button')]"
+        self.click(f"{entries}.find((each) => each.textContent.startsWith({json.dumps(words)}))")
+
+    def fill_field(self, expression, text):
+        """Clicks into a field, and writes in place of what is there."""
+        self.click(expression)
+        self.key("a", "Control")
+        self.key("Backspace")
+        self.write(text)
+
+    def property(self, kind, at=0):
+        """The expression of a field of a component of what is chosen."""
+        return f"document.querySelectorAll('#detail [data-kind={kind}] input')[{at}]"
+
+    def frames(self):
+        """How many frames of the past the page tells of."""
+        return int(self.text("position").split(" ")[0].replace(",", ""))
+
+    def newest(self):
+        """The words of the newest frame of the past."""
+        return self.evaluate("document.getElementById('strip').querySelector('[aria-current] .text')?.textContent")
+
+    def wait_frames(self, count):
+        self.wait_for(lambda: self.frames() == count, f"there are {count} frames of the past")
+
+    def scene(self):
+        """The scene that the server has behind all that this page has sent: lines go in their order, so the answer to a
+        further one comes behind the others. What must not be sent isn't in it."""
+        said = "document.querySelectorAll('#answers > .answer').length"
+        before = self.evaluate(said)
+        self.send_line("history")
+        self.wait(f"{said} > {before}", "a line is answered")
+        return json.loads(self.evaluate(EXPORTED % "dumpall"))
 
     @staticmethod
     def by_id(name):
@@ -65,8 +143,8 @@ class Person(Tab):
 
     def wait_status(self, words):
         """Waits until the status has these words, and gives it whole."""
-        self.wait_for(lambda: words in self.status(), f"the status has {words!r}")
-        return self.status()
+        said = lambda: next((told for told in [self.status()] if words in told), None)  # noqa: E731
+        return self.wait_for(said, f"the status has {words!r}")
 
     def fill(self, name, text):
         """Clicks into a box, and writes in place of what is there."""
@@ -82,21 +160,25 @@ class Person(Tab):
         """The expression of an entity's line in a list, which is in sight then."""
         self.wait(FIND % (json.dumps(name), json.dumps(entity)), f"{name} has a line of {entity}")
         lines = f"[...{self.by_id(name)}.querySelectorAll('.line')]"
-        return f"{lines}.find((line) => line.querySelector('b')?.textContent === {json.dumps(entity)})"
+        is_it = f"(line.dataset.entity ?? line.querySelector('b')?.textContent) === {json.dumps(entity)}"
+        return f"{lines}.find((line) => {is_it})"
 
     def is_in(self, name, entity):
         return self.evaluate(FIND % (json.dumps(name), json.dumps(entity)))
 
     def choose(self, entity, *held):
-        """Clicks on an entity in the forest."""
+        """Clicks on an entity in the forest, and waits until the page shows that it is chosen."""
         self.click(self.line_of("forest", entity), *held)
+        self.wait_chosen(entity)
 
     def cell(self, entity, kind):
         """The expression of a cell in the tables."""
         return f"{self.line_of('tables', entity)}?.querySelector('[data-kind={kind}]')"
 
     def cell_text(self, entity, kind):
-        return self.evaluate(f"{self.cell(entity, kind)}?.textContent ?? null")
+        """What a cell says; a link's entity."""
+        cell = self.cell(entity, kind)
+        return self.evaluate(f"((cell) => (cell?.querySelector('.id') ?? cell)?.textContent ?? null)({cell})")
 
     def edit_cell(self, entity, kind, value, end="Enter"):
         """Double clicks on a cell, writes a value in place of what is there, and ends with a key."""
@@ -116,11 +198,14 @@ class Person(Tab):
         self.key("Enter")
 
     def select(self, name, text):
-        """Picks the first option with such a text by the arrow keys: a click would open a list beside the page."""
+        """Picks the first option with such a text, once there is one, by the arrow keys: a click would open a list
+        beside the page."""
+        said = f"[...{self.by_id(name)}.options].map((option) => option.textContent)"
+        is_it = f"(each) => each.startsWith({json.dumps(text)})"
+        self.wait(f"{said}.some({is_it})", f"{name} has an option {text}")
         self.evaluate(f"{self.by_id(name)}.focus()")
-        texts = self.evaluate(f"[...{self.by_id(name)}.options].map((option) => option.textContent)")
         self.key("Home")
-        for _ in range(next(at for at, each in enumerate(texts) if each.startswith(text))):
+        for _ in range(self.evaluate(f"{said}.findIndex({is_it})")):
             self.key("ArrowDown")
         picked = self.evaluate(f"{self.by_id(name)}.selectedOptions[0].textContent")
         assert picked.startswith(text), f"{name}: {picked} was picked in place of {text}"
@@ -137,12 +222,16 @@ class Person(Tab):
         self.wait(f"({self.by_id('strip')}.scrollTop = {24 * place - 48}, {shown})", f"frame {place} is in sight")
         return f"{self.by_id('strip')}.querySelector('[data-place=\"{place}\"]')"
 
-    def tab_to(self, name):
-        """Presses Tab until a part has the focus."""
-        for _ in range(60):
+    def show_pane(self, name):
+        """In a narrow window, shows a pane by its tab."""
+        self.click_id(f"tab-pane-{name}")
+
+    def tab_to(self, name, *held):
+        """Presses Tab, or with Shift the way back, until a part has the focus."""
+        for _ in range(120):
             if self.evaluate("document.activeElement.id") == name:
                 return
-            self.key("Tab")
+            self.key("Tab", *held)
         raise AssertionError(f"Tab doesn't lead to {name}")
 
     def lines(self, name):

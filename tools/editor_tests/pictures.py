@@ -28,7 +28,7 @@ def forest_picture(remote, program, room):
         for entity in (ROSAMUND, TRAVELER, HOB):
             person.choose(entity, *(["Control"] if entity != ROSAMUND else []))
         other.edit_cell(HOB, "Coins", "70")
-        person.wait_status(f"Coins of {HOB} is 70")
+        person.wait_status("Coins of Hob is 70")
         keep(person, "editor_forest.png")
         other.close()
         person.close()

@@ -1,7 +1,7 @@
 """Who may not ask the editor is refused, and so is what is no good call; nothing is changed by either."""
 import socket
 
-from asking import Asker
+from asking import SECONDS, Asker
 from editor_process import EditorProcess, saved
 
 SCRIPT = "kind Name Text\nkind Health Int\nspawn Name=cat Health=9\n"
@@ -80,7 +80,7 @@ def try_no_http(asker):
     no_host = f"GET {asker.path} HTTP/1.1\r\n\r\n"
     body = f"POST {asker.path}call HTTP/1.1\r\nHost: {asker.host}\r\nContent-Length: 60\r\n\r\n{{\"session\":1"
     for text in ("\x00\x01\r\n\r\n", f"POST {asker.path}call HTTP/1.0\r\n\r\n", body, no_host):
-        with socket.create_connection((where, int(port)), timeout=5) as raw:
+        with socket.create_connection((where, int(port)), timeout=SECONDS) as raw:
             raw.sendall(text.encode())
             raw.shutdown(socket.SHUT_WR)
             answer = raw.recv(65536)
@@ -93,7 +93,7 @@ def try_lengths(asker):
     many = "1" * 5_000, "0" * 5_000, "9" * 60_000
     for status, lengths in (*((413, [length]) for length in many), (403, ["2", "2"]), (400, ["-1"]), (400, ["2 2"])):
         said = "".join(f"Content-Length: {length}\r\n" for length in lengths)
-        with socket.create_connection((where, int(port)), timeout=5) as raw:
+        with socket.create_connection((where, int(port)), timeout=SECONDS) as raw:
             raw.sendall(f"POST {asker.path}call HTTP/1.1\r\nHost: {asker.host}\r\n{said}\r\n".encode())
             answer = b"".join(iter(lambda: raw.recv(65536), b""))
         assert answer.startswith(f"HTTP/1.1 {status} ".encode()), (lengths[0][:9], answer)

@@ -12,7 +12,10 @@ import tempfile
 import time
 
 NAMES = ("chromium", "chromium-browser", "google-chrome")
-SECONDS = 20
+# How long an answer may take; a busy machine wants more, by the variable SECONDS_TO_WAIT.
+SECONDS = float(os.environ.get("SECONDS_TO_WAIT", "20"))
+# To begin and to make a tab a browser starts several processes, which takes several times as long where others run.
+SECONDS_TO_START = 3 * SECONDS
 ABOVE_THE_PIPES = 10
 OPTIONS = (
     "--headless", "--remote-debugging-pipe", "--disable-gpu", "--no-first-run", "--no-default-browser-check",
@@ -40,7 +43,11 @@ class Remote:
     def __init__(self, browser):
         self.room = tempfile.mkdtemp(prefix="scene-browser-")
         self.listeners, self.answers, self.last, self.unread = {}, {}, 0, b""
-        self.started(browser)
+        try:
+            self.started(browser)
+        except AssertionError:
+            self.close()
+            raise
 
     def started(self, browser):
         # While the four ends take the lowest descriptors, no other of this process can be 3 or 4.
@@ -57,6 +64,7 @@ class Remote:
         self.process = subprocess.Popen(words, preexec_fn=place_the_pipes, close_fds=False, **quiet)
         for end in (child_reads, child_writes, *ends):
             os.close(end)
+        self.call("Browser.getVersion", seconds=SECONDS_TO_START)
 
     def close(self):
         try:
@@ -74,13 +82,20 @@ class Remote:
 
     def call(self, method, session=None, seconds=SECONDS, **words):
         """The answer of a command; an answer of the protocol that it failed is a fault."""
-        number = self.send(method, session, **words)
+        return self.answer(self.send(method, session, **words), method, seconds)
+
+    def answer(self, number, method, seconds=SECONDS):
+        """The answer of a command that was sent."""
+        answer = self.heard(number, method, seconds)
+        assert "error" not in answer, f"{method}: {answer['error']}"
+        return answer["result"]
+
+    def heard(self, number, method, seconds):
+        """What was said of a command that was sent, also that it failed."""
         end = time.monotonic() + seconds
         while number not in self.answers:
             assert self.hear(end - time.monotonic()), f"the browser didn't answer {method} in {seconds} s"
-        answer = self.answers.pop(number)
-        assert "error" not in answer, f"{method}: {answer['error']}"
-        return answer["result"]
+        return self.answers.pop(number)
 
     def send(self, method, session=None, **words):
         """Sends a command without waiting; gives the number of its answer."""

@@ -26,6 +26,7 @@ def spawn(person, cells, count):
     person.fill("spawn-cells", cells)
     person.click_id("spawn")
     person.wait_for(lambda: len(person.forest()) == count, f"{cells} is there")
+    person.wait_chosen(f"{count - 1}v1")
 
 
 def try_setup(remote, program, room):

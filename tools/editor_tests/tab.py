@@ -3,18 +3,22 @@ import base64
 import json
 import time
 
+from remote import SECONDS, SECONDS_TO_START
+
 WIDTH, HEIGHT = 1280, 800
-SECONDS = 20
-SECONDS_TO_DRAG = 5
+SECONDS_TO_DRAG = SECONDS
 PAUSE = 0.01
 BETWEEN_CLICKS = 0.05
+# What the browser says of an expression whose page was left for another before it had a value.
+LEFT = ("Inspected target navigated or closed", "Execution context was destroyed", "Cannot find context")
 ALT, CONTROL, META, SHIFT = 1, 2, 4, 8
 MODIFIERS = {"Alt": ALT, "Control": CONTROL, "Meta": META, "Shift": SHIFT}
 # Of the keys that write nothing, or something else than their name: the code of Windows, and the text.
 NAMED = {
     "Enter": (13, "\r"), "Tab": (9, ""), "Escape": (27, ""), "Backspace": (8, ""), "Delete": (46, ""), " ": (32, " "),
     "ArrowLeft": (37, ""), "ArrowUp": (38, ""), "ArrowRight": (39, ""), "ArrowDown": (40, ""), "Home": (36, ""),
-    "End": (35, ""), "PageUp": (33, ""), "PageDown": (34, ""), "F2": (113, ""),
+    "End": (35, ""), "PageUp": (33, ""), "PageDown": (34, ""), "F2": (113, ""), "F10": (121, ""),
+    "ContextMenu": (93, ""),
 }  # fmt: skip
 PUNCTUATION = {
     "[": 219, "]": 221, "/": 191, "-": 189, "=": 187, ",": 188, ".": 190, ";": 186, "'": 222, "+": 187, "_": 189,
@@ -37,7 +41,8 @@ class Tab:
 
     def __init__(self, remote, address="about:blank"):
         self.remote, self.faults, self.drags = remote, [], []
-        self.target = remote.call("Target.createTarget", url="about:blank", newWindow=True)["targetId"]
+        begin = {"url": "about:blank", "newWindow": True}
+        self.target = remote.call("Target.createTarget", seconds=SECONDS_TO_START, **begin)["targetId"]
         self.session = remote.call("Target.attachToTarget", targetId=self.target, flatten=True)["sessionId"]
         remote.listeners[self.session] = self.heard
         for domain in ("Page", "Runtime", "Log", "Inspector"):
@@ -77,13 +82,21 @@ class Tab:
         del self.remote.listeners[self.session]
 
     def reload(self):
+        """Reloads, and waits for the new page."""
+        self.evaluate("document.documentElement.dataset.old = '1'")
         self.call("Page.reload")
+        # Between two pages there may be no element at all.
+        is_new = "document.readyState === 'complete' && document.documentElement?.dataset.old === undefined"
+        self.wait(is_new, "a new page")
 
     def reload_often(self, pauses):
-        """Asks for reloads without waiting for one, so many seconds apart. In between pages the browser refuses some."""
+        """Asks for reloads without waiting for one, so many seconds apart. Between pages the browser refuses some."""
+        sent = []
         for pause in pauses:
-            self.remote.send("Page.reload", self.session)
+            sent.append(self.remote.send("Page.reload", self.session))
             time.sleep(pause)
+        for number in sent:
+            self.remote.heard(number, "Page.reload", SECONDS)
 
     def open_copy(self):
         """Opens a further tab with what this one has stored, which is `copied` then."""
@@ -95,9 +108,19 @@ class Tab:
         assert "exceptionDetails" not in answer, f"{expression}: {answer['exceptionDetails']}"
         return answer["result"].get("value")
 
+    def evaluate_or_left(self, expression):
+        """The same, or None where the page is left for another meanwhile."""
+        try:
+            return self.evaluate(expression)
+        except AssertionError as fault:
+            if not any(words in str(fault) for words in LEFT):
+                raise
+            return None
+
     def wait(self, expression, what, seconds=SECONDS):
-        """Waits until an expression is true, and gives its value; `what` says what was waited for."""
-        return self.wait_for(lambda: self.evaluate(expression), what, seconds)
+        """Waits until an expression is true, and gives its value; `what` says what was waited for. An action answers
+        before what it does is drawn, or comes back from the server: so both are waited for."""
+        return self.wait_for(lambda: self.evaluate_or_left(expression), what, seconds)
 
     def wait_for(self, asked, what, seconds=SECONDS):
         end = time.monotonic() + seconds
@@ -110,22 +133,34 @@ class Tab:
             time.sleep(PAUSE)
 
     def settle(self):
-        """Waits until the page has drawn what it had to."""
-        self.evaluate("new Promise((done) => requestAnimationFrame(() => requestAnimationFrame(() => done(true))))")
+        """Waits until the page has drawn what it had to, and has done what it put off until then."""
+        drawn = "requestAnimationFrame(() => requestAnimationFrame(() => setTimeout(done)))"
+        self.evaluate(f"new Promise((done) => {drawn})")
 
     def status(self):
         return self.evaluate("document.getElementById('status')?.textContent")
 
-    def key(self, name, *held):
-        """Presses and releases a key, while modifiers are held."""
+    def key_events(self, name, *held):
+        """How a key is pressed and released."""
         code, text = NAMED.get(name) or (ord(name.upper()) if name.isalnum() else PUNCTUATION.get(name, 0), name)
         modifiers = sum(MODIFIERS[each] for each in held)
         if modifiers & (CONTROL | ALT | META):
             text = ""
         press = {"key": name, "code": self.code_of(name), "windowsVirtualKeyCode": code, "modifiers": modifiers}
         down = {"type": "keyDown", "text": text} if text else {"type": "rawKeyDown"}
-        self.call("Input.dispatchKeyEvent", **down, **press)
-        self.call("Input.dispatchKeyEvent", type="keyUp", **press)
+        return {**down, **press}, {"type": "keyUp", **press}
+
+    def key(self, name, *held):
+        """Presses and releases a key, while modifiers are held."""
+        for event in self.key_events(name, *held):
+            self.call("Input.dispatchKeyEvent", **event)
+
+    def keys(self, *pressed):
+        """Presses keys, each a name or a name with its modifiers, so quickly as only the page takes them."""
+        names = [(each,) if isinstance(each, str) else each for each in pressed]
+        events = [event for name in names for event in self.key_events(*name)]
+        for number in [self.remote.send("Input.dispatchKeyEvent", self.session, **event) for event in events]:
+            self.remote.answer(number, "Input.dispatchKeyEvent")
 
     @staticmethod
     def code_of(name):
@@ -163,11 +198,32 @@ class Tab:
                 self.mouse(sort, x, y, button="left", clickCount=number, modifiers=modifiers)
                 time.sleep(seconds)
 
+    def right_click(self, expression):
+        x, y = self.center(expression)
+        self.mouse("mouseMoved", x, y)
+        for sort in ("mousePressed", "mouseReleased"):
+            self.mouse(sort, x, y, button="right", clickCount=1)
+
+    def pull(self, start, end, *held, steps=8):
+        """Moves the mouse from one point to another with its button down."""
+        modifiers = sum(MODIFIERS[each] for each in held)
+        self.mouse("mouseMoved", *start)
+        self.mouse("mousePressed", *start, button="left", clickCount=1, modifiers=modifiers)
+        for step in range(1, steps + 1):
+            x, y = (one + (other - one) * step / steps for one, other in zip(start, end))
+            self.mouse("mouseMoved", x, y, button="left", buttons=1, modifiers=modifiers)
+        self.mouse("mouseReleased", *end, button="left", clickCount=1, modifiers=modifiers)
+
+    def wheel(self, x, y, by):
+        self.mouse("mouseWheel", x, y, deltaX=0, deltaY=by)
+        self.settle()
+
     def click_id(self, name):
         self.click(f"document.getElementById({json.dumps(name)})")
 
-    def drag(self, source, target):
-        """Drags an element onto another, whether the page uses the browser's drags or follows the pointer.
+    def drag(self, source, target, down=0):
+        """Drags an element onto another, so many pixels below its middle, whether the page uses the browser's drags or
+        follows the pointer.
 
         `target` is asked only when the drag has begun, since a page may show then where things can go.
         """
@@ -182,13 +238,26 @@ class Tab:
         end = time.monotonic() + SECONDS_TO_DRAG
         while not self.drags and time.monotonic() < end:
             self.remote.hear(PAUSE)
-        to = dict(zip("xy", self.center(target())))
-        for sort in ("dragEnter", "dragOver", "drop") if self.drags else ():
-            self.call("Input.dispatchDragEvent", type=sort, data=self.drags[0], **to)
-        if not self.drags:
-            self.mouse("mouseMoved", button="left", buttons=1, **to)
+        to = self.drag_over(target, down)
+        if self.drags:
+            self.call("Input.dispatchDragEvent", type="drop", data=self.drags[0], **to)
         self.mouse("mouseReleased", button="left", clickCount=1, **to)
         self.call("Input.setInterceptDrags", enabled=False)
+
+    def drag_over(self, target, down):
+        """Goes with what is dragged to a target, and after it where the page moves it, and answers where it is."""
+        is_first, end = True, time.monotonic() + SECONDS
+        while True:
+            x, y = self.center(target())
+            to = {"x": x, "y": y + down}
+            for sort in ("dragEnter", "dragOver")[0 if is_first else 1:] if self.drags else ():
+                self.call("Input.dispatchDragEvent", type=sort, data=self.drags[0], **to)
+            if not self.drags:
+                self.mouse("mouseMoved", button="left", buttons=1, **to)
+            if self.center(target()) == [x, y]:
+                return to
+            is_first = False
+            assert time.monotonic() < end, f"what something is dragged to doesn't stay in its place, as {to}"
 
     def sized(self, width=WIDTH, height=HEIGHT, zoom=1):
         """The window has so many pixels; at a zoom the page has as many fewer of its own."""

@@ -17,15 +17,18 @@ class Village:
         self.process = process
         self.one, self.other = Person(remote, process.address), Person(remote, process.address)
 
-    def both_show(self, entity, kind, text):
+    def both(self, is_so, what):
+        """Waits until both pages are so: what the next click goes to moves no more then."""
         for person in (self.one, self.other):
-            person.wait_for(lambda: person.cell_text(entity, kind) == text, f"{entity} shows {kind} {text}")
+            person.wait_for(lambda: is_so(person), what)
+
+    def both_show(self, entity, kind, text):
+        self.both(lambda person: person.cell_text(entity, kind) == text, f"{entity} shows {kind} {text}")
 
     def both_have_below(self, parent, children):
         """Both forests have these as the last ones below an entity."""
-        for person in (self.one, self.other):
-            last = lambda: children_of(person.forest(), parent)[-len(children):]  # noqa: E731
-            person.wait_for(lambda: last() == children, f"{children} are below {parent}")
+        last = lambda person: children_of(person.forest(), parent)[-len(children):]  # noqa: E731
+        self.both(lambda person: last(person) == children, f"{children} are below {parent}")
 
     def try_arrival(self):
         numbers = [self.one.session_number(), self.other.session_number()]
@@ -54,7 +57,9 @@ class Village:
         other.edit_cell(MILL, "Name", "The Old Mill")
         other.wait_status("space")
         other.key("Escape")
+        tick = one.scene()["tick"]
         one.edit_cell(GERRIC, "Age", "7", end="Escape")
+        assert one.scene()["tick"] == tick, "Escape has sent what was typed"
         self.both_show(GERRIC, "Age", BEYOND_DOUBLES)
         self.both_show(MILL, "Name", '"The_New_Mill"')
 
@@ -65,16 +70,16 @@ class Village:
         one.wait_for(lambda: MAUD in one.text("detail"), f"the detail is of {MAUD}")
         one.select("add-kind", "Lit")
         one.click_id("add")
-        self.other.wait_for(lambda: self.other.cell_text(MAUD, "Lit") is not None, "Maud is lit")
-        one.click(one.button_in("detail", "Lit"))
-        self.other.wait_for(lambda: self.other.cell_text(MAUD, "Lit") is None, "Maud isn't lit")
+        self.both(lambda person: person.cell_text(MAUD, "Lit") is not None, "Maud is lit")
+        one.click(one.button_in("detail", "remove Lit"))
+        self.both(lambda person: person.cell_text(MAUD, "Lit") is None, "Maud isn't lit")
         one.click(one.cell(NAVE, "Name"))
         one.choose(TAPROOM)
         one.click(one.cell(TAPROOM, "Lit"), count=2)
         one.wait("document.activeElement.type === 'checkbox'", "a tag is a check box")
         one.key(" ")
         one.key("Enter")
-        self.other.wait_for(lambda: self.other.cell_text(TAPROOM, "Lit") is None, "the taproom isn't lit")
+        self.both(lambda person: person.cell_text(TAPROOM, "Lit") is None, "the taproom isn't lit")
 
     def try_moves(self):
         """Several are dragged in one frame; a drag that would make a cycle is refused in words."""
@@ -86,8 +91,7 @@ class Village:
         told = self.other.wait_status("Cycle")
         assert INN in told and "Nothing changed" in told, told
         self.other.move([CAT], None)
-        for person in (self.one, self.other):
-            person.wait_for(lambda: [CAT, 0] in [line[:2] for line in person.forest()], "the cat is a root")
+        self.both(lambda person: [CAT, 0] in [line[:2] for line in person.forest()], "the cat is a root")
 
     def try_despawns(self):
         one, other = self.one, self.other
@@ -95,17 +99,17 @@ class Village:
         one.click_id("despawn")
         one.wait_status("HasChildren")
         one.click_id("despawn-all")
-        other.wait_for(lambda: not other.is_in("forest", MARJORY), "the cottage is gone with all below")
+        self.both(lambda person: not person.is_in("forest", MARJORY), "the cottage is gone with all below")
         other.send_line(f"insert {MARJORY} Age=72")
         told = other.wait_status("NoSuchEntity")
         assert f"session {one.session_number()}" in told and MARJORY in told, told
         other.click_id("forest")
         other.key("z", "Control")
-        one.wait_for(lambda: one.is_in("forest", MARJORY), "the cottage is there again")
+        self.both(lambda person: person.is_in("forest", MARJORY), "the cottage is there again")
         other.key("y", "Control")
-        one.wait_for(lambda: not one.is_in("forest", MARJORY), "the cottage is gone again")
+        self.both(lambda person: not person.is_in("forest", MARJORY), "the cottage is gone again")
         other.key("[")
-        one.wait_for(lambda: one.is_in("forest", MARJORY), "the cottage is there once more")
+        self.both(lambda person: person.is_in("forest", MARJORY), "the cottage is there once more")
 
     def try_spawns(self):
         one, other = self.one, self.other
@@ -113,17 +117,18 @@ class Village:
         one.click_id("spawn")
         told = one.wait_status("future")
         assert "1 frame" in told and "gone" in told, told
-        stranger = 'Name="Stranger" Age=30'
-        other.wait_for(lambda: stranger in [line[2] for line in other.forest()], "the stranger has come")
+        self.both(lambda person: "Stranger" in [line[2] for line in person.forest()], "the stranger has come")
+        one.wait_chosen(next(line[0] for line in one.forest() if line[2] == "Stranger"))
         other.choose(HOB)
         other.fill("spawn-cells", "Name=Purse Coins=9")
         other.click_id("spawn-below")
-        purses = lambda: [line[0] for line in one.forest() if line[2].startswith('Name="Purse"')]  # noqa: E731
+        purses = lambda: [line[0] for line in one.forest() if line[2] == "Purse"]  # noqa: E731
         purse = one.wait_for(purses, "Hob has a purse")[0]
         self.both_have_below(HOB, [purse])
+        other.wait_chosen(purse)
         other.choose(purse)
         other.key("Delete")
-        one.wait_for(lambda: not one.is_in("forest", purse), "the purse is gone")
+        self.both(lambda person: not person.is_in("forest", purse), "the purse is gone")
 
     def try_resources(self):
         one, other = self.one, self.other
@@ -131,14 +136,14 @@ class Village:
         one.select("resource-shape", "Text")
         one.fill("resource-value", "rain")
         one.click_id("resource-put")
-        other.wait("document.getElementById('resources').textContent.includes('weather')", "it rains")
+        self.both(lambda person: "weather" in person.text("resources"), "it rains")
         other.click(other.resource("weather"), count=2)
         other.key("a", "Control")
         other.write("sun")
         other.key("Enter")
-        one.wait("document.getElementById('resources').textContent.includes('sun')", "the sun shines")
+        self.both(lambda person: "sun" in person.text("resources"), "the sun shines")
         one.click(one.button_in("resources", "drop weather"))
-        other.wait("!document.getElementById('resources').textContent.includes('weather')", "there is no weather")
+        self.both(lambda person: "weather" not in person.text("resources"), "there is no weather")
         other.fill("resource-name", "9")
         other.fill("resource-value", "1")
         other.click_id("resource-put")
@@ -152,7 +157,8 @@ class Village:
         self.both_show(ALDOUS, "Coins", "90")
         self.both_show(HOB, "Coins", "91")
         one.send_line(f"get {ALDOUS}")
-        one.wait_for(lambda: ALDOUS in one.text("answers"), "the row is answered")
+        answer = "document.querySelector('#answers > .answer:last-child')"
+        one.wait(f"{answer}?.textContent.includes('{ALDOUS}')", "the row is answered")
         one.send_line("jump")
         one.wait("document.querySelector('#answers > :last-child').classList.contains('refused')", "a bad line is told")
         one.click_id("line")
@@ -166,7 +172,8 @@ class Village:
         one, other = self.one, self.other
         lines = other.lines("strip")
         other.click(other.strip_line(2))
-        one.wait_for(lambda: not one.is_in("forest", ALDOUS), "there were no people after frame 2")
+        self.both(lambda person: not person.is_in("forest", ALDOUS), "there were no people after frame 2")
+        self.both(lambda person: person.frames() == 2, "frame 2 is the last one")
         assert len(one.lines("strip")) == len(lines)
         one.click(one.strip_line(len(lines) - 1))
         self.both_show(ALDOUS, "Coins", "90")
@@ -182,6 +189,7 @@ class Village:
         for person in (self.one, self.other):
             person.wait("window.bannerTold.length > 0", "the banner tells that the shell is gone")
             person.wait("document.getElementById('shell').getClientRects().length === 0", "the shell is back")
+            person.wait_status("begun again")
         self.both_show(ALDOUS, "Age", "65")
         self.one.edit_cell(ALDOUS, "Age", "66")
         self.other.edit_cell(ALDOUS, "Coins", "1")
@@ -194,11 +202,7 @@ class Village:
         for pauses in ((), QUICK_RELOADS):
             self.one.reload_often(pauses)
             self.one.arrived()
-            self.one.evaluate("document.documentElement.dataset.old = '1'")
             self.one.reload()
-            is_new = "document.readyState === 'complete' && document.documentElement.dataset.old === undefined"
-            self.one.wait(is_new, "a new page")
-            self.one.arrived()
             assert self.one.session_number() == number, "a reload took another session"
         alone = f"session {number} is here too"
         self.other.wait_for(lambda: self.other.text("others") == alone, f"the other is told that {alone}")

@@ -6,12 +6,12 @@ import shutil
 import subprocess
 import tempfile
 import threading
-from http.server import BaseHTTPRequestHandler, HTTPServer
+from http.server import BaseHTTPRequestHandler, ThreadingHTTPServer
 from pathlib import Path
 
 HERE = Path(__file__).resolve().parent
 BROWSERS = ("chromium", "chromium-browser", "google-chrome", "firefox")
-SECONDS = 120
+SECONDS, SECONDS_TO_END = 120, 10
 DRIVER = b'<!DOCTYPE html><meta charset="utf-8"><iframe width="1200" height="800"></iframe><script src="/drive.js"></script>'
 
 
@@ -50,7 +50,8 @@ def served(pages, told):
         def log_message(self, *words):
             pass
 
-    return HTTPServer(("127.0.0.1", 0), Handler)
+    # A browser may open a connection on which it asks nothing, and another one beside it.
+    return ThreadingHTTPServer(("127.0.0.1", 0), Handler)
 
 
 def seen_in(browser, pages):
@@ -67,7 +68,11 @@ def seen_in(browser, pages):
         timer.cancel()
         server.server_close()
         ran.terminate()
-        ran.wait()
+        try:
+            ran.wait(SECONDS_TO_END)
+        except subprocess.TimeoutExpired:
+            ran.kill()
+            ran.wait()
         shutil.rmtree(room, ignore_errors=True)
     assert told, f"{browser} said nothing in {SECONDS} seconds"
     return told[0]

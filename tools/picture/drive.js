@@ -32,7 +32,8 @@ function press(id, key) {
 
 // A browser tells of a scroll before it draws the next time.
 function drawn() {
-  return new Promise((go) => frame.contentWindow.setTimeout(go, 200));
+  const { contentWindow } = frame;
+  return new Promise((go) => contentWindow.requestAnimationFrame(() => contentWindow.requestAnimationFrame(go)));
 }
 
 function moment() {

@@ -42,6 +42,7 @@ export function fillTable(element, line, view) {
     return;
   }
   const written = marks.entities.get(line.entity)?.kinds ?? new Set();
+  element.dataset.entity = line.entity;
   head.append(markEntity(element, line.entity, view), part("b", "", line.entity));
   for (const kind of table.kinds) {
     const [value, ...ticks] = line.row.cells.get(kind);

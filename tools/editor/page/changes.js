@@ -1,5 +1,10 @@
 // Entities come and go: the box for a spawn, and the buttons beside it.
 
+import { ask } from "./ask.js";
+import { isToBeSent, showFault, wasSent } from "./field_faults.js";
+import { called } from "./names.js";
+import { counted } from "./sentences.js";
+import { subtreeOf } from "./subtrees.js";
 import { cellsFault } from "./values.js";
 
 export class Changes {
@@ -20,22 +25,51 @@ export class Changes {
     const { editor } = this;
     const typed = this.cells.value.trim();
     const fault = cellsFault(editor.mirror.kinds, typed);
-    if (fault !== null) return void editor.say(`Not sent: ${fault}.`, "refused");
+    if (fault !== null) return void this.tellFault(`Not sent: ${fault}.`);
     const parent = editor.chosen.last;
-    if (isBelow && parent === null) return void editor.say("Choose first below which entity it is to go.", "refused");
+    if (isBelow && parent === null) return void this.tellFault("Choose first below which entity it is to go.");
     const spawn = `spawn ${typed}`.trim();
     const lines = isBelow ? ["begin", spawn, `parent +0 ${parent}`, "commit"] : [spawn];
+    // (the page may hear of the spawn before its answer comes, and the keys of undo are the scene's then)
+    wasSent(this.cells);
+    const { times } = editor.chosen;
     const answers = await editor.ask(lines);
+    const bad = answers.find(({ answer }) => answer === "bad");
+    if (bad !== undefined) showFault(this.cells, bad.reason, this.cells);
     const entities = answers.at(-1)?.entities ?? [];
-    if (entities.length > 0) editor.revealWhenThere(entities[0]);
+    if (entities.length === 0) return void isToBeSent(this.cells);
+    editor.chooseWhenThere(entities, times);
+  }
+
+  tellFault(words) {
+    showFault(this.cells, words, this.cells);
+    this.editor.say(words, "refused");
   }
 
   // Alone, those deepest down first, so that a parent may go with all its children; or each with all below it.
-  despawn(isAll) {
+  async despawn(isAll) {
     const { editor } = this;
-    const targets = isAll ? editor.forest.outermost(editor.targets()) : this.deepestFirst(editor.targets());
-    if (targets.length === 0) return void editor.say("Choose the entities first that are to go.", "refused");
-    editor.sendFrame(targets.map((entity) => `${isAll ? "despawnall" : "despawn"} ${entity}`));
+    const found = editor.targets();
+    const targets = isAll ? editor.forest.outermost(found) : this.deepestFirst(found);
+    const kept = editor.hiddenTargets();
+    const hidden = "The chosen are hidden by the search; nothing goes.";
+    const why = kept > 0 ? hidden : "Choose the entities first that are to go.";
+    if (targets.length === 0) return void editor.say(why, "refused");
+    if (isAll && !(await this.mayGo(targets))) return;
+    const isDone = await editor.sendFrame(targets.map((entity) => `${isAll ? "despawnall" : "despawn"} ${entity}`));
+    if (isDone && kept > 0) editor.say(`Done; ${counted(kept, "chosen one")} that the search hides stayed.`);
+  }
+
+  // What goes along unseen is asked for first.
+  async mayGo(targets) {
+    const { editor } = this;
+    const below = targets.flatMap((entity) => subtreeOf(editor.mirror.state, entity).slice(1));
+    const unseen = below.filter(({ entity }) => !editor.isInSearch(entity)).length;
+    if (unseen === 0) return true;
+    const [first] = targets;
+    const what = targets.length === 1 ? called(editor.mirror, first) : counted(targets.length, "entity", "entities");
+    const words = `${counted(below.length, "entity", "entities")} below, of which the search hides ${unseen}, go too.`;
+    return (await ask({ title: `Despawn ${what} with all below?`, words, yes: "Despawn all" })) !== null;
   }
 
   deepestFirst(entities) {

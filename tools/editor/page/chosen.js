@@ -1,20 +1,34 @@
 // Which entities are chosen. The last one chosen is the one that is shown, and the one below which others are spawned.
 
 export class Chosen {
-  // `changed` is told the entity, and the list in which it was chosen, if in one.
-  constructor(changed) {
-    Object.assign(this, { changed, entities: new Set(), last: null, anchor: null });
+  // `changed` is told the entity, and the list in which it was chosen, if in one; `isLive` says which live. `times` is
+  // how often something was chosen.
+  constructor(changed, isLive) {
+    const told = (entity, list) => {
+      this.times += 1;
+      changed(entity, list);
+    };
+    Object.assign(this, { changed: told, isLive, entities: new Set(), last: null, anchor: null, times: 0 });
   }
 
   has(entity) {
     return this.entities.has(entity);
   }
 
+  // The last one where it lives, or null.
+  liveLast() {
+    return this.last !== null && this.isLive(this.last) ? this.last : null;
+  }
+
   only(entity, list) {
-    this.entities = new Set([entity]);
-    this.last = entity;
-    this.anchor = entity;
-    this.changed(entity, list);
+    this.all([entity], list);
+  }
+
+  all(entities, list) {
+    this.entities = new Set(entities);
+    this.last = entities.at(-1) ?? null;
+    this.anchor = this.last;
+    this.changed(this.last, list);
   }
 
   toggle(entity, list) {

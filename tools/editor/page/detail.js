@@ -1,50 +1,95 @@
-// The entity that was chosen last: its cells with their ticks, its parent, and the frames that changed it.
+// What is chosen: its components as fields, for one entity or for all chosen at once; the parent of one, and the frames
+// that changed it.
 
-import { cellList } from "./fills.js";
-import { adopt, part } from "./parts.js";
-import { counted } from "./sentences.js";
-import { cellWord, HINTS, typedOf } from "./values.js";
+import { showFault } from "./field_faults.js";
+import { linkTyped } from "./links.js";
+import { called, nameOf } from "./names.js";
+import { adopt, part, putIn } from "./parts.js";
+import { Property } from "./property.js";
+import { capital, counted, who } from "./sentences.js";
+import { cellWord, HINTS } from "./values.js";
 
 const MOST_FRAMES_NAMED = 30;
 
 export class Detail {
   constructor(editor) {
-    Object.assign(this, { editor, inside: part("div", "", ""), actions: new Map() });
+    Object.assign(this, { editor, properties: new Map(), actions: new Map() });
     const at = (id) => document.getElementById(id);
     Object.assign(this, { box: at("detail"), kind: at("add-kind"), value: at("add-value"), press: at("add") });
-    this.box.append(this.inside);
+    [this.head, this.cells, this.foot] = ["head-of", "cells-of", "foot-of"].map((name) => part("div", name, ""));
+    this.box.append(this.head, this.cells, this.foot);
     this.box.addEventListener("click", (event) => this.clicked(event.target.closest("[data-key]")));
     at("add-form").addEventListener("submit", (event) => this.add(event));
     this.kind.addEventListener("change", () => this.hint());
   }
 
-  // What stays the same keeps its elements, and so the focus and a button that is held down.
+  // What stays the same keeps its elements, and so the focus and what is being typed.
   show() {
     const { box, editor } = this;
     const hasFocus = box.contains(document.activeElement);
     this.showKinds();
     this.actions.clear();
-    const fresh = part("div", "", "");
-    fresh.append(...this.parts(editor.chosen.last));
-    adopt(this.inside, fresh);
+    const { last } = editor.chosen;
+    const rows = [...editor.chosen.entities].map((entity) => editor.mirror.state.rows.get(entity)).filter(Boolean);
+    box.dataset.entity = last ?? "";
+    this.showInto(this.head, this.headOf(last, rows));
+    this.showCells(rows);
+    this.showInto(this.foot, rows.length === 1 || (rows.length === 0 && last !== null) ? [this.frames(last)] : []);
     if (hasFocus && !box.contains(document.activeElement)) box.focus({ preventScroll: true });
+  }
+
+  showInto(element, parts) {
+    const fresh = part("div", element.className, "");
+    fresh.append(...parts);
+    adopt(element, fresh);
   }
 
   clicked(element) {
     if (element !== null) this.actions.get(element.dataset.key)?.();
   }
 
-  parts(entity) {
-    const { mirror, chosen } = this.editor;
-    if (entity === null) return [part("p", "hint", "Choose an entity in the forest or in a table.")];
+  headOf(last, rows) {
+    const { mirror } = this.editor;
+    if (last === null) return [part("p", "hint", "Choose an entity in the forest, in a table or in the picture.")];
     const head = part("p", "chosen-head", "");
-    const more = chosen.entities.size - 1;
-    head.append(part("b", "", entity));
-    if (more > 0) head.append(part("span", "hint", ` and ${more} more chosen`));
-    const row = mirror.state.rows.get(entity);
-    if (row === undefined) return [head, part("p", "hint", "It isn't live now."), this.frames(entity)];
-    const cells = cellList(mirror.kinds, row, (kind, value) => this.cellButtons(entity, kind, value));
-    return [head, this.parent(entity), cells, this.frames(entity)];
+    if (rows.length > 1) {
+      head.append(part("b", "", counted(rows.length, "entity", "entities")), part("span", "hint", "edited together"));
+      return [head];
+    }
+    const [{ entity } = { entity: last }] = rows;
+    head.append(part("b", "", called(mirror, entity)));
+    if (nameOf(mirror, entity) !== null) head.append(part("span", "id", entity));
+    return rows.length === 0 ? [head, part("p", "hint", "It isn't live now.")] : [head, this.parent(entity)];
+  }
+
+  showCells(rows) {
+    const byKind = new Map();
+    for (const row of rows) {
+      for (const kind of row.table.kinds) {
+        if (!byKind.has(kind)) byKind.set(kind, []);
+        byKind.get(kind).push(row);
+      }
+    }
+    const key = [...this.editor.chosen.entities].join(" ") + this.kindsKey;
+    if (key !== this.cellsKey) this.properties.clear();
+    this.cellsKey = key;
+    const order = [...byKind.keys()].sort((one, other) => one - other);
+    const shown = order.map((kind) => {
+      if (!this.properties.has(kind)) this.properties.set(kind, new Property(this, kind));
+      const property = this.properties.get(kind);
+      property.show(byKind.get(kind), rows.length);
+      return property.box;
+    });
+    putIn(this.cells, shown);
+    const none = part("p", "hint", "No components yet; add one below.");
+    if (rows.length > 0 && shown.length === 0) putIn(this.cells, [none]);
+  }
+
+  // Who made the newest frame that changed an entity.
+  whoWrote(entity) {
+    const { mirror } = this.editor;
+    const at = mirror.framesOf(entity).filter((each) => each <= mirror.position).at(-1);
+    return capital(who(mirror.frames[at - 1]?.session));
   }
 
   // A button whose action is found by its key, whichever element it has.
@@ -57,31 +102,14 @@ export class Detail {
     return element;
   }
 
-  cellButtons(entity, kind, value) {
-    const { editor } = this;
-    const [name, shape] = editor.mirror.kinds[kind];
-    const send = () => editor.send([`remove ${entity} ${name}`]);
-    const remove = this.keyed(`remove ${kind}`, "Remove", `remove ${name}`, send);
-    const typed = typedOf(shape, value);
-    const change = this.keyed(`change ${kind}`, "Change", `change ${name}`, () => this.change(kind, typed));
-    return shape === "Tag" ? [remove] : [change, remove];
-  }
-
-  change(kind, typed) {
-    this.kind.value = this.editor.mirror.kinds[kind][0];
-    this.value.value = typed;
-    this.hint();
-    this.value.focus();
-    this.value.select();
-  }
-
   parent(entity) {
     const { state } = this.editor.mirror;
     const parent = state.parents.get(entity);
     const children = state.children.get(entity)?.length ?? 0;
-    const line = part("p", "", parent === undefined ? "A root" : "Below ");
+    const line = part("p", "hint", parent === undefined ? "A root" : "Below ");
     if (parent !== undefined) {
-      line.append(this.keyed("parent", parent, `its parent ${parent}`, () => this.editor.choose(parent)));
+      const name = called(this.editor.mirror, parent);
+      line.append(this.keyed("parent", name, `its parent ${name}`, () => this.editor.choose(parent)));
     }
     line.append(children > 0 ? `, with ${counted(children, "child", "children")}` : "");
     return line;
@@ -95,10 +123,12 @@ export class Detail {
     if (shown.length < found.length) line.append(`${found.length - shown.length} older, `);
     line.append(...shown.map((at) => {
       const number = mirror.numberOf(at);
-      return this.keyed(`frame ${number}`, String(number), `show frame ${number}`, () => strip.goToFrame(at));
+      return this.keyed(`frame ${number}`, String(number), `show frame ${number}`, () => strip.goToFrame(number));
     }));
     return line;
   }
+
+  // A component more
 
   showKinds() {
     const { kinds } = this.editor.mirror;
@@ -106,7 +136,8 @@ export class Detail {
     if (key !== this.kindsKey) {
       this.kindsKey = key;
       const option = ([name, shape]) => Object.assign(part("option", "", `${name} (${shape})`), { value: name });
-      this.kind.replaceChildren(...kinds.map(option));
+      const none = part("option", "", "no kinds yet");
+      this.kind.replaceChildren(...(kinds.length > 0 ? kinds.map(option) : [none]));
     }
     this.hint();
   }
@@ -125,10 +156,20 @@ export class Detail {
     event.preventDefault();
     const { editor } = this;
     const kind = editor.mirror.kinds[editor.mirror.kindNamed(this.kind.value)];
-    const entity = editor.chosen.last;
-    if (entity === null || kind === undefined) return void editor.say("Choose an entity and a kind first.", "refused");
-    const { word, fault } = cellWord(...kind, this.value.value);
-    if (fault !== undefined) return void editor.say(`Not sent: ${fault}.`, "refused");
-    editor.sendTyped(this.value, [`insert ${entity} ${word}`]);
+    const entities = [...editor.chosen.entities].filter((entity) => editor.mirror.isLive(entity));
+    const isReady = entities.length > 0 && kind !== undefined;
+    if (!isReady) return void editor.say("Choose an entity and a kind first.", "refused");
+    const { word, fault } = this.wordOf(kind, this.value.value);
+    if (fault !== undefined) {
+      showFault(this.value, fault);
+      return void editor.say(`Not sent: ${fault}.`, "refused");
+    }
+    editor.sendTyped(this.value, entities.map((entity) => `insert ${entity} ${word}`));
+  }
+
+  wordOf([name, shape], typed) {
+    if (shape !== "Link") return cellWord(name, shape, typed);
+    const { entity, fault } = linkTyped(this.editor.mirror, typed);
+    return fault === undefined ? cellWord(name, shape, entity) : { fault };
   }
 }

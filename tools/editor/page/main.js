@@ -3,21 +3,32 @@
 import { Changes } from "./changes.js";
 import { Chosen } from "./chosen.js";
 import { Console } from "./console.js";
+import { Copies } from "./copies.js";
 import { Detail } from "./detail.js";
+import { showFault, wasSent } from "./field_faults.js";
+import { Files } from "./files.js";
 import { Forest } from "./forest.js";
 import { listenToKeys } from "./keys.js";
 import { newFolds } from "./lines.js";
+import { menuItems } from "./menu_items.js";
+import { openMenu } from "./menu.js";
 import { Mirror } from "./mirror.js";
-import { Picture } from "./canvas.js";
+import { called, withNames } from "./names.js";
+import { Panes } from "./panes.js";
+import { Picture } from "./picture.js";
+import { Play } from "./play.js";
 import { refusalText } from "./refusals.js";
 import { Resources } from "./resources.js";
+import { Search } from "./search.js";
 import { capital, counted, eventText, who } from "./sentences.js";
 import { Setup } from "./setup.js";
+import { Sights } from "./sights.js";
 import { Strip } from "./strip.js";
 import { Systems } from "./systems.js";
 import { Tables } from "./tables.js";
+import { Undoing } from "./undoing.js";
 import { Wire } from "./wire.js";
-import { found, marksOf } from "./words.js";
+import { marksOf } from "./words.js";
 
 const OPEN_UP_TO = 200;
 // A page that isn't seen gets no frames of animation, and yet is kept up.
@@ -26,35 +37,37 @@ const HIDDEN_DRAW_AFTER = 100;
 class Editor {
   constructor() {
     const at = (id) => document.getElementById(id);
-    Object.assign(this, { mirror: new Mirror(), matched: null, touched: new Set(), awaited: null });
-    Object.assign(this, { search: at("search"), found: at("found"), status: at("status"), banner: at("shell"), at });
-    this.chosen = new Chosen((entity, list) => this.chosenChanged(entity, list));
+    Object.assign(this, { mirror: new Mirror(), matched: null, touched: new Set(), awaited: null, refusal: null, at });
+    Object.assign(this, { found: at("found"), status: at("status"), banner: at("shell"), marks: marksOf(undefined) });
+    const changed = (entity, list) => this.chosenChanged(entity, list);
+    this.chosen = new Chosen(changed, (entity) => this.mirror.isLive(entity));
+    this.wire = new Wire({
+      joined: (answer) => this.joined(answer), heard: (event) => this.heard(event), lost: (words) => this.lost(words),
+    });
+    this.makeParts();
+    at("help-open").addEventListener("click", () => at("help").showModal());
+    listenToKeys(this);
+    this.wire.join();
+  }
+
+  makeParts() {
+    this.panes = new Panes();
+    this.searching = new Search(this);
+    this.sights = new Sights(this);
     this.forest = new Forest(this);
     this.tables = new Tables(this);
     this.resources = new Resources(this);
     this.strip = new Strip(this);
+    this.undoing = new Undoing(this);
     this.detail = new Detail(this);
     this.systems = new Systems(this);
+    this.play = new Play(this);
     this.picture = new Picture(this);
     this.setup = new Setup(this);
     this.console = new Console(this);
     this.changes = new Changes(this);
-    this.search.addEventListener("input", () => this.touch(["search"]));
-    this.search.addEventListener("keydown", (event) => this.searchPressed(event));
-    at("help-open").addEventListener("click", () => at("help").showModal());
-    listenToKeys(this);
-    this.wire = new Wire({
-      joined: (answer) => this.joined(answer), heard: (event) => this.heard(event), lost: (words) => this.lost(words),
-    });
-    this.wire.join();
-  }
-
-  searchPressed(event) {
-    if (event.key === "Escape") this.search.value = "";
-    else if (event.key === "ArrowDown") this.forest.box.focus();
-    else return;
-    this.touch(["search"]);
-    event.preventDefault();
+    this.copies = new Copies(this);
+    this.files = new Files(this);
   }
 
   say(words, sort = "done") {
@@ -70,11 +83,15 @@ class Editor {
     const { mirror } = this;
     const live = counted(mirror.state.rows.size, "entity", "entities");
     const words = `The scene has ${live}, at tick ${mirror.state.tick}.`;
-    this.say(mirror.isSetup ? "A new scene: name its kinds first." : words);
+    this.say(mirror.isSetup ? "A new scene: choose its kinds first." : words);
   }
 
   take(scene) {
     this.touch(this.mirror.take(scene));
+    this.strip.forget();
+    this.searching.forget(null);
+    this.at("store").textContent = this.mirror.store;
+    document.title = `${this.mirror.store} – Scene editor`;
     if (this.isTaken) return;
     this.isTaken = true;
     if (this.mirror.state.rows.size > OPEN_UP_TO) this.tables.folds = newFolds(false);
@@ -83,14 +100,24 @@ class Editor {
 
   heard(event) {
     const { mirror } = this;
+    if (event.sort === "whole") return this.heardWhole(event);
     const lost = event.sort === "frame" ? mirror.records.length - mirror.position + mirror.later : 0;
     const number = mirror.numberOf(mirror.position + (event.sort === "undo" ? 0 : 1));
     this.touch(mirror.apply(event));
+    if (mirror.written !== null) this.searching.forget(mirror.written);
     const isMine = event.session === this.wire.session;
-    const words = eventText(event, isMine, { number, lost });
-    if (words !== null && !(isMine && this.systems.isPlaying)) this.say(words, isMine ? "done" : "other");
+    const text = eventText(event, isMine, { number, lost });
+    const words = text === null ? null : withNames(mirror, text);
+    if (words !== null && !(isMine && this.play.isPlaying)) this.say(words, isMine ? "done" : "other");
     if (event.sort === "shell") this.shellWords = event.words;
     if (event.sort === "shell" && event.state === "here") this.say(capital(event.words ?? "the shell is back"));
+  }
+
+  heardWhole(event) {
+    const before = { store: this.mirror.store, total: this.play.total() };
+    this.take(event.scene);
+    this.play.wasRead(before);
+    this.say(eventText(event, false, {}), "other");
   }
 
   lost(words) {
@@ -108,9 +135,17 @@ class Editor {
   // What the page sends
 
   // Sends lines and gives their answers; the first that was refused is told.
-  async ask(lines) {
+  async ask(lines, more) {
+    this.refusal = null;
     try {
-      const { answers, gone } = await this.wire.call(lines);
+      const { answers, gone, stale } = await this.wire.call(lines, more);
+      if (stale !== undefined) {
+        const [entity, kind] = stale;
+        const what = `${kind} of ${called(this.mirror, entity)}`;
+        this.refusal = `Not done: another session changed ${what} meanwhile. Look at it, and write again.`;
+        this.say(this.refusal, "refused");
+        return [];
+      }
       if (gone) {
         this.say("The shell ended while this was under way; what became of it is shown then.", "refused");
         return [];
@@ -118,6 +153,7 @@ class Editor {
       const told = answers.map((answer, at) => refusalText(answer, lines, at, this.mirror));
       const first = told.find((text) => text !== null);
       if (first !== undefined) this.say(first, "refused");
+      this.refusal = first ?? null;
       return answers;
     } catch (fault) {
       this.say(`Not sent: the server doesn't answer (${fault.message}).`, "refused");
@@ -126,31 +162,65 @@ class Editor {
   }
 
   // Whether all was done. `words` are said then, where no event says more.
-  async send(lines, words) {
-    const answers = await this.ask(lines);
+  async send(lines, words, more) {
+    const answers = await this.ask(lines, more);
     const isDone = answers.length > 0 && answers.every(({ answer }) => !["refused", "fault", "bad"].includes(answer));
     if (isDone && words !== undefined) this.say(words);
     return isDone;
   }
 
-  // Sends what stands in a field, which is empty from then on, but for a refusal: then it may be mended there.
+  // Sends what stands in a field, as one frame; the field is empty from then on, but for a refusal: then it may be
+  // mended there.
   async sendTyped(field, lines, words) {
     const typed = field.value;
     field.value = "";
-    if (!(await this.send(lines, words)) && field.value === "") field.value = typed;
+    wasSent(field);
+    const isDone = await this.send(this.asFrame(lines), words);
+    if (!isDone && field.value === "") field.value = typed;
+    if (!isDone) showFault(field, this.refusal ?? "It wasn't done.");
   }
 
-  sendFrame(commands) {
-    return this.send(commands.length === 1 ? commands : ["begin", ...commands, "commit"]);
+  asFrame(commands) {
+    return commands.length === 1 ? commands : ["begin", ...commands, "commit"];
   }
 
-  // Those that a key or a button is for: the chosen that live, or else the active line of the list that has the focus.
+  sendFrame(commands, more) {
+    return this.send(this.asFrame(commands), undefined, more);
+  }
+
+  // Sends commands as one frame with words of its own, and gives the entities that it spawned.
+  async askFrame(commands, words) {
+    return (await this.ask(["begin", ...commands, "commit"], { words })).at(-1)?.entities ?? [];
+  }
+
+  // Those that a key or a button is for: the chosen that live and that the search doesn't hide, or else the active line
+  // of the list that has the focus.
   targets() {
     const live = [...this.chosen.entities].filter((entity) => this.mirror.isLive(entity));
-    if (live.length > 0) return live;
+    if (live.length > 0) return live.filter((entity) => this.isInSearch(entity));
     const { list } = [this.forest, this.tables].find(({ box }) => box === document.activeElement) ?? {};
     const entity = list?.lines[list.active]?.entity;
     return entity === undefined ? [] : [entity];
+  }
+
+  isInSearch(entity) {
+    return this.shownInSearch === null || this.shownInSearch.has(entity);
+  }
+
+  // How many of the chosen the search hides.
+  hiddenTargets() {
+    return [...this.chosen.entities].filter((entity) => this.mirror.isLive(entity) && !this.isInSearch(entity)).length;
+  }
+
+  // Whether one of them is locked, which is told.
+  isLocked(entities) {
+    const locked = entities.some((entity) => this.sights.holds("locked", entity));
+    if (locked) this.say("Not moved: it is locked; k in the forest frees it.", "refused");
+    return locked;
+  }
+
+  openMenu(x, y) {
+    openMenu(x, y, "what can be done with the chosen", menuItems(this));
   }
 
   // What is drawn
@@ -162,12 +232,15 @@ class Editor {
   // In the list in which it was chosen it is in sight.
   chosenChanged(entity, list) {
     this.touch(["chosen"]);
-    this.awaited = { entity, list };
+    this.awaited = { entities: [entity], list };
   }
 
-  revealWhenThere(entity) {
+  // Chooses entities once the page has heard of them, but for a person who chose something else since they were asked
+  // for, which was the choice of so many times.
+  chooseWhenThere(entities, times) {
+    if (this.chosen.times !== times) return;
     this.touch([]);
-    this.awaited = { entity };
+    this.awaited = { entities, isToChoose: true };
   }
 
   // What the lines that are drawn show beside themselves.
@@ -193,26 +266,40 @@ class Editor {
     this.isDrawing = false;
     const has = (...names) => names.some((name) => touched.has(name));
     const { records, position } = this.mirror;
-    if (has("frames", "all") || this.marks === undefined) this.marks = marksOf(records[position - 1]);
+    if (has("frames", "all")) this.marks = marksOf(records[position - 1]);
+    if (has("all")) this.searching.showKinds();
     const isSearched = this.showFound(has);
-    if (isSearched || has("forest")) this.forest.show();
-    else if (has("frames", "chosen")) this.forest.list.draw();
+    if (isSearched || has("forest")) this.showForest();
+    else if (has("frames", "chosen", "sights")) this.forest.draw();
     if (isSearched || has("tables")) this.tables.show();
     else if (has("frames", "chosen")) this.tables.draw();
     if (has("frames", "all")) this.strip.show();
+    if (has("frames", "all", "sessions")) this.undoing.show();
     if (has("frames", "all")) this.resources.show();
     if (has("frames", "all", "chosen")) this.detail.show();
-    if (has("values", "chosen")) this.picture.show();
+    if (has("values", "sights", "all", "chosen")) this.picture.showSoon();
     if (has("phases")) this.systems.show();
     if (has("all")) this.setup.show();
     if (has("sessions")) this.showSessions();
-    if (this.awaited !== null && this.mirror.isLive(this.awaited.entity)) this.reveal(this.awaited);
+    const isThere = this.awaited?.entities.every((each) => this.mirror.isLive(each));
+    if (isThere) this.reveal(this.awaited);
+  }
+
+  showForest() {
+    this.forest.show();
+    const { matched, mirror } = this;
+    this.shownInSearch = matched === null ? null : new Set(this.forest.list.lines.map(({ entity }) => entity));
+    const isEmpty = this.forest.list.lines.length === 0;
+    const words = mirror.isSetup ? "Choose the kinds above first." : "Nothing here yet: write cells below, and Spawn.";
+    this.at("forest-empty").hidden = !isEmpty;
+    const none = "Nothing is found. Escape in the search shows all.";
+    this.at("forest-empty").textContent = matched === null ? words : none;
   }
 
   // Says what the search finds, and whether the lists have to be made anew for it.
   showFound(has) {
     const isAsked = has("search") || (this.matched !== null && has("values", "all"));
-    if (isAsked) this.matched = found(this.mirror.timeline, this.search.value);
+    if (isAsked) this.matched = this.searching.found();
     const live = this.mirror.state.rows.size;
     const all = counted(live, "entity", "entities");
     const words = this.matched === null ? all : `${this.matched.size} of ${all}`;
@@ -224,11 +311,15 @@ class Editor {
     const others = this.mirror.sessions.filter((session) => session !== this.wire.session && session !== 0);
     const are = `${others.map(who).join(", ")} ${others.length === 1 ? "is" : "are"} here too`;
     this.at("others").textContent = others.length === 0 ? "nobody else is here" : are;
+    this.at("others").title = this.at("others").textContent;
     this.showBanner();
   }
 
-  reveal({ entity, list }) {
+  reveal({ entities, list, isToChoose }) {
     this.awaited = null;
+    if (isToChoose) this.chosen.all(entities);
+    const entity = entities.at(-1);
+    if (isToChoose) this.awaited = null;
     for (const each of [this.forest, this.tables]) if (each.list !== list) each.reveal(entity);
   }
 }

@@ -1,5 +1,6 @@
 // The scene as the server has it: from a whole, and from the events after it. Nothing here draws.
 
+import { nameKind } from "./names.js";
 import { goTo, timelineOf } from "./state.js";
 import { framesOf } from "./words.js";
 
@@ -12,7 +13,7 @@ const BY_DELTA = {
 
 export class Mirror {
   constructor() {
-    const nothing = { kinds: [], frames: [], phases: [], sessions: [], older: 0, later: 0 };
+    const nothing = { kinds: [], frames: [], phases: [], sessions: [], older: 0, later: 0, store: "" };
     this.take({ ...nothing, setup: false, text: null, shell: "here" });
   }
 
@@ -26,8 +27,9 @@ export class Mirror {
 
   take(whole) {
     this.timeline = timelineOf(whole.text ?? { ...EMPTY, kinds: whole.kinds });
-    const { frames, phases, sessions, setup, shell, older = 0, later = 0 } = whole;
-    Object.assign(this, { frames, phases, sessions, isSetup: setup, shell, older, later, known: null });
+    const { frames, phases, sessions, setup, shell, store, older = 0, later = 0 } = whole;
+    Object.assign(this, { frames, phases, sessions, isSetup: setup, shell, store, older, later, known: null });
+    Object.assign(this, { nameKind: nameKind(this.kinds), written: null });
     return new Set(ALL);
   }
 
@@ -78,6 +80,7 @@ export class Mirror {
     goTo(timeline, timeline.position + by);
     const touched = new Set(["frames"]);
     for (const { op } of record.deltas) for (const name of BY_DELTA[op]) touched.add(name);
+    this.written = record.deltas.map(({ entity }) => entity);
     return touched;
   }
 

@@ -1,8 +1,10 @@
 // The resources: a value for each name, which is edited in place, dropped, or put anew.
 
 import { ListInSight } from "./in_sight.js";
+import { showFault } from "./field_faults.js";
 import { InPlace } from "./in_place.js";
 import { resourceLines } from "./lines.js";
+import { linkText, linkTyped } from "./links.js";
 import { button, part } from "./parts.js";
 import { cellWord, HINTS } from "./values.js";
 import { ticksText, valueText } from "./words.js";
@@ -18,7 +20,7 @@ export class Resources {
       select: (line, event, target) => this.selected(line, event, target),
       press: (event, line) => this.pressed(event, line),
     });
-    this.inPlace = new InPlace(this.list, (words, sort) => editor.say(words, sort));
+    this.inPlace = new InPlace(this.list, editor);
     at("resource-form").addEventListener("submit", (event) => this.putTyped(event));
     this.shape.addEventListener("change", () => this.hint());
     this.hint();
@@ -26,12 +28,14 @@ export class Resources {
 
   show() {
     this.list.show(resourceLines(this.editor.mirror.state));
+    document.getElementById("resources-empty").hidden = this.list.lines.length > 0;
     this.inPlace.follow();
   }
 
   fill(element, { name, cell: [shape, value, ...ticks] }) {
     const { resources } = this.editor.view().marks;
-    const text = shape === "Tag" ? "✓" : valueText(shape, value);
+    const { mirror } = this.editor;
+    const text = shape === "Tag" ? "✓" : shape === "Link" ? linkText(mirror, value) : valueText(shape, value);
     const cell = part("span", `text value${resources.has(name) ? " written" : ""}`, text);
     const drop = button("Drop", () => this.drop(name));
     drop.tabIndex = -1;
@@ -59,7 +63,9 @@ export class Resources {
     const cell = this.box.querySelector(".line.active .value");
     if (cell === null) return;
     this.inPlace.open(cell, {
-      key, shape, value, label: name, isThere: () => this.editor.mirror.state.resources.has(name),
+      key, shape, value, label: name, text: shape === "Link" ? linkText(this.editor.mirror, value) : undefined,
+      now: () => this.editor.mirror.state.resources.get(name)?.[1],
+      whose: () => "Another session",
       send: (typed) => (typed === false ? this.drop(name) : this.put(name, shape, typed)),
     });
   }
@@ -72,7 +78,8 @@ export class Resources {
   // Sends it, and answers why it can't be sent, or null.
   put(name, shape, typed) {
     if (name === "" || name.includes(" ")) return "a resource has a name of one word";
-    const { word, fault } = cellWord(shape, shape, typed);
+    const link = shape === "Link" ? linkTyped(this.editor.mirror, typed) : {};
+    const { word, fault } = link.fault === undefined ? cellWord(shape, shape, link.entity ?? typed) : link;
     if (fault !== undefined) return fault;
     this.editor.send([`put ${name} ${word}`]);
     return null;
@@ -81,8 +88,9 @@ export class Resources {
   putTyped(event) {
     event.preventDefault();
     const fault = this.put(this.name.value.trim(), this.shape.value, this.value.value);
-    if (fault !== null) this.editor.say(`Not sent: ${fault}.`, "refused");
-    else this.value.value = "";
+    if (fault === null) return void (this.value.value = "");
+    this.editor.say(`Not sent: ${fault}.`, "refused");
+    showFault(fault.startsWith("a resource") ? this.name : this.value, fault);
   }
 
   hint() {

@@ -1,6 +1,9 @@
-// The setup of a new scene: its kinds, until the first other line.
+// The setup of a new scene: its kinds, until the first other line; or an example, which is played into it.
 
+import { showFault } from "./field_faults.js";
 import { part } from "./parts.js";
+
+const LEVEL = ["Name Text", "Place Vec3", "Health Int", "Lit Tag", "Target Link"];
 
 export class Setup {
   constructor(editor) {
@@ -10,7 +13,9 @@ export class Setup {
     Object.assign(this, { name: at("setup-name"), shape: at("setup-shape") });
     this.form.addEventListener("submit", (event) => this.add(event));
     const words = "The kinds are complete; spawn the first entity.";
-    at("setup-end").addEventListener("click", () => editor.send(["show"], words));
+    at("setup-end").addEventListener("click", () => this.end(words));
+    at("setup-level").addEventListener("click", () => this.level());
+    for (const name of ["village", "meadow"]) at(`setup-${name}`).addEventListener("click", () => this.example(name));
   }
 
   show() {
@@ -22,13 +27,42 @@ export class Setup {
     this.kinds.replaceChildren(...(shown.length > 0 ? shown : ["No kinds yet"]));
   }
 
+  // Who went elsewhere before the answer came stays there.
+  async end(words) {
+    const before = document.activeElement;
+    const isEnded = await this.editor.send(["show"], words);
+    const isStill = [before, document.body].includes(document.activeElement);
+    if (isEnded && isStill) this.editor.changes.cells.focus();
+  }
+
   add(event) {
     event.preventDefault();
     const name = this.name.value.trim();
     const { editor } = this;
     const isWord = name !== "" && !name.includes(" ");
-    if (!isWord) return void editor.say("Not sent: a kind has a name of one word.", "refused");
+    if (!isWord) return void this.tellFault("a kind has a name of one word");
     this.name.focus();
     editor.sendTyped(this.name, [`kind ${name} ${this.shape.value}`], `The kind ${name} is there.`);
+  }
+
+  tellFault(words) {
+    showFault(this.name, words);
+    this.editor.say(`Not sent: ${words}.`, "refused");
+  }
+
+  level() {
+    const there = new Set(this.editor.mirror.kinds.map(([name]) => name));
+    const lines = LEVEL.filter((kind) => !there.has(kind.split(" ")[0])).map((kind) => `kind ${kind}`);
+    const words = "These kinds are there; add more, or say that they are complete.";
+    if (lines.length > 0) this.editor.send(lines, words);
+  }
+
+  async example(name) {
+    const { editor } = this;
+    if (editor.mirror.kinds.length > 0) return void editor.say("An example begins a scene without kinds.", "refused");
+    const answer = await fetch(`${name}.scene`);
+    if (!answer.ok) return void editor.say(`There is no example ${name} here.`, "refused");
+    const lines = (await answer.text()).split("\n").filter((line) => line !== "" && !line.startsWith("#"));
+    await editor.send(lines, `The example ${name} is there; undo goes back through it.`);
   }
 }

@@ -1,6 +1,9 @@
 // The tables: each kind set with its rows. Keys go from cell to cell, and a cell is edited in place by its shape.
 
 import { fillTable } from "./fills.js";
+import { linkText, linkTyped } from "./links.js";
+import { called } from "./names.js";
+import { part } from "./parts.js";
 import { ListInSight } from "./in_sight.js";
 import { InPlace } from "./in_place.js";
 import { isUnfolded, newFolds, tableLines, turn } from "./lines.js";
@@ -18,12 +21,18 @@ export class Tables {
       select: (line, event, target) => this.selected(line, event, target),
       press: (event, line) => this.pressed(event, line),
     });
-    this.inPlace = new InPlace(this.list, (words, sort) => editor.say(words, sort));
+    this.inPlace = new InPlace(this.list, editor);
+    this.empty = document.getElementById("tables-empty");
+    this.listenToDrops();
+    this.box.addEventListener("contextmenu", (event) => this.asked(event));
   }
 
   show() {
     const { mirror, matched } = this.editor;
-    this.list.show(tableLines(mirror.state, this.folds, matched));
+    const lines = tableLines(mirror.state, this.folds, matched);
+    this.list.show(lines);
+    this.empty.hidden = lines.length > 0;
+    this.empty.textContent = matched === null ? "No entities, so no tables." : "Nothing here is found.";
     this.draw();
   }
 
@@ -40,13 +49,49 @@ export class Tables {
     const column = Math.min(this.column, kinds.length - 1);
     [...element.children].forEach((cell, at) => {
       cell.setAttribute("role", line.sort === "table" ? "columnheader" : "gridcell");
-      if (at > 0 && line.sort === "row") cell.dataset.kind = this.editor.mirror.kinds[kinds[at - 1]][0];
+      if (at > 0 && line.sort === "row") this.fillCell(cell, line, kinds[at - 1]);
       cell.dataset.column = at - 1;
       if (line.sort === "row" && isActive && at - 1 === column) cell.classList.add("current");
     });
     if (line.sort === "row") element.setAttribute("aria-selected", this.editor.chosen.has(line.entity));
     const cell = line.sort === "row" && isActive ? element.children[column + 1] : undefined;
     if (cell !== undefined) cell.id = "tables-cell";
+  }
+
+  // A link stands by its name.
+  fillCell(cell, { row }, kind) {
+    const { mirror } = this.editor;
+    const [name, shape] = mirror.kinds[kind];
+    cell.dataset.kind = name;
+    if (shape !== "Link") return;
+    const [target] = row.cells.get(kind);
+    cell.replaceChildren(called(mirror, target), " ", part("span", "id", target));
+    if (linkText(mirror, target) === target) cell.replaceChildren(part("span", "id", target));
+  }
+
+  asked(event) {
+    event.preventDefault();
+    const { entity } = this.list.lineOf(event.target) ?? {};
+    if (entity !== undefined && !this.editor.chosen.has(entity)) this.editor.chosen.only(entity, this.list);
+    if (this.editor.chosen.entities.size > 0) this.editor.openMenu(event.clientX, event.clientY);
+  }
+
+  // What is dragged from the forest onto a link is what it then goes to.
+  listenToDrops() {
+    const { box, editor } = this;
+    const linkAt = (event) => {
+      const cell = event.target.closest?.("[data-kind]");
+      const isLink = cell && editor.mirror.shapeOf(cell.dataset.kind) === "Link";
+      return editor.forest.dragging !== undefined && isLink ? cell : null;
+    };
+    box.addEventListener("dragover", (event) => linkAt(event) !== null && event.preventDefault());
+    box.addEventListener("drop", (event) => {
+      const cell = linkAt(event);
+      if (cell === null) return;
+      event.preventDefault();
+      const { entity } = this.list.lineOf(cell);
+      this.write(entity, cell.dataset.kind, "Link", editor.forest.dragging[0]);
+    });
   }
 
   turn(line) {
@@ -104,21 +149,28 @@ export class Tables {
     cell.scrollIntoView({ block: "nearest", inline: "nearest" });
     const [name, shape] = mirror.kinds[kind];
     const { entity } = line;
+    const [value] = cells.get(kind);
     this.inPlace.open(cell, {
-      key: entity, shape, value: cells.get(kind)[0], kind: name, label: `${name} of ${entity}`,
-      isThere: () => mirror.state.rows.get(entity)?.cells.has(kind) === true,
+      key: entity, shape, value, kind: name, label: `${name} of ${called(mirror, entity)}`,
+      text: shape === "Link" ? linkText(mirror, value) : undefined,
+      now: () => mirror.state.rows.get(entity)?.cells.get(kind)?.[0],
+      whose: () => this.editor.detail.whoWrote(entity),
       send: (typed) => this.write(entity, name, shape, typed),
     });
   }
 
+  // Sends it, and answers why it can't be sent, or null.
   write(entity, name, shape, typed) {
     if (shape === "Tag") {
       if (typed === false) this.editor.send([`remove ${entity} ${name}`]);
       return null;
     }
-    const { word, fault } = cellWord(name, shape, typed);
+    const { mirror } = this.editor;
+    const link = shape === "Link" ? linkTyped(mirror, typed) : {};
+    const { word, fault } = link.fault === undefined ? cellWord(name, shape, link.entity ?? typed) : link;
     if (fault !== undefined) return fault;
-    this.editor.send([`insert ${entity} ${word}`]);
+    const [, , tick] = mirror.state.rows.get(entity)?.cells.get(mirror.kindNamed(name)) ?? [];
+    this.editor.sendFrame([`insert ${entity} ${word}`], { seen: [[entity, name, tick]] });
     return null;
   }
 }

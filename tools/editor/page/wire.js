@@ -1,6 +1,7 @@
 // The page's speech with the server: it joins as a session, sends lines, and hears events.
 
 const AGAIN_AFTER = 1000;
+const FULL_AGAIN_AFTER = 2000;
 // A browser keeps six connections to a server, and each tab that listens has one. So one that isn't looked at stops.
 const STOP_HIDDEN_AFTER = 30000;
 
@@ -44,7 +45,10 @@ export class Wire {
     const { tab } = this;
     try {
       const answer = await this.post("join", before === null ? { tab } : { tab, session: Number(before) });
-      if (answer.refused !== undefined) return void this.lost(`${answer.refused}. Close one, and load this again.`);
+      if (answer.refused !== undefined) {
+        this.lost(`${answer.refused}. Close one; this one tries again.`);
+        return void setTimeout(() => this.join(), FULL_AGAIN_AFTER);
+      }
       this.session = answer.session;
       this.seat = answer.seat;
       this.after = answer.scene.sequence;
@@ -89,11 +93,23 @@ export class Wire {
     }
   }
 
-  // The lines go as one, after those that were sent before.
-  call(lines) {
-    const answer = this.last.then(() => this.post("call", { session: this.session, lines }));
+  // The lines go as one, after those that were sent before. `words` are those of the frame that they are, and `seen`
+  // has entities with a kind and the tick at which its cell was seen to have changed: where one is newer, nothing is
+  // done.
+  call(lines, { words, seen } = {}) {
+    const answer = this.last.then(() => this.post("call", { session: this.session, lines, words, seen }));
     this.last = answer.catch(() => {});
     return answer;
+  }
+
+  // So many frames from one on, of which 0 is the newest of the past; `again` where more has happened since.
+  frames(first, count) {
+    return this.post("frames", { after: this.after, first, count });
+  }
+
+  // Does something with the store as a file, or says why not as `refused`.
+  file(what, name = "") {
+    return this.post("file", { session: this.session, what, name });
   }
 
   // A page that goes may have lost its stream by then.
