@@ -8,9 +8,10 @@ use Rattle.std.proofs.lemmas.List.Folds.{list_any-append}
 use Rattle.std.proofs.lemmas.Option.{slice_get-get_or, slice_get_past}
 use Rattle.scene_kinds.specs.declared.entity.Entity.{Entity}
 use Rattle.scene_alloc.specs.Ends.{last, front}
-use Rattle.scene_alloc.specs.Slots.{SlotState, CanUntake, CanUnrelease, SameElsewhere, IsUnused, retires, take_of, untake_of, release_of, unrelease_of}
+use Rattle.scene_alloc.specs.Slots.{SlotState, SameElsewhere, IsUnused, retires, take_of, untake_of, release_of, unrelease_of}
 use Rattle.scene_alloc.proofs.Ends.{push-last}
 use Rattle.scene_alloc.proofs.Moves.{take_cases, freed, fresh_last, fresh_length}
+use Rattle.scene_alloc.proofs.SlotParts.{CanUntake, CanUnrelease}
 
 -- a number that isn't the one pushed is in the list as before
 any_push : (xs : List ℕ) (x i : ℕ) → i ≢ x → list_any (nat_eq i) (xs ++ x ∷ []) ≡ list_any (nat_eq i) xs

@@ -15,8 +15,9 @@ use Rattle.scene_kinds.specs.declared.entity.Entity.{Entity}
 use Rattle.scene_kinds.specs.Answers.{Outcome, refuse}
 use Rattle.scene_kinds.specs.declared.fault.Fault.TheVariants.{EntitiesFull}
 use Rattle.scene_alloc.specs.Ends.{last, front}
-use Rattle.scene_alloc.specs.Slots.{SlotState, IsSlots, CanRelease, CanUntake, CanUnrelease, IsRaised, takes_new_slot, retires, highest, most_slots, new_slots, take_from, take_of, untake_of, release_of, unrelease_of}
+use Rattle.scene_alloc.specs.Slots.{SlotState, IsSlots, takes_new_slot, retires, highest, most_slots, new_slots, take_from, take_of, untake_of, release_of, unrelease_of}
 use Rattle.scene_alloc.proofs.Ends.{last-push, front-push, push-last, last-None, distinct_before}
+use Rattle.scene_alloc.proofs.SlotParts.{CanRelease, CanUntake, CanUnrelease, IsRaised}
 
 -- the entity and the state of a take that reuses an index, and of one that makes a new slot
 abbrev pub reused : SlotState → ℕ → Entity

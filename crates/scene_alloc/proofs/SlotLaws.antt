@@ -3,9 +3,10 @@ use Rattle.std.proofs.Common.{◌≡◌, ℕ, ◌<◌, ◌≤◌, nat_eq, List, 
 use Rattle.std.specs.List.{IsDistinct}
 use Rattle.scene_kinds.specs.declared.entity.Entity.{Entity}
 use Rattle.scene_alloc.specs.Ends.{last, front}
-use Rattle.scene_alloc.specs.Slots.{SlotState, IsSlots, CanRelease, CanUntake, takes_new_slot, take_of, release_of}
+use Rattle.scene_alloc.specs.Slots.{SlotState, IsSlots, takes_new_slot, take_of, release_of}
 use Rattle.scene_alloc.proofs.Ends as ends
 use Rattle.scene_alloc.proofs.Moves as moves
+use Rattle.scene_alloc.proofs.SlotParts.{CanRelease, CanUntake}
 pub use Rattle.scene_alloc.proofs.Ends.{last-push}
 pub use Rattle.scene_alloc.proofs.Elsewhere.{SameElsewhere-untake, SameElsewhere-unrelease}
 pub use Rattle.scene_alloc.proofs.Moves.{IsSlots-untake, fresh_length, takes_new_slot-untake, take-untake, untake-take, CanRelease-unrelease, CanUnrelease-release, IsSlots-unrelease, release-unrelease, unrelease-release}

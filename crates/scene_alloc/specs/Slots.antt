@@ -1,6 +1,8 @@
 -- The slots of entities: the generations by index, the free list, and the four moves on them.
-use Rattle.std.specs.Prelude.{◌≡◌, ◌≢◌, ◌⊎◌, ℕ, ◌+◌, ◌≤◌, ◌<◌, Bool, true, false, if◌then◌else◌, nat_eq, nat_lt, List, [], ◌∷◌, ◌++◌, length, slice_get, slice_index, slice_set, Option, Some, None, Ok, All}
+use Rattle.std.specs.Prelude.{◌≡◌, ◌≢◌, ◌⊎◌, ℕ, ◌+◌, ◌≤◌, ◌<◌, Bool, true, false, not, ◌&&◌, ◌||◌, if◌then◌else◌, nat_eq, nat_lt, nat_le, List, [], ◌∷◌, ◌++◌, length, slice_get, slice_index, slice_set, Option, Some, None, Ok, All}
+use Rattle.std.specs.Bool.{beq}
 use Rattle.std.specs.List.{list_any, IsDistinct}
+use Rattle.std.specs.Option.{option_eq}
 use Rattle.scene_kinds.specs.declared.entity.Entity.{Entity}
 use Rattle.scene_kinds.specs.declared.fault.Fault.TheVariants.{EntitiesFull}
 use Rattle.scene_kinds.specs.Answers.{Outcome, refuse}
@@ -94,34 +96,30 @@ pub record IsSlots (s : SlotState) : Type 0 where
   pub in_range : All (λ i. i < length s.generations) s.free
   pub distinct : IsDistinct nat_eq s.free
 
+-- a slot has this generation
+abbrev pub has_generation : SlotState → ℕ → ℕ → Bool
+has_generation s index generation = option_eq nat_eq (slice_get s.generations index) (Some generation)
+
 -- an entity may be released: it has its slot's generation, and its index isn't free
-pub record CanRelease (s : SlotState) (e : Entity) : Type 0 where
-  pub current : slice_get s.generations e.index ≡ Some e.generation
-  pub not_free : is_free s e.index ≡ false
+abbrev pub can_release : SlotState → Entity → Bool
+can_release s e = has_generation s e.index e.generation && not (is_free s e.index)
 
 -- an entity has the last slot, just made, as where no index was free
-pub record IsFresh (s : SlotState) (e : Entity) : Type 0 where
-  pub none_free : s.free ≡ []
-  pub last_slot : e.index + 1 ≡ length s.generations
-  pub first : e.generation ≡ 1
+abbrev pub is_fresh : SlotState → Entity → Bool
+is_fresh s e = takes_new_slot s && nat_eq (e.index + 1) (length s.generations) && nat_eq e.generation 1
 
 -- the state after a take of this entity, from a new slot or not
-pub record CanUntake (s : SlotState) (e : Entity) (fresh : Bool) : Type 0 where
-  pub current : slice_get s.generations e.index ≡ Some e.generation
-  pub not_free : is_free s e.index ≡ false
-  pub newest : fresh ≡ true → IsFresh s e
+abbrev pub can_untake : SlotState → Entity → Bool → Bool
+can_untake s e fresh = can_release s e && (not fresh || is_fresh s e)
 
 -- an index was released last: it is the last free one, and its generation is one above the entity's
-pub record IsRaised (s : SlotState) (e : Entity) : Type 0 where
-  pub last_free : last s.free ≡ Some e.index
-  pub raised : slice_get s.generations e.index ≡ Some (e.generation + 1)
+abbrev pub is_raised : SlotState → Entity → Bool
+is_raised s e = option_eq nat_eq (last s.free) (Some e.index) && has_generation s e.index (e.generation + 1)
 
 -- the state after a release of this entity, which retired its index or not
-pub record CanUnrelease (s : SlotState) (e : Entity) (retired : Bool) : Type 0 where
-  pub begun : 1 ≤ e.generation
-  pub flag : retired ≡ retires e
-  pub kept : retired ≡ true → CanRelease s e
-  pub raised : retired ≡ false → IsRaised s e
+abbrev pub can_unrelease : SlotState → Entity → Bool → Bool
+can_unrelease s e retired =
+    nat_le 1 e.generation && beq retired (retires e) && (if retired then can_release s e else is_raised s e)
 
 -- another state of the same slots, but for one index: every other one has its generation, and is free or not as before
 pub record SameElsewhere (s t : SlotState) (index : ℕ) : Type 0 where

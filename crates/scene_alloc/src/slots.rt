@@ -1,7 +1,7 @@
 //! The slots of entities: generations by index, and the free list.
 ghost use Rattle.std.specs.Prelude.{◌≡◌, ◌≤◌, ◌↔◌, [], length, slice_get, true, false, Ok, IsTrue, IfOk, IsOk, OnOk};
 ghost use Rattle.scene_kinds.specs.Answers.{Answers, Gives};
-ghost use Rattle.scene_alloc.specs.Slots.{IsSlots, CanRelease, CanUntake, CanUnrelease, HasRoom, most_slots, new_slots, slots_of, takes_new_slot, take_of, untake_of, release_of, unrelease_of, retires};
+ghost use Rattle.scene_alloc.specs.Slots.{IsSlots, can_release, can_untake, can_unrelease, HasRoom, most_slots, new_slots, slots_of, takes_new_slot, take_of, untake_of, release_of, unrelease_of, retires};
 
 use scene_kinds::{Entity, Fault, Refusal};
 use std::alloc::{AllocError, Global};
@@ -120,7 +120,7 @@ impl Slots {
     /// reused index is the last free one again. Its state must be one after such a take. It takes no
     /// memory and leaves the room of the slot behind.
     pub fn untake(&mut self, entity: Entity, fresh: bool)
-        requires { CanUntake self.old.state entity fresh }
+        requires { can_untake self.old.state entity fresh ≡ true }
         ensures state { self.new.state ≡ untake_of self.old.state entity fresh }
         ensures room { self.new.capacity ≡ self.old.capacity }
     {
@@ -137,7 +137,7 @@ impl Slots {
     ///
     /// It takes no memory.
     pub fn release(&mut self, entity: Entity) -> bool
-        requires { CanRelease self.old.state entity }
+        requires { can_release self.old.state entity ≡ true }
         ensures state { self.new.state ≡ release_of self.old.state entity }
         ensures retired { result ≡ retires entity }
         ensures room { self.new.capacity ≡ self.old.capacity }
@@ -154,7 +154,7 @@ impl Slots {
     /// entity's generation again, and the index, the last free one, isn't free. Its state must be one
     /// after such a release. It takes no memory.
     pub fn unrelease(&mut self, entity: Entity, retired: bool)
-        requires { CanUnrelease self.old.state entity retired }
+        requires { can_unrelease self.old.state entity retired ≡ true }
         ensures state { self.new.state ≡ unrelease_of self.old.state entity retired }
         ensures room { self.new.capacity ≡ self.old.capacity }
     {

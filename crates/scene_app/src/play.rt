@@ -3,29 +3,29 @@ ghost use Rattle.std.specs.Prelude.{◌≡◌, ◌+◌, ◌<◌, ◌≤◌, ◌^
 ghost use Rattle.std.specs.Str.Lines.{lines};
 ghost use Rattle.scene_json.specs.Texts.{Adds};
 ghost use Rattle.scene_streams.specs.Limits.{most_bytes};
-ghost use Rattle.scene_interpreter.specs.Interpreter.{owner_of, interpreter_of, interpreter_reply};
+ghost use Rattle.scene_interpreter.specs.Interpreter.{interpreter_reply, owner_of, reached};
 ghost use Rattle.scene_app.specs.Play.{printed, printed_from};
 ghost use Rattle.scene_app.specs.Reports.{no_bad_lines};
 ghost use Rattle.scene_app.specs.Steps.{LinePlayed, noted};
 
 use crate::report::Reports;
-use scene_interpreter::Interpreter;
+use scene_interpreter::{Interpreter, ScriptOwner};
 use scene_script::first_line;
-use scene_session::{Performer, SessionOwner};
+use scene_session::Performer;
 use std::alloc::{AllocError, Global};
 
 /// Plays a line, and notes it where it is bad.
-fn play_line<P: Performer>(
+fn play_line<O: ScriptOwner, P: Performer<O>>(
     performer: &P,
-    interpreter: &mut Interpreter,
+    interpreter: &mut Interpreter<O>,
     number: usize,
     bytes: &[u8],
     out: &mut String,
     reports: &mut Reports,
 ) -> Result<(), AllocError>
     requires { reports.old.count + 1 < 2 ^ 64 }
-    ensures played { OnOk result (LinePlayed (string_bytes out.old) (string_bytes out.new) reports.old reports.new (interpreter_of interpreter.new) number
-        (interpreter_reply (interpreter_of interpreter.old) bytes.now)) }
+    ensures played { OnOk result (LinePlayed (string_bytes out.old) (string_bytes out.new) reports.old reports.new
+        (reached O.state O.most interpreter.new) number (interpreter_reply (reached O.state O.most interpreter.old) bytes.now)) }
     ensures few { OnOk result (reports.new.count ≤ reports.old.count + 1) }
 {
     match interpreter.line(performer, bytes, out) {
@@ -35,18 +35,19 @@ fn play_line<P: Performer>(
 }
 
 /// Plays the lines of a script from its first.
-fn play_lines<P: Performer>(
+fn play_lines<O: ScriptOwner, P: Performer<O>>(
     performer: &P,
-    interpreter: &mut Interpreter,
+    interpreter: &mut Interpreter<O>,
     script: &[u8],
     out: &mut String,
     reports: &mut Reports,
 ) -> Result<(), AllocError>
     requires none { reports.old ≡ no_bad_lines }
     requires room { length script.now ≤ most_bytes }
-    ensures text { OnOk result (Adds out.old out.new ((printed_from 1 (interpreter_of interpreter.old) (lines script.now)).text)) }
-    ensures bad { OnOk result (reports.new ≡ noted no_bad_lines (printed_from 1 (interpreter_of interpreter.old) (lines script.now)).bad) }
-    ensures owner { OnOk result (owner_of (interpreter_of interpreter.new) ≡ (printed_from 1 (interpreter_of interpreter.old) (lines script.now)).owner) }
+    ensures text { OnOk result (Adds out.old out.new ((printed_from 1 (reached O.state O.most interpreter.old) (lines script.now)).text)) }
+    ensures bad { OnOk result (reports.new ≡ noted no_bad_lines (printed_from 1 (reached O.state O.most interpreter.old) (lines script.now)).bad) }
+    ensures owner { OnOk result (owner_of (reached O.state O.most interpreter.new)
+        ≡ (printed_from 1 (reached O.state O.most interpreter.old) (lines script.now)).owner) }
     ensures few { OnOk result (reports.new.count ≤ length script.now) }
 {
     let mut rest = script;
@@ -64,16 +65,16 @@ fn play_lines<P: Performer>(
 ///
 /// Want of memory ends it with an error, and then a part of the text may be there. Each line costs what it asks for. It
 /// gives the sessions with their state, and the bad lines.
-pub(crate) fn play_script<P: Performer>(
+pub(crate) fn play_script<O: ScriptOwner, P: Performer<O>>(
     performer: &P,
     alloc: Global,
     script: &[u8],
     out: &mut String,
-) -> Result<(SessionOwner, Reports), AllocError>
+) -> Result<(O, Reports), AllocError>
     requires { length script.now ≤ most_bytes }
     ensures text { IfOk result (λ p. Adds out.old out.new ((printed script.now).text)) }
     ensures bad { IfOk result (λ p. p.1 ≡ noted no_bad_lines (printed script.now).bad) }
-    ensures owner { IfOk result (λ p. p.0 ≡ (printed script.now).owner) }
+    ensures owner { IfOk result (λ p. O.state p.0 ≡ (printed script.now).owner) }
     ensures few { IfOk result (λ p. p.1.count ≤ length script.now) }
 {
     let mut reports = Reports::new(alloc);

@@ -12,7 +12,7 @@ ghost use Rattle.scene_shell.specs.declared.fault.AppFault.TheVariants.{NoMemory
 use crate::play::play_script;
 use crate::report::BadLineReport;
 use scene_lock::{Pass, WordLock};
-use scene_session::{OnThreads, Performer, State};
+use scene_session::{OnThreads, Performer, SharedOwner, State};
 use scene_shell::AppFault;
 use scene_streams::{Sink, Source};
 use std::alloc::Global;
@@ -34,8 +34,8 @@ pub struct RunEnd {
 }
 
 /// What a script's bytes print, its bad lines, and what it leaves.
-#[tactic(auto, using(crate::proofs::LockedLaws::has_lock, crate::proofs::ReportLaws::noted_all))]
-fn played<P: Performer>(
+#[tactic(auto, using(crate::proofs::ReportLaws::noted_all))]
+fn played<P: Performer<SharedOwner>>(
     performer: &P,
     alloc: Global,
     script: &[u8],
@@ -48,11 +48,8 @@ fn played<P: Performer>(
     ensures memory { IfErr result (λ f. f ≡ NoMemory) }
 {
     let mut out = String::new(alloc);
-    let (owner, reports) = play_script(performer, alloc, script, &mut out)?;
-    // The owner of a script has a lock.
-    let Some((lock, passes)) = owner.into_parts() else {
-        unreachable!()
-    };
+    let (owner, reports): (SharedOwner, _) = play_script(performer, alloc, script, &mut out)?;
+    let (lock, passes) = owner.into_parts();
     let end = RunEnd {
         bad_lines: reports.count() as u32,
         reports: reports.into_first(),

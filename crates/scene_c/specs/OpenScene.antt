@@ -1,5 +1,5 @@
 -- What an open scene keeps of its last call, and what it reads of its scene.
-use Rattle.std.specs.Prelude.{◌≡◌, ⊤, ℕ, ℤ, List, [], ◌∷◌, Option, Some, None, Result, Ok, Err, pos, string_bytes}
+use Rattle.std.specs.Prelude.{◌≡◌, ℕ, ℤ, List, [], ◌∷◌, Option, Some, None, Result, Ok, Err, pos, string_bytes}
 use Rattle.scene_kinds.specs.declared.cell.Cell.{Cell}
 use Rattle.scene_kinds.specs.declared.value.Value.{Value}
 use Rattle.scene_kinds.specs.declared.value.Value.TheVariants.{Tag, Int, Vec3, Text, Link}
@@ -11,7 +11,7 @@ use Rattle.scene_pass.specs.declared.cell_name.CellName.{CellName}
 use Rattle.scene_session.specs.Calls.{Done, Refused}
 use Rattle.scene_session.specs.Owner.{machine_at}
 use Rattle.scene_interpreter.specs.Answer.{said_of}
-use Rattle.scene_interpreter.specs.Interpreter.{Interpreter, LineReply, Setting, Playing, Tells, halted, owner_of, lone_interpreter, interpreter_of}
+use Rattle.scene_interpreter.specs.Interpreter.{Interpreter, LineReply, Tells, halted, owner_of, lone_interpreter, interpreter_of}
 use Rattle.scene_interpreter.specs.Said.{Said, Nothing, Called, Changed, Added, refused}
 use Rattle.scene_interpreter.specs.declared.halt.Halt.{Halt}
 use Rattle.scene_interpreter.specs.declared.halt.Halt.TheVariants.{After}
@@ -31,11 +31,6 @@ KeepsAnswer old new = (new.answer ≡ old.answer) × (string_bytes new.text ≡ 
 abbrev pub HasHalted : Halt → (old new : OpenScene) → LineReply → Type 0
 HasHalted After old new r = Tells new.answer (interpreter_of new.interpreter) r × (string_bytes new.text ≡ [])
 HasHalted h old new r = (interpreter_of new.interpreter ≡ halted h (interpreter_of old.interpreter) r.interpreter) × KeepsAnswer old new
-
--- the setup isn't over
-abbrev pub IsSetting : Interpreter → Type 0
-IsSetting (Setting s) = ⊤
-IsSetting (Playing s) = ⊥
 
 -- the world now
 abbrev pub world_of : OpenScene → World

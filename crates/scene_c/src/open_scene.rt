@@ -1,22 +1,22 @@
 //! The open scene: an interpreter and its last answer.
-ghost use Rattle.std.specs.Prelude.{◌≡◌, ◌++◌, ◌∷◌, [], OnErr, OnOk, true, string_bytes};
-ghost use Rattle.scene_interpreter.specs.Interpreter.{owner_of, lone_interpreter, interpreter_of};
+ghost use Rattle.std.specs.Prelude.{◌≡◌, ◌++◌, ◌∷◌, [], OnErr, OnOk, string_bytes};
+ghost use Rattle.scene_interpreter.specs.Interpreter.{interpreter_of, lone_interpreter};
 ghost use Rattle.scene_interpreter.specs.declared.answer.LineAnswer.TheVariants.{Nothing};
 
 use scene_interpreter::{Interpreter, InterpreterSettings, LineAnswer};
 use scene_kinds::Value;
+use scene_session::LoneOwner;
 use std::alloc::{AllocError, Global};
 use std::mem;
 
-/// An interpreter that is alone, its last answer, the text of that answer where one was asked for, and the components
+/// An interpreter without a lock, its last answer, the text of that answer where one was asked for, and the components
 /// that the next spawn is given.
 #[derive(Drop)]
 pub struct OpenScene {
-    pub(crate) interpreter: Interpreter,
+    pub(crate) interpreter: Interpreter<LoneOwner>,
     pub(crate) answer: LineAnswer,
     pub(crate) text: String,
     pub(crate) cells: Vec<(u8, Value)>,
-    ghost alone: { (owner_of (interpreter_of interpreter)).is_alone ≡ true },
 }
 
 impl OpenScene {

@@ -3,9 +3,9 @@ ghost use Rattle.std.specs.Prelude.{◌≡◌, ◌≢◌, IfErr, IfNone, IfOk, I
 ghost use Rattle.scene_kinds.specs.Cells.{shown};
 ghost use Rattle.scene_model.specs.World.{component_of};
 ghost use Rattle.scene_interpreter.specs.Answer.{said_of};
-ghost use Rattle.scene_interpreter.specs.Interpreter.{Interpreter as Reached, begun, halted, interpreter_of};
+ghost use Rattle.scene_interpreter.specs.Interpreter.{Interpreter as Reached, IsSetting, begun, halted, interpreter_of};
 ghost use Rattle.scene_interpreter.specs.declared.halt.Halt.TheVariants.{After};
-ghost use Rattle.scene_c.specs.OpenScene.{HasRead, IsSetting, KeepsAnswer, made_in, named_in, refusal_in, world_of};
+ghost use Rattle.scene_c.specs.OpenScene.{HasRead, KeepsAnswer, made_in, named_in, refusal_in, world_of};
 
 use crate::open_scene::OpenScene;
 use crate::reading::Reading;

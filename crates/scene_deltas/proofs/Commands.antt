@@ -5,9 +5,9 @@ use Rattle.scene_kinds.specs.declared.entity.Entity.{Entity}
 use Rattle.scene_kinds.specs.declared.cell.Cell.{Cell}
 use Rattle.scene_kinds.specs.declared.value.Value.{Value}
 use Rattle.scene_kinds.specs.Answers.{Outcome}
-use Rattle.scene_kinds.specs.Cells.{cell_of}
+use Rattle.scene_kinds.specs.Cells.{new_cell, cell_of}
 use Rattle.scene_kinds.specs.Ranges.{is_in_range}
-use Rattle.scene_alloc.specs.Slots.{retires}
+use Rattle.scene_alloc.specs.Slots.{retires, takes_new_slot}
 use Rattle.scene_links.specs.Forest.{link_in, post}
 use Rattle.scene_model.specs.World.{World, is_live}
 use Rattle.scene_model.specs.Commands.{new_cells, spawn, despawn, despawn_recursive, despawn_recursive_if_alive, insert, remove, set_parent, remove_parent, put_resource, remove_resource}
@@ -18,6 +18,7 @@ use Rattle.scene_model.specs.RawLists.{CutNote, CanCutNoted, cut_noted, MayAll, 
 use Rattle.scene_model.specs.Valid.{IsValid}
 use Rattle.scene_model.proofs.ListBack.{recursive_cuts}
 use Rattle.scene_model.proofs.Outcomes.{not_ok, same_world}
+use Rattle.scene_model.proofs.CanParts.{put, cut_out, shift}
 use Rattle.scene_model.proofs.PartCommands.{set_parent_sets_link, remove_parent_sets_link, put_sets_resource, remove_sets_resource}
 use Rattle.scene_model.proofs.RowCommands.{spawn_puts, despawn_cuts, insert_shifts_or_sets, remove_shifts}
 use Rattle.scene_model.proofs.RowOf.{has_cell}
@@ -41,24 +42,26 @@ answered f (Err r) b v h = absurd (not_ok (b, v) r h)
 pub spawn_leads : (w v : World) (given : List (ℕ × Value)) (e : Entity) → IsValid w → spawn w given ≡ Ok (e, v) → LeadTo (deltas_of w (Spawn given)) w v
 spawn_leads w v given e valid is =
     let puts = spawn_puts w v given e valid is in
-    one_leads _ _ w v (ap (spawned w (new_cells w.tick given)) puts.0.next) puts.0 puts.1
+    one_leads _ _ w v (ap (spawned w (new_cells w.tick given)) ((put w e (new_cells w.tick given) (takes_new_slot w.slots)).0 puts.0).next) puts.0 puts.1
 
 pub despawn_leads : (w v : World) (e : Entity) → IsValid w → despawn w e ≡ Ok (tt, v) → LeadTo (deltas_of w (Despawn e)) w v
 despawn_leads w v e valid is =
     let cuts = despawn_cuts w v e valid is in
+    let can = (cut_out w e cuts.0 (cells_of w e) (link_in w.children e) (retires e)).0 cuts.1.0 in
     one_leads (Despawned e cuts.0 (cells_of w e) (link_in w.children e) (retires e)) _ w v
-    (ap (λ o. of_row o (λ place cells. Despawned e place cells (link_in w.children e) (retires e) ∷ [])) cuts.1.0.row) cuts.1.0 cuts.1.1
+    (ap (λ o. of_row o (λ place cells. Despawned e place cells (link_in w.children e) (retires e) ∷ [])) can.row) cuts.1.0 cuts.1.1
 
 -- rows that are cut one after another
 cuts_lead : (notes : List CutNote) (w v : World) → MayAll CanCutNoted cut_noted notes w → v ≡ after_all cut_noted notes w → LeadTo (despawned_each (map (λ (n : CutNote). n.entity) notes) w) w v
 cuts_lead [] w v can is = record { fit = tt; made = is }
 cuts_lead (n ∷ ns) w v can is =
     let rest = cuts_lead ns (cut_noted n w) v can.1 is in
+    let one = (cut_out w n.entity n.place n.cells n.link n.retired).0 can.0 in
     let others = despawned_each (map (λ (n : CutNote). n.entity) ns) (cut_noted n w) in
     let noted : List Delta = Despawned n.entity n.place n.cells n.link n.retired ∷ others in
     let first : despawned_each (map (λ (n : CutNote). n.entity) (n ∷ ns)) w ≡ noted =
-    ap (λ o. of_row o (λ place cells. Despawned n.entity place cells (link_in w.children n.entity) (retires n.entity) ∷ []) ++ others) can.0.row
-    ∙ (λ i. Despawned n.entity n.place n.cells (can.0.linked i) (sym can.0.retires i) ∷ others) in
+    ap (λ o. of_row o (λ place cells. Despawned n.entity place cells (link_in w.children n.entity) (retires n.entity) ∷ []) ++ others) one.row
+    ∙ (λ i. Despawned n.entity n.place n.cells (one.linked i) (sym one.retires i) ∷ others) in
     subst (λ ds. LeadTo ds w v) (sym first) (record { fit = (can.0, rest.fit); made = rest.made })
 
 pub recursive_leads : (w v : World) (e : Entity) → IsValid w → despawn_recursive w e ≡ Ok (tt, v) → LeadTo (despawned_each (post w.children e) w) w v
@@ -79,7 +82,7 @@ if_alive_leads w v e valid is = from (is_live w e) is
 inserts_lead : (w v : World) (e : Entity) (kind : ℕ) (value : Value) (o : Option Cell) → cell_of (cells_of w e) kind ≡ o → Inserts w v e kind value o → LeadTo (deltas_of w (Insert e kind value)) w v
 inserts_lead w v e kind value None absent made =
     one_leads (inserted w.tick e kind value made.0 None) _ w v
-    (ap (λ o. of_row o (λ place cells. inserted w.tick e kind value place (cell_of cells kind) ∷ [])) made.1.0.row
+    (ap (λ o. of_row o (λ place cells. inserted w.tick e kind value place (cell_of cells kind) ∷ [])) ((shift w e made.0 kind (new_cell w.tick value) true).0 made.1.0).row
     ∙ ap (λ c. inserted w.tick e kind value made.0 c ∷ []) absent)
     made.1.0 made.1.1
 inserts_lead w v e kind value (Some c) there made =
@@ -92,9 +95,10 @@ inserts_lead w v e kind value (Some c) there made =
 pub remove_leads : (w v : World) (e : Entity) (kind : ℕ) → IsValid w → remove w e kind ≡ Ok (tt, v) → LeadTo (deltas_of w (Remove e kind)) w v
 remove_leads w v e kind valid is =
     let shifts = remove_shifts w v e kind valid is in
+    let can = (shift w e shifts.0 kind shifts.1.0 false).0 shifts.1.1.0 in
     one_leads (Shifted e shifts.0 kind shifts.1.0 false) _ w v
-    (ap (λ o. of_row o (λ place cells. of_cell (cell_of cells kind) (λ c. Shifted e place kind c false))) shifts.1.1.0.row
-    ∙ ap (λ c. of_cell c (λ c. Shifted e shifts.0 kind c false)) shifts.1.1.0.moves)
+    (ap (λ o. of_row o (λ place cells. of_cell (cell_of cells kind) (λ c. Shifted e place kind c false))) can.row
+    ∙ ap (λ c. of_cell c (λ c. Shifted e shifts.0 kind c false)) can.moves)
     shifts.1.1.0 shifts.1.1.1
 
 pub insert_leads : (w v : World) (e : Entity) (kind : ℕ) (value : Value) → IsValid w → insert w e kind value ≡ Ok (tt, v) → LeadTo (deltas_of w (Insert e kind value)) w v

@@ -11,9 +11,9 @@ use Rattle.scene_table.specs.declared.home.Home.{Home}
 use Rattle.scene_table.specs.Table.{TableState}
 use Rattle.scene_table.specs.Tables.{rows_at, row_for, home_for}
 use Rattle.scene_model.specs.World.{World, row_of}
-use Rattle.scene_model.specs.Can.{HasRow, HasLastRow}
 use Rattle.scene_model.specs.Raw.{listed_cells, cells_of}
 use Rattle.scene_model.specs.Valid.{IsValid}
+use Rattle.scene_model.proofs.CanParts.{HasRow, HasLastRow}
 use Rattle.scene_model.proofs.LastRows.{last_home, last_row_there}
 use Rattle.scene_model.proofs.RowOf.{row_stands, row_there}
 use Rattle.scene_deltas.specs.Standing.{Stands}

@@ -1,4 +1,5 @@
 pub mod Ascending
+pub mod Asked
 pub mod Commands
 pub mod CountWithout
 pub mod Counts
@@ -6,15 +7,10 @@ pub mod Deltas
 pub mod Ends
 pub mod LastRow
 pub mod Lists
-pub mod NextEntity
 pub mod Ready
 pub mod RowCells
-pub mod SameTests
 pub mod ShiftedKinds
 pub mod StandingRows
-pub mod TestedDeltas
-pub mod Tests
 pub mod TimelyCells
-pub mod TimelyTests
 pub mod Truncated
 pub mod Turns

@@ -5,8 +5,8 @@ use Rattle.scene_kinds.specs.declared.cell.Cell.{Cell}
 use Rattle.scene_table.specs.Tables.{row_for}
 use Rattle.scene_model.specs.World.{World}
 use Rattle.scene_model.specs.Raw.{listed_cells, cells_of}
-use Rattle.scene_model.specs.Can.{HasLastRow}
 use Rattle.scene_model.specs.Valid.{IsValid}
+use Rattle.scene_model.proofs.CanParts.{HasLastRow}
 use Rattle.scene_model.proofs.LastRows.{last_home, last_row_there}
 use Rattle.scene_model.proofs.RowOf.{row_stands}
 use Rattle.scene_world.specs.Room.{Room}

@@ -12,9 +12,9 @@ use Rattle.scene_table.specs.declared.home.Home.{Home}
 use Rattle.scene_table.specs.Tables.{row_for}
 use Rattle.scene_table.proofs.Homes.{home_found}
 use Rattle.scene_model.specs.World.{World, home_of, row_of, mask_at}
-use Rattle.scene_model.specs.Can.{AreGoodCells, CanMove}
 use Rattle.scene_model.specs.Raw.{listed_cells, cells_of, shifted}
 use Rattle.scene_model.specs.Valid.{IsValid}
+use Rattle.scene_model.proofs.CanParts.{AreGoodCells, CanMove}
 use Rattle.scene_model.proofs.GoodCells.{found_good, good_cells, row_of_good}
 use Rattle.scene_model.proofs.RowKinds.{fits_known, row_kinds_low}
 use Rattle.scene_model.proofs.RowOf.{homed, row_there}

@@ -9,13 +9,13 @@ use Rattle.scene_kinds.specs.Lists.{whole, listed}
 use Rattle.scene_kinds.specs.Map as map
 use Rattle.scene_table.specs.declared.home.Home.{Home}
 use Rattle.scene_table.specs.Table.{TableState}
-use Rattle.scene_table.specs.Tables.{rows_at, row_at}
+use Rattle.scene_table.specs.Tables.{rows_at, row_at, row_for, home_for}
 use Rattle.scene_table.proofs.Homes.{home_found}
 use Rattle.scene_model.specs.World.{World, home_of, mask_at, place_at, row_of, rows_of}
-use Rattle.scene_model.specs.Can.{HasRow}
 use Rattle.scene_model.specs.Raw.{listed_cells, cells_of}
 use Rattle.scene_model.specs.Valid.{IsValid}
 use Rattle.scene_model.proofs.Bounds.{place_low}
+use Rattle.scene_model.proofs.CanParts.{HasRow}
 use Rattle.scene_model.proofs.RowOf.{homed, row_there}
 use Rattle.scene_deltas.specs.Standing.{Stands}
 
@@ -52,6 +52,9 @@ place_here w e mask place v home =
 pub none_found : (o : Option (Home × Row)) → None ≡ option_map (λ (found : Home × Row). Some found.1) o → o ≡ None
 none_found None h = refl
 none_found (Some p) h = absurd (let no : None ≡ Some (Some p.1) = h in cc)
+
+pub none_stands : (w : World) (e : Entity) (place : ℕ) (cells : List (ℕ × Cell)) → row_of w e ≡ None → HasRow w e place cells → ⊥
+none_stands w e place cells none has = let no : ◌≡◌ {A = Option (Home × Row)} None (Some (home_for cells place, row_for e cells)) = sym none ∙ has in cc
 
 -- the same by the readers of its kind set and its place
 pub stands_in_whole : (w : World) (e : Entity) (t : TableState) (place : ℕ) → mask_at w e ≡ Some t.mask → place_at w e ≡ Some place → rows_of w t.mask ≡ Some t.rows → Stands w e t place

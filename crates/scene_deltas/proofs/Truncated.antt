@@ -1,5 +1,5 @@
 -- Where it is known that deltas can be taken back or made again, but not how, it is found how.
-use Rattle.std.proofs.Common.{◌≡◌, ◌≤◌, ℕ, Bool, true, false, List, [], ◌∷◌, length}
+use Rattle.std.proofs.Common.{◌≡◌, ◌≤◌, ℕ, Bool, true, List, [], ◌∷◌, length}
 use Rattle.std.specs.List.{list_any}
 use Rattle.std.proofs.Math.Logic.{∥∥₁_elim}
 use Rattle.std.proofs.Props.{props}
@@ -7,39 +7,14 @@ use Rattle.std.specs.Prelude.{Contains}
 use Rattle.std.specs.Cmp.{eq_by_cmp_equiv}
 use Rattle.std.specs.Ordering.{is_eq}
 use Rattle.std.proofs.lemmas.Map.Views.{list_any-from_Contains, Contains-from_any}
-use Rattle.scene_kinds.specs.declared.cell.Cell.{Cell}
 use Rattle.scene_kinds.proofs.Maps.{equal_keys}
 use Rattle.scene_resources.specs.Resources.{name_cmp, name_cmp_total, name_cmp_exact}
 use Rattle.scene_links.specs.Room.{Holds as HoldsLinks}
 use Rattle.scene_model.specs.World.{World}
-use Rattle.scene_model.specs.Can.{CanMove}
 use Rattle.scene_world.specs.Room.{Room, Holds}
 use Rattle.scene_deltas.specs.declared.delta.Delta.{Delta}
-use Rattle.scene_deltas.specs.declared.delta.Delta.TheVariants.{Spawned, Despawned, Shifted, CellSet, Linked, ResourceSet}
-use Rattle.scene_deltas.specs.Deltas.{FitsBack, FitsOn, back, fwd, back_all, AllFitBack, AllFitOn}
+use Rattle.scene_deltas.specs.Deltas.{fits_back, fits_on, back, fwd, back_all, AllFitBack, AllFitOn}
 use Rattle.scene_deltas.specs.Ready.{AreReady, AreReadyOn}
-
--- that a delta fits back has one proof at most
-
-moves-prop : (w : World) (cells : List (ℕ × Cell)) (kind : ℕ) (cell : Cell) (inward : Bool) → IsProp (CanMove w cells kind cell inward)
-moves-prop w cells kind cell true = Prim.hlevel props
-moves-prop w cells kind cell false = Prim.hlevel props
-
-fits-prop : (d : Delta) (w : World) → IsProp (FitsBack d w)
-fits-prop (Spawned e cells fresh) w = Prim.hlevel props
-fits-prop (Despawned e place cells link retired) w = Prim.hlevel props
-fits-prop (Shifted e place kind cell inward) w = Prim.hlevel (moves-prop, props)
-fits-prop (CellSet e kind before after) w = Prim.hlevel props
-fits-prop (Linked e before after) w = Prim.hlevel props
-fits-prop (ResourceSet name before after) w = Prim.hlevel props
-
-on-prop : (d : Delta) (w : World) → IsProp (FitsOn d w)
-on-prop (Spawned e cells fresh) w = Prim.hlevel props
-on-prop (Despawned e place cells link retired) w = Prim.hlevel props
-on-prop (Shifted e place kind cell inward) w = Prim.hlevel (moves-prop, props)
-on-prop (CellSet e kind before after) w = Prim.hlevel props
-on-prop (Linked e before after) w = Prim.hlevel props
-on-prop (ResourceSet name before after) w = Prim.hlevel props
 
 at_most-prop : (m n : ℕ) → IsProp (m ≤ n)
 at_most-prop m n = Prim.hlevel props
@@ -47,8 +22,8 @@ at_most-prop m n = Prim.hlevel props
 links-prop : (room : Room) (w : World) → IsProp (HoldsLinks room.lists w.children)
 links-prop room w = Prim.hlevel props
 
-named-prop : (b : Bool) → IsProp (b ≡ true)
-named-prop b = Prim.hlevel props
+pub passes-prop : (b : Bool) → IsProp (b ≡ true)
+passes-prop b = Prim.hlevel props
 
 -- a name is looked for among those kept
 abbrev is_kept : List (List ℕ) → List ℕ → Bool
@@ -66,7 +41,7 @@ module _ (P : Type 0) (known : ∥ P ∥₁) where
     slots = ∥∥₁_elim known (at_most-prop (length w.slots.generations) room.slots) (λ p. (get p).slots);
     rows = ∥∥₁_elim known (Prim.hlevel props) (λ p. (get p).rows);
     links = ∥∥₁_elim known (links-prop room w) (λ p. (get p).links);
-    names = record { each = λ name some. names_found room.names name (∥∥₁_elim known (named-prop (is_kept room.names name)) (λ p. name_told room.names name ((get p).names.each name some))) };
+    names = record { each = λ name some. names_found room.names name (∥∥₁_elim known (passes-prop (is_kept room.names name)) (λ p. name_told room.names name ((get p).names.each name some))) };
   }
 
   pub each_ready : (room : Room) (ds : List Delta) (w : World) → (P → AreReady room ds w) → AreReady room ds w
@@ -74,24 +49,24 @@ module _ (P : Type 0) (known : ∥ P ∥₁) where
   each_ready room (d ∷ ds) w get = (
     each_ready room ds w (λ p. (get p).0),
     record {
-      fits = ∥∥₁_elim known (fits-prop d (back_all ds w)) (λ p. (get p).1.fits);
+      fits = ∥∥₁_elim known (passes-prop (fits_back d (back_all ds w))) (λ p. (get p).1.fits);
       held = held room (back d (back_all ds w)) (λ p. (get p).1.held);
     },
   )
 
   pub each_fits_back : (ds : List Delta) (w : World) → (P → AllFitBack ds w) → AllFitBack ds w
   each_fits_back [] w get = tt
-  each_fits_back (d ∷ ds) w get = (each_fits_back ds w (λ p. (get p).0), ∥∥₁_elim known (fits-prop d (back_all ds w)) (λ p. (get p).1))
+  each_fits_back (d ∷ ds) w get = (each_fits_back ds w (λ p. (get p).0), ∥∥₁_elim known (passes-prop (fits_back d (back_all ds w))) (λ p. (get p).1))
 
   pub each_fits_on : (ds : List Delta) (w : World) → (P → AllFitOn ds w) → AllFitOn ds w
   each_fits_on [] w get = tt
-  each_fits_on (d ∷ ds) w get = (∥∥₁_elim known (on-prop d w) (λ p. (get p).0), each_fits_on ds (fwd d w) (λ p. (get p).1))
+  each_fits_on (d ∷ ds) w get = (∥∥₁_elim known (passes-prop (fits_on d w)) (λ p. (get p).0), each_fits_on ds (fwd d w) (λ p. (get p).1))
 
   pub each_ready_on : (room : Room) (ds : List Delta) (w : World) → (P → AreReadyOn room ds w) → AreReadyOn room ds w
   each_ready_on room [] w get = tt
   each_ready_on room (d ∷ ds) w get = (
     record {
-      fits = ∥∥₁_elim known (on-prop d w) (λ p. (get p).0.fits);
+      fits = ∥∥₁_elim known (passes-prop (fits_on d w)) (λ p. (get p).0.fits);
       held = held room (fwd d w) (λ p. (get p).0.held);
     },
     each_ready_on room ds (fwd d w) (λ p. (get p).1),

@@ -1,9 +1,9 @@
 -- What each delta does to a world, and what taking it back does; and on which worlds it fits. The same of lists of
 -- deltas.
-use Rattle.std.specs.Prelude.{List}
+use Rattle.std.specs.Prelude.{◌≡◌, Bool, true, List}
 use Rattle.scene_model.specs.World.{World}
 use Rattle.scene_model.specs.Raw.{put_row, drop_last, cut_row, uncut_row, shift_row, unshift_row, set_cell, set_link, set_resource}
-use Rattle.scene_model.specs.Can.{CanPut, CanDrop, CanCut, CanUncut, CanShift, CanUnshift, CanSetCell, CanSetLink, CanSetResource}
+use Rattle.scene_model.specs.Can.{can_put, can_drop, can_cut, can_uncut, can_shift, can_unshift, can_set_cell, can_set_link, can_set_resource}
 use Rattle.scene_model.specs.RawLists.{MayAll, MayUndoAll, after_all, before_all}
 use Rattle.scene_deltas.specs.declared.delta.Delta.{Delta}
 use Rattle.scene_deltas.specs.declared.delta.Delta.TheVariants.{Spawned, Despawned, Shifted, CellSet, Linked, ResourceSet}
@@ -27,22 +27,29 @@ back (Linked e before after) w = set_link w e before
 back (ResourceSet name before after) w = set_resource w name before
 
 -- where a delta may be made: the world has what the delta takes away, and may get what it brings
-abbrev pub FitsOn : Delta → World → Type 0
-FitsOn (Spawned e cells fresh) w = CanPut w e cells fresh
-FitsOn (Despawned e place cells link retired) w = CanCut w e place cells link retired
-FitsOn (Shifted e place kind cell inward) w = CanShift w e place kind cell inward
-FitsOn (CellSet e kind before after) w = CanSetCell w e kind before after
-FitsOn (Linked e before after) w = CanSetLink w e before after
-FitsOn (ResourceSet name before after) w = CanSetResource w name before after
+abbrev pub fits_on : Delta → World → Bool
+fits_on (Spawned e cells fresh) w = can_put w e cells fresh
+fits_on (Despawned e place cells link retired) w = can_cut w e place cells link retired
+fits_on (Shifted e place kind cell inward) w = can_shift w e place kind cell inward
+fits_on (CellSet e kind before after) w = can_set_cell w e kind before after
+fits_on (Linked e before after) w = can_set_link w e before after
+fits_on (ResourceSet name before after) w = can_set_resource w name before after
 
 -- where a delta may be taken back
+abbrev pub fits_back : Delta → World → Bool
+fits_back (Spawned e cells fresh) w = can_drop w e cells fresh
+fits_back (Despawned e place cells link retired) w = can_uncut w e place cells link retired
+fits_back (Shifted e place kind cell inward) w = can_unshift w e place kind cell inward
+fits_back (CellSet e kind before after) w = can_set_cell w e kind after before
+fits_back (Linked e before after) w = can_set_link w e after before
+fits_back (ResourceSet name before after) w = can_set_resource w name after before
+
+-- the same as facts
+abbrev pub FitsOn : Delta → World → Type 0
+FitsOn d w = fits_on d w ≡ true
+
 abbrev pub FitsBack : Delta → World → Type 0
-FitsBack (Spawned e cells fresh) w = CanDrop w e cells fresh
-FitsBack (Despawned e place cells link retired) w = CanUncut w e place cells link retired
-FitsBack (Shifted e place kind cell inward) w = CanUnshift w e place kind cell inward
-FitsBack (CellSet e kind before after) w = CanSetCell w e kind after before
-FitsBack (Linked e before after) w = CanSetLink w e after before
-FitsBack (ResourceSet name before after) w = CanSetResource w name after before
+FitsBack d w = fits_back d w ≡ true
 
 -- deltas one after another
 abbrev pub fwd_all : List Delta → World → World

@@ -1,12 +1,7 @@
 pub mod Ascending
 pub mod CommandLaws
 pub mod Deltas
-pub mod Fits
 pub mod Laws
 pub mod Notes
 pub mod Ready
-pub mod Same
 pub mod Standing
-pub mod TestLaws
-pub mod Tests
-pub mod Timely

@@ -1,6 +1,6 @@
 //! One change of a world.
-ghost use Rattle.std.specs.Prelude.{◌≡◌, ◌↔◌, IfOk, IsTrue};
-ghost use Rattle.scene_deltas.specs.Deltas.{FitsOn, FitsBack};
+ghost use Rattle.std.specs.Prelude.{◌≡◌, IfOk};
+ghost use Rattle.scene_deltas.specs.Deltas.{fits_on, fits_back};
 ghost use Rattle.scene_deltas.specs.declared.delta.Delta.TheVariants.{CellSet, ResourceSet};
 
 use crate::resource_cell::ResourceCell;
@@ -74,7 +74,7 @@ impl Delta {
     /// It takes no memory. It costs a look at the delta's cells, and for a link a walk up from the parent and one over
     /// the children there.
     pub fn fits_on(&self, world: &World) -> bool
-        ensures { IsTrue result ↔ FitsOn self.now world.now.world }
+        ensures { result ≡ fits_on self.now world.now.world }
     {
         match self {
             Delta::Spawned {
@@ -120,7 +120,7 @@ impl Delta {
     ///
     /// It takes no memory. It costs what `fits_on` costs, and for a despawn a look over the free list.
     pub fn fits_back(&self, world: &World) -> bool
-        ensures { IsTrue result ↔ FitsBack self.now world.now.world }
+        ensures { result ≡ fits_back self.now world.now.world }
     {
         match self {
             Delta::Spawned {

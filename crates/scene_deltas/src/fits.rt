@@ -1,24 +1,27 @@
 //! What the tests of deltas ask of a world.
-ghost use Rattle.std.specs.Prelude.{◌≡◌, ◌↔◌, ◌<◌, IsTrue, IfSome, IfNone, None, Some, length, nat_lt, slice_get};
+ghost use Rattle.std.specs.Prelude.{◌≡◌, ◌↔◌, ◌<◌, IsTrue, IfSome, IfNone, None, Some, is_none, length, nat_lt, slice_get};
+ghost use Rattle.std.specs.FinMap.Entries.{is_sorted};
 ghost use Rattle.std.specs.List.{list_all};
+ghost use Rattle.std.specs.Option.{option_eq};
+ghost use Rattle.std.specs.Ordering.{nat_cmp};
 ghost use Rattle.scene_kinds.specs.declared.cells.Row.{Row};
-ghost use Rattle.scene_kinds.specs.Cells.{IsAscending, cell_of, shown};
-ghost use Rattle.scene_kinds.specs.Schema.{fits_kind};
+ghost use Rattle.scene_kinds.specs.Cells.{cell_of, shown};
 ghost use Rattle.scene_alloc.specs.Ends.{last};
-ghost use Rattle.scene_alloc.specs.Slots.{take_of};
-ghost use Rattle.scene_links.specs.Forest.{link_in, children_of, cut};
+ghost use Rattle.scene_links.specs.Forest.{children_of, cut};
 ghost use Rattle.scene_resources.specs.Resources.{cell_of as resource_of};
 ghost use Rattle.scene_model.specs.World.{row_of};
-ghost use Rattle.scene_model.specs.Raw.{taken_entity, cells_of};
-ghost use Rattle.scene_model.specs.Can.{AreGoodCells, IsGoodCell, IsGoodResource, HasRow, CanHaveLink, CanMove, CanPut, CanCut, CanShift, CanSetCell, CanSetLink, CanSetResource};
+ghost use Rattle.scene_model.specs.Raw.{cells_of};
+ghost use Rattle.scene_model.specs.Can.{is_next, has_row, has_cell, has_link, is_good_cell, are_good_cells, is_good_resource, can_have_link, can_move};
+ghost use Rattle.scene_model.specs.Can.{can_put, can_cut, can_shift, can_set_cell, can_set_link, can_set_resource};
+ghost use Rattle.scene_model.specs.Same.{same_cell};
+ghost use Rattle.scene_model.specs.Timely.{if_some};
 ghost use Rattle.scene_model.specs.Valid.{is_timely};
 ghost use Rattle.scene_deltas.specs.Ascending.{kinds_ascend};
 ghost use Rattle.scene_deltas.specs.Standing.{Stands};
 
 use crate::resource_cell::ResourceCell;
 use crate::same::{same_cell, same_cells};
-use scene_alloc::Slots;
-use scene_kinds::{Cell, CellRef, Cells, Entity, Schema, Text, good_name};
+use scene_kinds::{Cell, CellRef, Cells, Entity, Text, good_name};
 use scene_links::Links;
 use scene_table::Table;
 use scene_world::World;
@@ -32,14 +35,14 @@ pub(crate) fn is_timely(cell: &Cell, tick: u64) -> bool
 
 /// Whether a cell may stand in a row of the world.
 pub(crate) fn is_good_cell(world: &World, kind: u8, cell: &Cell) -> bool
-    ensures { IsTrue result ↔ IsGoodCell world.now.world kind cell.now }
+    ensures { result ≡ is_good_cell world.now.world kind cell.now }
 {
     world.schema().fits(&cell.value, kind) && is_timely(cell, world.tick())
 }
 
 /// Whether a resource of the world may have a cell.
 pub(crate) fn is_good_resource(world: &World, cell: &Cell) -> bool
-    ensures { IsTrue result ↔ IsGoodResource world.now.world cell.now }
+    ensures { result ≡ is_good_resource world.now.world cell.now }
 {
     // This tells the prover that the value is in the range of its type.
     let _shape = cell.value.shape();
@@ -67,29 +70,26 @@ fn kinds_ascend(cells: &[(u8, Cell)]) -> bool
 
 /// Whether the kinds of cells ascend.
 fn is_ascending(cells: &[(u8, Cell)]) -> bool
-    ensures { IsTrue result ↔ IsAscending cells.now }
+    ensures { result ≡ is_sorted nat_cmp cells.now }
 {
     kinds_ascend(cells)
 }
 
-fn all_fit(schema: &Schema, cells: &[(u8, Cell)]) -> bool
-    ensures { result ≡ list_all (λ c. fits_kind schema.now c.1.value c.0) cells.now }
+/// Whether each of cells may stand in a row of the world.
+fn all_good(world: &World, cells: &[(u8, Cell)]) -> bool
+    ensures { result ≡ list_all (λ c. is_good_cell world.now.world c.0 c.1) cells.now }
 {
-    cells.iter().all(|cell| schema.fits(&cell.1.value, cell.0))
-}
-
-fn all_timely(tick: u64, cells: &[(u8, Cell)]) -> bool
-    ensures { result ≡ list_all (λ c. is_timely tick c.1) cells.now }
-{
-    cells.iter().all(|cell| is_timely(&cell.1, tick))
+    cells
+        .iter()
+        .all(|cell| is_good_cell(world, cell.0, &cell.1))
 }
 
 /// Whether a row of the world may have these cells.
 pub(crate) fn are_good_cells(world: &World, cells: &Cells) -> bool
-    ensures { IsTrue result ↔ AreGoodCells world.now.world cells.now }
+    ensures { result ≡ are_good_cells world.now.world cells.now }
 {
     let items = cells.as_slice();
-    is_ascending(items) && all_fit(world.schema(), items) && all_timely(world.tick(), items)
+    is_ascending(items) && all_good(world, items)
 }
 
 /// The table in which the row of an entity stands, with its place there; `None` where it has none.
@@ -131,7 +131,7 @@ pub(crate) fn has_cells(table: &Table, place: u32, cells: &Cells) -> bool
 
 /// Whether a live entity has this very cell of a kind.
 pub(crate) fn has_cell(world: &World, entity: Entity, kind: u8, cell: &Cell) -> bool
-    ensures { IsTrue result ↔ (cell_of (cells_of world.now.world entity) kind ≡ Some cell.now) }
+    ensures { result ≡ has_cell (cells_of world.now.world entity) kind cell.now }
 {
     match standing(world, entity) {
         Some((table, place)) => match table.cell(place as usize, kind) {
@@ -144,7 +144,7 @@ pub(crate) fn has_cell(world: &World, entity: Entity, kind: u8, cell: &Cell) -> 
 
 /// Whether an entity hasn't a kind.
 pub(crate) fn lacks_kind(world: &World, entity: Entity, kind: u8) -> bool
-    ensures { IsTrue result ↔ (cell_of (cells_of world.now.world entity) kind ≡ None) }
+    ensures { result ≡ is_none (cell_of (cells_of world.now.world entity) kind) }
 {
     match standing(world, entity) {
         Some((table, place)) => table.cell(place as usize, kind).is_none(),
@@ -160,25 +160,18 @@ pub(crate) fn last_of(indices: &[u32]) -> Option<u32>
 }
 
 /// Whether the next spawn gives this entity.
-pub(crate) fn is_next(slots: &Slots, entity: Entity) -> bool
-    ensures { IsTrue result ↔ (taken_entity (take_of slots.now.state) ≡ Some entity) }
+fn is_next(world: &World, entity: Entity) -> bool
+    ensures { result ≡ is_next world.now.world.slots entity }
 {
-    let count = slots.len();
-    match last_of(slots.free()) {
-        Some(index) => {
-            entity.index == index && slots.generation_of(entity.index) == Some(entity.generation)
-        }
-        None => {
-            count < slots.limit() as usize
-                && entity.index as usize == count
-                && entity.generation == 1
-        }
+    match world.next_entity() {
+        Some(next) => next == entity,
+        None => false,
     }
 }
 
 /// Whether an entity has this link, or none.
 pub(crate) fn has_link(links: &Links, entity: Entity, link: Option<(Entity, u32)>) -> bool
-    ensures { IsTrue result ↔ (link_in links.now.forest entity ≡ link) }
+    ensures { result ≡ has_link links.now.forest entity link }
 {
     match (links.parent_of(entity), links.place_of(entity), link) {
         (Some(parent), Some(place), Some(link)) => parent == link.0 && place == link.1 as usize,
@@ -200,7 +193,7 @@ pub fn count_without(links: &Links, parent: Entity, child: Entity) -> usize
 
 /// Whether a live entity may get this link.
 fn can_have_link(world: &World, entity: Entity, link: (Entity, u32)) -> bool
-    ensures { IsTrue result ↔ CanHaveLink world.now.world entity link }
+    ensures { result ≡ can_have_link world.now.world entity link }
 {
     let links = world.links();
     entity != link.0
@@ -211,7 +204,7 @@ fn can_have_link(world: &World, entity: Entity, link: (Entity, u32)) -> bool
 
 /// Whether a live entity may get this link, or none.
 fn may_have_link(world: &World, entity: Entity, link: Option<(Entity, u32)>) -> bool
-    ensures { IsTrue result ↔ IfSome link (CanHaveLink world.now.world entity) }
+    ensures { result ≡ if_some link (can_have_link world.now.world entity) }
 {
     match link {
         Some(link) => can_have_link(world, entity, link),
@@ -226,7 +219,7 @@ pub(crate) fn can_set_link(
     before: Option<(Entity, u32)>,
     after: Option<(Entity, u32)>,
 ) -> bool
-    ensures { IsTrue result ↔ CanSetLink world.now.world entity before after }
+    ensures { result ≡ can_set_link world.now.world entity before after }
 {
     world.is_alive(entity)
         && has_link(world.links(), entity, before)
@@ -241,14 +234,14 @@ pub(crate) fn can_set_cell(
     before: &Cell,
     after: &Cell,
 ) -> bool
-    ensures { IsTrue result ↔ CanSetCell world.now.world entity kind before.now after.now }
+    ensures { result ≡ can_set_cell world.now.world entity kind before.now after.now }
 {
     has_cell(world, entity, kind, before) && is_good_cell(world, kind, after)
 }
 
 /// Whether a resource has this cell, or none.
 fn has_resource(world: &World, name: &str, cell: &ResourceCell) -> bool
-    ensures { IsTrue result ↔ (resource_of world.now.world.resources name.now ≡ cell.now) }
+    ensures { result ≡ option_eq same_cell (resource_of world.now.world.resources name.now) cell.now }
 {
     match (world.resources().get(name), cell.get()) {
         (Some(there), Some(cell)) => same_cells(there, cell),
@@ -259,7 +252,7 @@ fn has_resource(world: &World, name: &str, cell: &ResourceCell) -> bool
 
 /// Whether a resource may have this cell, or none.
 fn may_have_resource(world: &World, cell: &ResourceCell) -> bool
-    ensures { IsTrue result ↔ IfSome cell.now (IsGoodResource world.now.world) }
+    ensures { result ≡ if_some cell.now (is_good_resource world.now.world) }
 {
     match cell.get() {
         Some(cell) => is_good_resource(world, cell),
@@ -274,7 +267,7 @@ pub(crate) fn can_set_resource(
     before: &ResourceCell,
     after: &ResourceCell,
 ) -> bool
-    ensures { IsTrue result ↔ CanSetResource world.now.world name.now before.now after.now }
+    ensures { result ≡ can_set_resource world.now.world name.now before.now after.now }
 {
     let name = name.as_str();
     good_name(name) && has_resource(world, name, before) && may_have_resource(world, after)
@@ -282,7 +275,7 @@ pub(crate) fn can_set_resource(
 
 /// Whether the row of an entity stands at this place.
 fn stands_at(world: &World, entity: Entity, place: u32) -> bool
-    ensures { IsTrue result ↔ HasRow world.now.world entity place (cells_of world.now.world entity) }
+    ensures { result ≡ has_row world.now.world entity place (cells_of world.now.world entity) }
 {
     // This tells the prover that the world is valid.
     let _tick = world.tick();
@@ -294,7 +287,7 @@ fn stands_at(world: &World, entity: Entity, place: u32) -> bool
 
 /// Whether a cell may come into the row of an entity where `inward`, or else is the row's own.
 pub(crate) fn can_move(world: &World, entity: Entity, kind: u8, cell: &Cell, inward: bool) -> bool
-    ensures { IsTrue result ↔ CanMove world.now.world (cells_of world.now.world entity) kind cell.now inward }
+    ensures { result ≡ can_move world.now.world (cells_of world.now.world entity) kind cell.now inward }
 {
     if inward {
         lacks_kind(world, entity, kind) && is_good_cell(world, kind, cell)
@@ -312,14 +305,14 @@ pub(crate) fn can_shift(
     cell: &Cell,
     inward: bool,
 ) -> bool
-    ensures { IsTrue result ↔ CanShift world.now.world entity place kind cell.now inward }
+    ensures { result ≡ can_shift world.now.world entity place kind cell.now inward }
 {
     stands_at(world, entity, place) && can_move(world, entity, kind, cell, inward)
 }
 
 /// Whether the row of an entity stands at this place, with just these cells.
 fn has_row(world: &World, entity: Entity, place: u32, cells: &Cells) -> bool
-    ensures { IsTrue result ↔ HasRow world.now.world entity place cells.now }
+    ensures { result ≡ has_row world.now.world entity place cells.now }
 {
     // This tells the prover that the world is valid.
     let _tick = world.tick();
@@ -338,7 +331,7 @@ pub(crate) fn can_cut(
     link: Option<(Entity, u32)>,
     retired: bool,
 ) -> bool
-    ensures { IsTrue result ↔ CanCut world.now.world entity place cells.now link retired }
+    ensures { result ≡ can_cut world.now.world entity place cells.now link retired }
 {
     has_row(world, entity, place, cells)
         && world.links().children_of(entity).is_empty()
@@ -348,9 +341,9 @@ pub(crate) fn can_cut(
 
 /// Whether a row may be put.
 pub(crate) fn can_put(world: &World, entity: Entity, cells: &Cells, fresh: bool) -> bool
-    ensures { IsTrue result ↔ CanPut world.now.world entity cells.now fresh }
+    ensures { result ≡ can_put world.now.world entity cells.now fresh }
 {
-    is_next(world.slots(), entity)
+    is_next(world, entity)
         && fresh == world.slots().takes_new_slot()
         && are_good_cells(world, cells)
 }

@@ -1,11 +1,12 @@
 //! What the tests of deltas ask of a world on which they are taken back.
-ghost use Rattle.std.specs.Prelude.{◌≡◌, ◌↔◌, IsTrue, IfNone, IfSome, None, length, false};
+ghost use Rattle.std.specs.Prelude.{◌≡◌, IfNone, IfSome, None, length, true, false};
 ghost use Rattle.scene_kinds.specs.Cells.{mask_of};
-ghost use Rattle.scene_alloc.specs.Slots.{IsFresh, CanRelease, CanUnrelease, IsRaised, is_free, retires};
+ghost use Rattle.scene_alloc.specs.Slots.{is_fresh, can_release, can_unrelease, is_raised, is_free, retires};
 ghost use Rattle.scene_table.specs.Tables.{rows_at};
 ghost use Rattle.scene_model.specs.World.{row_of};
 ghost use Rattle.scene_model.specs.Raw.{cells_of, shifted};
-ghost use Rattle.scene_model.specs.Can.{AreGoodCells, HasLastRow, IsPlaceIn, CanMove, CanDrop, CanUncut, CanUnshift};
+ghost use Rattle.scene_model.specs.Can.{are_good_cells, has_last_row, is_place_in, can_move, can_drop, can_uncut, can_unshift};
+ghost use Rattle.scene_model.specs.Timely.{if_some};
 ghost use Rattle.scene_deltas.specs.Standing.{Stands};
 
 use crate::fits::{are_good_cells, can_move, has_cells, last_of};
@@ -29,7 +30,7 @@ fn standing_in_whole(world: &World, entity: Entity) -> Option<(&Table, u32)>
 
 /// Whether the row of an entity is the last of its table, with just these cells.
 fn has_last_row(world: &World, entity: Entity, cells: &Cells) -> bool
-    ensures { IsTrue result ↔ HasLastRow world.now.world entity cells.now }
+    ensures { result ≡ has_last_row world.now.world entity cells.now }
 {
     // This tells the prover that the world is valid.
     let _tick = world.tick();
@@ -41,7 +42,7 @@ fn has_last_row(world: &World, entity: Entity, cells: &Cells) -> bool
 
 /// Whether the row of an entity is the last of its table.
 fn is_last(world: &World, entity: Entity) -> bool
-    ensures { IsTrue result ↔ HasLastRow world.now.world entity (cells_of world.now.world entity) }
+    ensures { result ≡ has_last_row world.now.world entity (cells_of world.now.world entity) }
 {
     // This tells the prover that the world is valid.
     let _tick = world.tick();
@@ -53,7 +54,7 @@ fn is_last(world: &World, entity: Entity) -> bool
 
 /// Whether an entity has the last slot, just made.
 fn is_fresh(slots: &Slots, entity: Entity) -> bool
-    ensures { IsTrue result ↔ IsFresh slots.now.state entity }
+    ensures { result ≡ is_fresh slots.now.state entity }
 {
     slots.free().is_empty() && entity.index as usize + 1 == slots.len() && entity.generation == 1
 }
@@ -67,7 +68,7 @@ fn is_free(slots: &Slots, index: u32) -> bool
 
 /// Whether an entity has its slot's generation, and its index isn't free.
 fn can_release(slots: &Slots, entity: Entity) -> bool
-    ensures { IsTrue result ↔ CanRelease slots.now.state entity }
+    ensures { result ≡ can_release slots.now.state entity }
 {
     slots.generation_of(entity.index) == Some(entity.generation) && !is_free(slots, entity.index)
 }
@@ -75,7 +76,7 @@ fn can_release(slots: &Slots, entity: Entity) -> bool
 /// Whether the index of an entity is the last free one, with the next generation.
 fn is_raised(slots: &Slots, entity: Entity) -> bool
     requires { retires entity ≡ false }
-    ensures { IsTrue result ↔ IsRaised slots.now.state entity }
+    ensures { result ≡ is_raised slots.now.state entity }
 {
     last_of(slots.free()) == Some(entity.index)
         && slots.generation_of(entity.index) == Some(entity.generation + 1)
@@ -83,7 +84,7 @@ fn is_raised(slots: &Slots, entity: Entity) -> bool
 
 /// Whether the slots are as after the release of an entity, which retired its index or not.
 fn can_unrelease(slots: &Slots, entity: Entity, retired: bool) -> bool
-    ensures { IsTrue result ↔ CanUnrelease slots.now.state entity retired }
+    ensures { result ≡ can_unrelease slots.now.state entity retired }
 {
     if entity.generation == 0 || retired != (entity.generation == u32::MAX) {
         return false;
@@ -107,7 +108,7 @@ fn row_count(world: &World, mask: KindSet) -> usize
 
 /// How many rows the kind set of these cells has.
 fn count_beside(world: &World, cells: &Cells) -> usize
-    requires { AreGoodCells world.now.world cells.now }
+    requires { are_good_cells world.now.world cells.now ≡ true }
     ensures { result ≡ length (rows_at world.now.world.tables (mask_of cells.now)) }
 {
     // This tells the prover that the world is valid.
@@ -117,14 +118,14 @@ fn count_beside(world: &World, cells: &Cells) -> usize
 
 /// Whether a link names a place in the list of a live parent, or behind it.
 fn is_place_in(world: &World, link: (Entity, u32)) -> bool
-    ensures { IsTrue result ↔ IsPlaceIn world.now.world world.now.world.children link }
+    ensures { result ≡ is_place_in world.now.world world.now.world.children link }
 {
     world.is_alive(link.0) && link.1 as usize <= world.links().children_of(link.0).len()
 }
 
 /// The same of a link that may be none.
 fn may_be_linked(world: &World, link: Option<(Entity, u32)>) -> bool
-    ensures { IsTrue result ↔ IfSome link (IsPlaceIn world.now.world world.now.world.children) }
+    ensures { result ≡ if_some link (is_place_in world.now.world world.now.world.children) }
 {
     match link {
         Some(link) => is_place_in(world, link),
@@ -146,7 +147,7 @@ fn mask_in(world: &World, entity: Entity) -> KindSet
 
 /// How many rows the kind set has to which a row goes that is shifted.
 fn count_shifted(world: &World, entity: Entity, kind: u8, cell: &Cell, inward: bool) -> usize
-    requires { CanMove world.now.world (cells_of world.now.world entity) kind cell.now inward }
+    requires { can_move world.now.world (cells_of world.now.world entity) kind cell.now inward ≡ true }
     ensures { result ≡ length (rows_at world.now.world.tables (mask_of (shifted (cells_of world.now.world entity) kind cell.now inward))) }
 {
     // This tells the prover that the world is valid.
@@ -161,7 +162,7 @@ fn count_shifted(world: &World, entity: Entity, kind: u8, cell: &Cell, inward: b
 
 /// Whether a row may be dropped.
 pub(crate) fn can_drop(world: &World, entity: Entity, cells: &Cells, fresh: bool) -> bool
-    ensures { IsTrue result ↔ CanDrop world.now.world entity cells.now fresh }
+    ensures { result ≡ can_drop world.now.world entity cells.now fresh }
 {
     has_last_row(world, entity, cells)
         && world.links().parent_of(entity).is_none()
@@ -178,7 +179,7 @@ pub(crate) fn can_uncut(
     link: Option<(Entity, u32)>,
     retired: bool,
 ) -> bool
-    ensures { IsTrue result ↔ CanUncut world.now.world entity place cells.now link retired }
+    ensures { result ≡ can_uncut world.now.world entity place cells.now link retired }
 {
     can_unrelease(world.slots(), entity, retired)
         && !world.is_alive(entity)
@@ -196,7 +197,7 @@ pub(crate) fn can_unshift(
     cell: &Cell,
     inward: bool,
 ) -> bool
-    ensures { IsTrue result ↔ CanUnshift world.now.world entity place kind cell.now inward }
+    ensures { result ≡ can_unshift world.now.world entity place kind cell.now inward }
 {
     is_last(world, entity)
         && can_move(world, entity, kind, cell, !inward)

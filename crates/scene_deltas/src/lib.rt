@@ -3,9 +3,8 @@
 //! A `Delta` is a change of one entity's row and link, of one cell, of one link or of one resource. It holds what the
 //! change brings and what it took away, so each world has all that is needed to come to the other (docs/JOURNAL.md).
 //!
-//! `specs/Deltas.antt` says what each does to a world and where it fits, `specs/Tests.antt` the tests of that, which
-//! compute and which `fits_on` and `fits_back` answer, and `specs/Notes.antt` which deltas a command makes. `laws` says
-//! that each takes the other direction back exactly, `test_laws` that the tests pass just where a delta fits.
+//! `specs/Deltas.antt` says what each does to a world and where it fits, which `fits_on` and `fits_back` answer, and
+//! `specs/Notes.antt` which deltas a command makes. `laws` says that each takes the other direction back exactly.
 //! `make_again` and `take_back` need a `World` with room; `redo_delta` and `undo_delta` make the room, and copy the
 //! cells.
 #![tactic(auto)]
@@ -19,7 +18,6 @@ mod resource_cell;
 mod same;
 mod sound;
 mod steps;
-mod test_laws;
 mod timely;
 
 pub use delta::Delta;
@@ -29,5 +27,4 @@ pub use redo::{redo_delta, undo_delta};
 pub use resource_cell::ResourceCell;
 pub use sound::is_sound;
 pub use steps::{make_again, make_all_again, take_all_back, take_back};
-pub use test_laws::deltas_are_tested;
 pub use timely::can_set_tick;

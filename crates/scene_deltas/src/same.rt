@@ -1,12 +1,15 @@
 //! Whether cells are equal: by value and by both ticks.
-ghost use Rattle.std.specs.Prelude.{◌≡◌, ◌↔◌, IsTrue, Some, None};
+ghost use Rattle.std.specs.Prelude.{◌≡◌};
+ghost use Rattle.std.specs.Cmp.Lexicographic.{pointwise};
+ghost use Rattle.std.specs.Ordering.{int_eq};
 ghost use Rattle.scene_kinds.specs.Cells.{shown};
+ghost use Rattle.scene_model.specs.Same.{same_value, same_cell};
 
 use scene_kinds::{Cell, CellRef, Value};
 
 /// Whether three numbers are equal.
 fn same_three(a: &[i64; 3], b: &[i64; 3]) -> bool
-    ensures { IsTrue result ↔ (a.now ≡ b.now) }
+    ensures { result ≡ pointwise int_eq a.now b.now }
 {
     let [ax, ay, az] = *a;
     let [bx, by, bz] = *b;
@@ -15,7 +18,7 @@ fn same_three(a: &[i64; 3], b: &[i64; 3]) -> bool
 
 /// Whether two values are equal.
 fn same_value(a: &Value, b: &Value) -> bool
-    ensures { IsTrue result ↔ (a.now ≡ b.now) }
+    ensures { result ≡ same_value a.now b.now }
 {
     match (a, b) {
         (Value::Tag, Value::Tag) => true,
@@ -29,7 +32,7 @@ fn same_value(a: &Value, b: &Value) -> bool
 
 /// Whether a cell that is lent equals another one.
 pub(crate) fn same_cell(cell: CellRef<'_>, other: &Cell) -> bool
-    ensures { IsTrue result ↔ (shown cell.entry ≡ other.now) }
+    ensures { result ≡ same_cell (shown cell.entry) other.now }
 {
     cell.added == other.added
         && cell.changed == other.changed
@@ -38,7 +41,7 @@ pub(crate) fn same_cell(cell: CellRef<'_>, other: &Cell) -> bool
 
 /// Whether two cells are equal.
 pub(crate) fn same_cells(a: &Cell, b: &Cell) -> bool
-    ensures { IsTrue result ↔ (a.now ≡ b.now) }
+    ensures { result ≡ same_cell a.now b.now }
 {
     a.added == b.added && a.changed == b.changed && same_value(&a.value, &b.value)
 }

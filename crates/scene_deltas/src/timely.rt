@@ -1,13 +1,12 @@
 //! Whether the tick of a world may be set: no cell was changed later.
-ghost use Rattle.std.specs.Prelude.{◌≡◌, ◌↔◌, ◌<◌, true, IsTrue, IfOk, Some, length, slice_get, string_bytes};
+ghost use Rattle.std.specs.Prelude.{◌≡◌, ◌<◌, IfOk, Some, length, slice_get, string_bytes};
 ghost use Rattle.std.specs.List.{list_all};
 ghost use Rattle.scene_kinds.specs.declared.cells.Row.{Row};
 ghost use Rattle.scene_kinds.specs.Cells.{shown};
 ghost use Rattle.scene_resources.specs.Resources.{cell_of as resource_of};
-ghost use Rattle.scene_table.specs.Tables.{EachRow};
-ghost use Rattle.scene_model.specs.Can.{CanSetTick};
+ghost use Rattle.scene_model.specs.Can.{can_set_tick};
+ghost use Rattle.scene_model.specs.Timely.{if_some, row_is_timely, rows_are_timely, tables_are_timely, resources_are_timely};
 ghost use Rattle.scene_model.specs.Valid.{is_timely};
-ghost use Rattle.scene_deltas.specs.Timely.{EachResource, row_is_timely, rows_are_timely, any_is_timely};
 
 use crate::fits;
 use scene_kinds::CellRef;
@@ -58,7 +57,7 @@ fn tables_are_timely(tables: &[&Table], tick: u64) -> bool
 
 /// Whether the cell of a resource was, where it is there.
 fn resource_is_timely(resources: &Resources, name: &str, tick: u64) -> bool
-    ensures { result ≡ any_is_timely tick (resource_of resources.now.cells name.now) }
+    ensures { result ≡ if_some (resource_of resources.now.cells name.now) (is_timely tick) }
 {
     match resources.get(name) {
         Some(cell) => fits::is_timely(cell, tick),
@@ -68,7 +67,7 @@ fn resource_is_timely(resources: &Resources, name: &str, tick: u64) -> bool
 
 /// Whether the cells of resources were.
 fn resources_are_timely(resources: &Resources, names: &[String], tick: u64) -> bool
-    ensures { result ≡ list_all (λ name. any_is_timely tick (resource_of resources.now.cells (string_bytes name))) names.now }
+    ensures { result ≡ list_all (λ name. if_some (resource_of resources.now.cells (string_bytes name)) (is_timely tick)) names.now }
 {
     names
         .iter()
@@ -77,7 +76,7 @@ fn resources_are_timely(resources: &Resources, names: &[String], tick: u64) -> b
 
 /// Whether all cells of rows were.
 fn all_rows_are_timely(world: &World, tick: u64) -> Result<bool, AllocError>
-    ensures { IfOk result (λ are. IsTrue are ↔ EachRow (λ mask row. row_is_timely tick row ≡ true) world.now.world.tables) }
+    ensures { IfOk result (λ are. are ≡ tables_are_timely tick world.now.world.tables) }
 {
     let tables = world.tables_in_order()?;
     Ok(tables_are_timely(tables.as_slice(), tick))
@@ -85,7 +84,7 @@ fn all_rows_are_timely(world: &World, tick: u64) -> Result<bool, AllocError>
 
 /// Whether all cells of resources were.
 fn all_resources_are_timely(world: &World, tick: u64) -> Result<bool, AllocError>
-    ensures { IfOk result (λ are. IsTrue are ↔ EachResource (λ cell. is_timely tick cell ≡ true) world.now.world.resources) }
+    ensures { IfOk result (λ are. are ≡ resources_are_timely tick world.now.world.resources) }
 {
     let names = world.resources().names()?;
     Ok(resources_are_timely(world.resources(), names.as_slice(), tick))
@@ -93,7 +92,7 @@ fn all_resources_are_timely(world: &World, tick: u64) -> Result<bool, AllocError
 
 /// Whether the world may have a tick, or an error where no memory was found. It costs a look at all cells of the world.
 pub fn can_set_tick(world: &World, tick: u64) -> Result<bool, AllocError>
-    ensures { IfOk result (λ can. IsTrue can ↔ CanSetTick world.now.world tick) }
+    ensures { IfOk result (λ can. can ≡ can_set_tick world.now.world tick) }
 {
     if !all_rows_are_timely(world, tick)? {
         return Ok(false);

@@ -19,8 +19,10 @@ use Rattle.scene_resources.specs.Resources.{cell_of as resource_of}
 use Rattle.scene_model.specs.World.{World, is_live}
 use Rattle.scene_model.specs.Valid.{IsValid, is_timely}
 use Rattle.scene_model.specs.Raw.{cells_of, put_row}
-use Rattle.scene_model.specs.Can.{AreGoodCells, IsGoodCell, IsGoodResource, CanHaveLink, CanMove, CanPut, CanCut, CanShift, CanSetCell, CanSetLink, CanSetResource}
+use Rattle.scene_model.specs.Can.{can_put}
 use Rattle.scene_model.proofs.Bounds.{place_low}
+use Rattle.scene_model.proofs.CanParts.{AreGoodCells, IsGoodCell, IsGoodResource, CanHaveLink, CanMove, CanCut, CanShift, CanSetCell, CanSetLink, CanSetResource}
+use Rattle.scene_model.proofs.CanParts.{put, drop, cut_out, shift, set_cell, set_link, set_resource}
 use Rattle.scene_model.proofs.GivenLinks.{linked_parent}
 use Rattle.scene_model.proofs.GoodCells.{found_good, good_cells}
 use Rattle.scene_model.proofs.LastRows.{last_home, last_row_there}
@@ -129,19 +131,18 @@ module _ (w : World) (v : IsValid w) where
   -- ---- deltas that fit
 
   -- the next entity lives in the world after it was put
-  next_entity : (e : Entity) (cells : List (ℕ × Cell)) (fresh : Bool) → CanPut w e cells fresh → is_entity e ≡ true
+  next_entity : (e : Entity) (cells : List (ℕ × Cell)) (fresh : Bool) → can_put w e cells fresh ≡ true → is_entity e ≡ true
   next_entity e cells fresh f =
       let comes_back = (rows_come_back e cells fresh).0 in
       let after : World = put_row w e cells in
       let valid = comes_back.keeps w v f in
-      let last = last_row_there after.tables (row_for e cells) (comes_back.can_come_back w v f).row in
+      let last = last_row_there after.tables (row_for e cells) ((drop after e cells fresh).0 (comes_back.can_come_back w v f)).row in
       slot_entity after.slots valid.slots e (valid.rows.each (last_home after.tables (row_for e cells)) (row_for e cells) last).current
 
-  put_told : (e : Entity) (cells : List (ℕ × Cell)) (fresh : Bool) → CanPut w e cells fresh → IsTold w.schema (Spawned e cells fresh)
-  put_told e cells fresh f = record {
-    writable = (cells_told cells f.good, next_entity e cells fresh f);
-    ticks = cells_ticks cells f.good;
-  }
+  put_told : (e : Entity) (cells : List (ℕ × Cell)) (fresh : Bool) → can_put w e cells fresh ≡ true → IsTold w.schema (Spawned e cells fresh)
+  put_told e cells fresh f =
+      let good = ((put w e cells fresh).0 f).good in
+      record { writable = (cells_told cells good, next_entity e cells fresh f); ticks = cells_ticks cells good }
 
   cut_told : (e : Entity) (place : ℕ) (cells : List (ℕ × Cell)) (link : Option (Entity × ℕ)) (retired : Bool) → CanCut w e place cells link retired
       → IsTold w.schema (Despawned e place cells link retired)
@@ -197,8 +198,8 @@ module _ (w : World) (v : IsValid w) where
   -- a delta that fits can be written
   pub fitting_told : (d : Delta) → FitsOn d w → IsTold w.schema d
   fitting_told (Spawned e cells fresh) f = put_told e cells fresh f
-  fitting_told (Despawned e place cells link retired) f = cut_told e place cells link retired f
-  fitting_told (Shifted e place kind cell inward) f = shift_told e place kind cell inward f
-  fitting_told (CellSet e kind before after) f = set_cell_told e kind before after f
-  fitting_told (Linked e before after) f = set_link_told e before after f
-  fitting_told (ResourceSet name before after) f = set_resource_told name before after f
+  fitting_told (Despawned e place cells link retired) f = cut_told e place cells link retired ((cut_out w e place cells link retired).0 f)
+  fitting_told (Shifted e place kind cell inward) f = shift_told e place kind cell inward ((shift w e place kind cell inward).0 f)
+  fitting_told (CellSet e kind before after) f = set_cell_told e kind before after ((set_cell w e kind before after).0 f)
+  fitting_told (Linked e before after) f = set_link_told e before after ((set_link w e before after).0 f)
+  fitting_told (ResourceSet name before after) f = set_resource_told name before after ((set_resource w name before after).0 f)

@@ -1,5 +1,5 @@
 -- What is read of a world under the keys of a map is the map.
-use Rattle.std.proofs.Common.{◌≡◌, ℕ, cond, T, List, [], ◌∷◌, refl, ap, sym, ◌∙◌, Some, ◌++◌}
+use Rattle.std.proofs.Common.{◌≡◌, ℕ, cond, T, List, [], ◌∷◌, refl, ap, sym, ◌∙◌, Some}
 use Rattle.std.specs.Prelude.{Option, map as each}
 use Rattle.std.specs.declared.cmp.Ordering.{Ordering}
 use Rattle.std.specs.declared.cmp.Ordering.TheVariants.{Less}
@@ -8,7 +8,6 @@ use Rattle.std.specs.FinMap.Entries.{find, below_all, is_sorted}
 use Rattle.std.specs.List.{AllByRecursion}
 use Rattle.std.specs.Ordering.{nat_cmp, is_eq, is_lt, ordering_reverse}
 use Rattle.serde_json.specs.Data.{Data}
-use Rattle.scene_kinds.specs.declared.cell.Cell.{Cell}
 use Rattle.scene_kinds.specs.declared.cells.Row.{Row}
 use Rattle.scene_kinds.specs.Entity.{entity_cmp_total}
 use Rattle.scene_kinds.specs.Lists.{whole, list_at, listed}
@@ -18,12 +17,10 @@ use Rattle.scene_kinds.proofs.Choices.{test_parts, less}
 use Rattle.scene_kinds.proofs.Maps.{ties_itself}
 use Rattle.scene_links.specs.Forest.{Forest, children_of, parents}
 use Rattle.scene_validate.specs.Parts.{keys, lists_of}
-use Rattle.scene_resources.specs.Resources.{NamedCells, cell_of, names_of}
-use Rattle.scene_resources.proofs.ResourceLaws.{names_found}
 use Rattle.scene_table.specs.Tables.{Tables, rows_at, masks_of}
 use Rattle.scene_json_forms.specs.Text.{array_of, list_text}
 use Rattle.scene_file.specs.Text.{children_text, table_text}
-use Rattle.scene_file.specs.Printing.{table_json, named, named_cells}
+use Rattle.scene_file.specs.Printing.{table_json}
 
 module _ {K X : Type 0} {R : K → K → Ordering} (o : IsTotalOrder R) where
   below_keys : (k : K) (es : List (K × X)) → T (below_all R k es) → AllByRecursion (λ j. R k j ≡ Less) (keys es)
@@ -105,14 +102,3 @@ pub tables_found : {X : Type 0} (mask : X → ℕ) (rows : X → List Row) (ts :
     → list_text (λ t. table_json (mask t, rows t)) ts ≡ list_text table_text (lists_of tables)
 unfolding table_json
 tables_found mask rows ts tables h k = fused (λ t. (mask t, rows t)) table_text ts (lists_of tables) (tables_are mask rows ts tables h k)
-
-named_found : (r : NamedCells) (es : List (List ℕ × Cell)) → each (cell_of r) (keys es) ≡ each (λ e. Some e.1) es → named_cells r (keys es) ≡ es
-named_found r [] h = refl
-named_found r (e ∷ es) h =
-    let found : cell_of r e.0 ≡ Some e.1 = cc h in
-    let left : each (cell_of r) (keys es) ≡ each (λ e. Some e.1) es = cc h in
-    ap (λ o. named e.0 o ++ named_cells r (keys es)) found ∙ ap (λ rest. e ∷ rest) (named_found r es left)
-
--- the names of all resources, with their cells
-pub named_whole : (r : NamedCells) → named_cells r (names_of r) ≡ r.entries
-named_whole r = named_found r r.entries (names_found r)

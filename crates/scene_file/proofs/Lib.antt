@@ -7,6 +7,7 @@ pub mod TableKinds
 pub mod TextFaults
 pub mod SceneSteps
 pub mod Objects
+pub mod CellSteps
 pub mod Found
 pub mod KindLists
 pub mod RisingMaps

@@ -19,13 +19,13 @@ use Rattle.scene_json_forms.specs.Reading.{◌>>=◌, field, if_good, string_at,
 use Rattle.scene_json_forms.specs.Text.{array_of, list_text, count_text, entity_json, shape_text, resource_cell_text}
 use Rattle.scene_file.specs.Text.{kind_text, children_text, resource_text, table_text, first_text, last_text, parts_text}
 use Rattle.scene_json_forms.specs.Walk.{u32_at, tick_at, entity_at, shape_at, name_at, resource_cell_at}
-use Rattle.scene_file.specs.Walk.{kind_parts, added, kinds_from, kinds_at, children_at, resource_at, table_at, limit_at, scene_keys, parent_follows, name_follows, table_follows, Head, head_of, tail_of, parts_of, first_parts, version_of, parts_in}
+use Rattle.scene_file.specs.Walk.{kind_parts, added, kinds_from, kinds_at, children_at, resource_at, table_at, limit_at, scene_keys, parent_follows, name_follows, table_follows, Head, head_of, tail_of, parts_of, first_parts, version_of, parts_in, whole_of}
 use Rattle.scene_json_forms.proofs.ListsBack.{Follow}
 use Rattle.scene_json_forms.proofs.ReadValues.{IsRead, HasRead}
 use Rattle.scene_json_forms.proofs.ListsExact.{IsExact, IsObject, list_was, list_exact, rising_key, key_was, key_exact, object_was, object_is}
 use Rattle.scene_json_forms.proofs.ValuesExact.{below_exact, tick_exact, string_exact, entity_exact, shape_exact, name_exact, resource_cell_exact}
 use Rattle.scene_file.proofs.RowsExact.{table_exact}
-use Rattle.scene_file.proofs.SceneSteps.{after_children, after_free, after_generations, after_schema, after_resources, after_tables, whole_of}
+use Rattle.scene_file.proofs.SceneSteps.{after_children, after_free, after_generations, after_schema, after_resources, after_tables}
 use Rattle.scene_json_forms.proofs.GoodSteps.{ok_after, good_was, ok_is, no_field, field_was}
 
 -- ---- kinds

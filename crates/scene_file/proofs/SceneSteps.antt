@@ -12,7 +12,7 @@ use Rattle.scene_json_forms.specs.declared.fault.FileFault.{FileFault}
 use Rattle.scene_json_forms.specs.Outcome.{IsTextFault}
 use Rattle.scene_json_forms.specs.Reading.{◌>>=◌, below, list_of, rising_of, object_at, key_of}
 use Rattle.scene_json_forms.specs.Walk.{u32_at, tick_at}
-use Rattle.scene_file.specs.Walk.{Head, head_of, tail_of, kinds_at, limit_at, children_at, resource_at, table_at, row_at, shapes_of, set_of, parent_follows, name_follows, table_follows, parts_of}
+use Rattle.scene_file.specs.Walk.{Head, head_of, tail_of, whole_of, kinds_at, limit_at, children_at, resource_at, table_at, row_at, shapes_of, set_of, parent_follows, name_follows, table_follows, parts_of}
 use Rattle.scene_json_forms.proofs.Walking.{fault_stays}
 
 -- a step that was good
@@ -62,28 +62,11 @@ module _ (ms : Members) where
       → key_of kinds_at [] (codes "kinds") ms ≡ Ok schema
       → key_of limit_at [] (codes "limit") ms ≡ Ok limit
       → head_of ms ≡ Ok (record { children = children; free = free; generations = generations; schema = schema; limit = limit })
-  head_said children free generations schema limit h0 h1 h2 h3 h4 =
-      on (key_of (rising_of children_at parent_follows) [] (codes "children") ms) children after_children h0
-      ∙ (on (key_of (list_of u32_at) [] (codes "free") ms) free (after_free children) h1
-      ∙ (on (key_of (list_of u32_at) [] (codes "generations") ms) generations (after_generations children free) h2
-      ∙ (on (key_of kinds_at [] (codes "kinds") ms) schema (after_schema children free generations) h3
-      ∙ on (key_of limit_at [] (codes "limit") ms) limit
-      (λ limit. Ok (record { children = children; free = free; generations = generations; schema = schema; limit = limit })) h4)))
+  head_said children free generations schema limit h0 h1 h2 h3 h4 = λ i.
+      h0 i >>= λ children. h1 i >>= λ free. h2 i >>= λ generations. h3 i >>= λ schema. h4 i
+      >>= λ limit. Ok (record { children = children; free = free; generations = generations; schema = schema; limit = limit })
 
 -- ---- the keys behind them
-
--- all parts
-abbrev pub whole_of : Head → List (List ℕ × Cell) → List (ℕ × List Row) → ℕ → Parts
-whole_of head resources tables tick = record {
-  schema = head.schema;
-  limit = head.limit;
-  tick = tick;
-  generations = head.generations;
-  free = head.free;
-  tables = tables;
-  children = head.children;
-  resources = resources;
-}
 
 module _ (head : Head) (ms : Members) where
   abbrev pub after_tables : List (List ℕ × Cell) → List (ℕ × List Row) → Result Parts FileFault
@@ -98,10 +81,7 @@ module _ (head : Head) (ms : Members) where
       → key_of (rising_of (table_at head.schema) table_follows) [] (codes "tables") ms ≡ Ok tables
       → key_of tick_at [] (codes "tick") ms ≡ Ok tick
       → tail_of head ms ≡ Ok (whole_of head resources tables tick)
-  tail_said resources tables tick h0 h1 h2 =
-      on (key_of (rising_of resource_at name_follows) [] (codes "resources") ms) resources after_resources h0
-      ∙ (on (key_of (rising_of (table_at head.schema) table_follows) [] (codes "tables") ms) tables (after_tables resources) h1
-      ∙ on (key_of tick_at [] (codes "tick") ms) tick (λ tick. Ok (whole_of head resources tables tick)) h2)
+  tail_said resources tables tick h0 h1 h2 = λ i. h0 i >>= λ resources. h1 i >>= λ tables. h2 i >>= λ tick. Ok (whole_of head resources tables tick)
 
 -- both
 pub parts_said : (ms : Members) (head : Head) (p : Parts) → head_of ms ≡ Ok head → tail_of head ms ≡ Ok p → parts_of ms ≡ Ok p

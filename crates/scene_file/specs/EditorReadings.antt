@@ -56,8 +56,8 @@ RecordFaults =
     ≡ Err (BadRecord 0 0))
     × (loaded_editor 8 (after_with spawned_row (codes "{\"deltas\":[],\"tick\":0}") spawn_frame) ≡ Err (BadRecord 1 0))
     × (loaded_editor 8
-    (after_with spawned_row (codes "{\"deltas\":[{\"after\":[\"0v1\",0],\"before\":null,\"entity\":\"0v1\",\"op\":\"linked\"}],\"tick\":1}") spawn_frame)
-    ≡ Err (BadRecord 1 0))
+    (after_with spawned_row (codes "{\"deltas\":[{\"after\":[\"0v1\",0],\"before\":null,\"entity\":\"0v1\",\"op\":\"linked\"}],\"tick\":1}")
+    spawn_frame) ≡ Err (BadRecord 1 0))
     × (loaded_editor 8 (after_with spawned_row [] (spawn_frame ++ codes "," ++ frame_of (codes "[0,5,1,1]") (codes "3"))) ≡ Err (BadRecord 0 1))
     × (loaded_editor 8 (after_with spawned_row [] (frame_of (codes "[0,5,1,1]") (codes "3") ++ codes "," ++ spawn_frame)) ≡ Err (BadRecord 1 1))
     × (loaded_editor 8 (after_with [] [] (frame_of (codes "[0,5,1,1]") (codes "3"))) ≡ Err (BadWorld 6))

@@ -1,11 +1,9 @@
 -- What the printers of a scene text write one by one. What a save writes doesn't rest on these words.
-use Rattle.std.specs.Prelude.{ℕ, List, [], ◌∷◌, ◌++◌, Option, Some, None, codes, decimal}
+use Rattle.std.specs.Prelude.{ℕ, List, ◌++◌, codes, decimal}
 use Rattle.serde_json.specs.Data.{Data}
 use Rattle.serde_json.specs.Written.{compact_text}
-use Rattle.scene_kinds.specs.declared.cell.Cell.{Cell}
 use Rattle.scene_kinds.specs.declared.cells.Row.{Row}
 use Rattle.scene_kinds.specs.KindSet.{KindSet}
-use Rattle.scene_resources.specs.Resources.{NamedCells, cell_of}
 use Rattle.scene_model.specs.World.{World}
 use Rattle.scene_validate.specs.Parts.{lists_of}
 use Rattle.scene_json_forms.specs.Text.{list_text, count_text}
@@ -18,16 +16,6 @@ kinds_json mask = list_text count_text (kinds_of mask)
 -- a table, kept folded too
 unfoldable pub table_json : KindSet × List Row → Data
 table_json t = table_text t
-
--- a name with its cell, where it has one
-abbrev pub named : List ℕ → Option Cell → List (List ℕ × Cell)
-named name None = []
-named name (Some cell) = (name, cell) ∷ []
-
--- those of names that have a cell, with it
-abbrev pub named_cells : NamedCells → List (List ℕ) → List (List ℕ × Cell)
-named_cells r [] = []
-named_cells r (n ∷ ns) = named n (cell_of r n) ++ named_cells r ns
 
 -- the members of a world up to its limit
 abbrev pub first_members : World → List ℕ

@@ -131,22 +131,26 @@ head_of ms =
     >>= λ schema. key_of limit_at [] (codes "limit") ms
     >>= λ limit. Ok (record { children = children; free = free; generations = generations; schema = schema; limit = limit })
 
+-- all parts: those of the first five keys, with what the others say
+abbrev pub whole_of : Head → List (List ℕ × Cell) → List (ℕ × List Row) → ℕ → Parts
+whole_of head resources tables tick = record {
+  schema = head.schema;
+  limit = head.limit;
+  tick = tick;
+  generations = head.generations;
+  free = head.free;
+  tables = tables;
+  children = head.children;
+  resources = resources;
+}
+
 -- the keys behind them, and with them all parts
 abbrev pub tail_of : Head → Members → Result Parts FileFault
 tail_of head ms =
     key_of (rising_of resource_at name_follows) [] (codes "resources") ms
     >>= λ resources. key_of (rising_of (table_at head.schema) table_follows) [] (codes "tables") ms
     >>= λ tables. key_of tick_at [] (codes "tick") ms
-    >>= λ tick. Ok (record {
-      schema = head.schema;
-      limit = head.limit;
-      tick = tick;
-      generations = head.generations;
-      free = head.free;
-      tables = tables;
-      children = head.children;
-      resources = resources;
-    })
+    >>= λ tick. Ok (whole_of head resources tables tick)
 
 -- the keys of the object in their order
 abbrev pub parts_of : Members → Result Parts FileFault

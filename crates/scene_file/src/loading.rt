@@ -1,12 +1,12 @@
 //! Loading a world from a scene text.
 ghost use Rattle.std.specs.Prelude.{◌≡◌, ◌≢◌, Some, Ok, IfOk, IfErr, IfSome};
 ghost use Rattle.serde_json.specs.Read.{read};
-ghost use Rattle.scene_json.specs.View.{view, whole};
+ghost use Rattle.scene_json.specs.View.{whole};
 ghost use Rattle.scene_streams.specs.Read.{IsRead};
 ghost use Rattle.scene_streams.specs.Source.{reader_of};
 ghost use Rattle.scene_validate.specs.Rules.{first_broken};
 ghost use Rattle.scene_validate.specs.Seen.{seen};
-ghost use Rattle.scene_json_forms.specs.Outcome.{IsFault, IsTextFault};
+ghost use Rattle.scene_json_forms.specs.Outcome.{IsFault, IsTextFault, ReadsAs};
 ghost use Rattle.scene_file.specs.Scene.{if_unbroken, json_in, loaded};
 ghost use Rattle.scene_file.specs.Text.{world_text};
 ghost use Rattle.scene_json_forms.specs.declared.fault.FileFault.TheVariants.{ReadFault, TooLong, WriteFault};
@@ -29,8 +29,7 @@ pub(crate) fn document_of<'a>(
     text: &'a [u8],
     scratch: &'a mut Scratch,
 ) -> Result<Document<'a>, FileFault>
-    ensures found { IfOk result (λ document. json_in text.now ≡ Ok (whole document)) }
-    ensures fault { IfErr result (λ e. IsTextFault e (json_in text.now)) }
+    ensures { ReadsAs whole result (json_in text.now) }
 {
     match Document::read(alloc, text, scratch) {
         Ok(document) => Ok(document),
@@ -54,8 +53,7 @@ fn parts_of_text(alloc: Global, text: &[u8]) -> Result<WorldParts, FileFault>
 /// The world of parts, unless they break a rule.
 #[tactic(auto, using(crate::proofs::TextFaults::loading))]
 pub(crate) fn world_of(alloc: Global, parts: WorldParts) -> Result<World, FileFault>
-    ensures found { IfOk result (λ world. if_unbroken (first_broken (seen parts)) (seen parts) ≡ Ok world.world) }
-    ensures fault { IfErr result (λ e. IsTextFault e (if_unbroken (first_broken (seen parts)) (seen parts))) }
+    ensures { ReadsAs (λ world. world.world) result (if_unbroken (first_broken (seen parts)) (seen parts)) }
 {
     match World::from_parts(alloc, parts) {
         Ok(world) => Ok(world),
@@ -69,8 +67,7 @@ pub(crate) fn world_of(alloc: Global, parts: WorldParts) -> Result<World, FileFa
 /// The world of a text.
 #[tactic(auto, using(scene_json_forms::proofs::Walking::walking, crate::proofs::TextFaults::loading))]
 fn world_in(alloc: Global, text: &[u8]) -> Result<World, FileFault>
-    ensures found { IfOk result (λ world. loaded text.now ≡ Ok world.world) }
-    ensures fault { IfErr result (λ e. IsTextFault e (loaded text.now)) }
+    ensures { ReadsAs (λ world. world.world) result (loaded text.now) }
 {
     let parts = parts_of_text(alloc, text)?;
     world_of(alloc, parts)

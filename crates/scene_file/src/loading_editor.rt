@@ -2,7 +2,7 @@
 ghost use Rattle.std.specs.Prelude.{◌≡◌, ◌≢◌, Ok, IfOk, IfErr, IfSome};
 ghost use Rattle.scene_streams.specs.Read.{IsRead};
 ghost use Rattle.scene_streams.specs.Source.{reader_of};
-ghost use Rattle.scene_json_forms.specs.Outcome.{IsFault, IsTextFault};
+ghost use Rattle.scene_json_forms.specs.Outcome.{IsFault, Reads, ReadsAs};
 ghost use Rattle.scene_json_forms.specs.declared.fault.FileFault.TheVariants.{ReadFault, TooLong, WriteFault};
 ghost use Rattle.scene_file.specs.EditorLaws.{IsTextOf};
 ghost use Rattle.scene_file.specs.EditorScene.{editor_saved_as, loaded_editor, said_in, with_records};
@@ -24,8 +24,7 @@ use std::io::Read;
 /// memory than an editor.
 #[tactic(auto, using(scene_json_forms::proofs::Walking::walking))]
 fn saved_of_text(alloc: Global, text: &[u8]) -> Result<SavedParts, FileFault>
-    ensures found { IfOk result (λ saved. said_in text.now ≡ Ok (saved_seen saved)) }
-    ensures fault { IfErr result (λ e. IsTextFault e (said_in text.now)) }
+    ensures { ReadsAs saved_seen result (said_in text.now) }
 {
     let mut scratch = Scratch::new(alloc);
     let document = document_of(alloc, text, &mut scratch)?;
@@ -41,8 +40,7 @@ fn with_records(
     future: Vec<FrameRecord>,
     depth: u32,
 ) -> Result<Editor, FileFault>
-    ensures found { IfOk result (λ editor. with_records depth past.items future.items world.world ≡ Ok editor) }
-    ensures fault { IfErr result (λ e. IsTextFault e (with_records depth past.items future.items world.world)) }
+    ensures { Reads result (with_records depth past.items future.items world.world) }
 {
     match Editor::from_parts(alloc, world, past, future, depth) {
         Ok(editor) => Ok(editor),
@@ -56,8 +54,7 @@ fn with_records(
 /// The editor of parts and records: first comes the world.
 #[tactic(auto, using(scene_json_forms::proofs::Walking::walking))]
 fn editor_of(alloc: Global, saved: SavedParts, depth: u32) -> Result<Editor, FileFault>
-    ensures found { IfOk result (λ editor. editor_saved_as depth (saved_seen saved) ≡ Ok editor) }
-    ensures fault { IfErr result (λ e. IsTextFault e (editor_saved_as depth (saved_seen saved))) }
+    ensures { Reads result (editor_saved_as depth (saved_seen saved)) }
 {
     let SavedParts {
         parts,
@@ -71,8 +68,7 @@ fn editor_of(alloc: Global, saved: SavedParts, depth: u32) -> Result<Editor, Fil
 /// The editor of a text.
 #[tactic(auto, using(scene_json_forms::proofs::Walking::walking, crate::proofs::RecordFaults::texts))]
 fn editor_in(alloc: Global, text: &[u8], depth: u32) -> Result<Editor, FileFault>
-    ensures found { IfOk result (λ editor. loaded_editor depth text.now ≡ Ok editor) }
-    ensures fault { IfErr result (λ e. IsTextFault e (loaded_editor depth text.now)) }
+    ensures { Reads result (loaded_editor depth text.now) }
 {
     let saved = saved_of_text(alloc, text)?;
     editor_of(alloc, saved, depth)

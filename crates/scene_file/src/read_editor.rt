@@ -1,8 +1,7 @@
 //! The whole of a scene text of version 1 or 2, with records.
-ghost use Rattle.std.specs.Prelude.{◌≡◌, Ok, IfOk, IfErr};
 ghost use Rattle.scene_json.specs.View.{view};
 ghost use Rattle.scene_json_forms.specs.Members.{members_in};
-ghost use Rattle.scene_json_forms.specs.Outcome.{IsTextFault};
+ghost use Rattle.scene_json_forms.specs.Outcome.{ReadsAs};
 ghost use Rattle.scene_file.specs.EditorWalk.{first_saved, saved_by, saved_in, saved_of, second_saved};
 ghost use Rattle.scene_file.specs.SeenEditor.{saved_seen};
 
@@ -10,7 +9,7 @@ use crate::read_scene::{first_parts, head_of, tail_of, top_key, version_of};
 use scene_file_records::RecordsForm;
 use scene_journal::FrameRecord;
 use scene_json::Part;
-use scene_json_forms::{FileFault, Path, object_at};
+use scene_json_forms::{FileFault, FileResult, Path, object_at};
 use scene_validate::WorldParts;
 use std::alloc::Global;
 
@@ -39,9 +38,8 @@ pub(crate) struct SavedParts {
 
 /// The parts and the records that the keys of a scene say.
 #[tactic(auto, using(scene_json_forms::proofs::Walking::walking))]
-fn saved_of(alloc: Global, scene: &Part<'_, '_>) -> Result<SavedParts, FileFault>
-    ensures found { IfOk result (λ saved. saved_of (members_in (view scene.now)) ≡ Ok (saved_seen saved)) }
-    ensures fault { IfErr result (λ e. IsTextFault e (saved_of (members_in (view scene.now)))) }
+fn saved_of(alloc: Global, scene: &Part<'_, '_>) -> FileResult<SavedParts>
+    ensures { ReadsAs saved_seen result (saved_of (members_in (view scene.now))) }
 {
     let head = head_of(alloc, scene)?;
     let form = RecordsForm {
@@ -62,9 +60,8 @@ fn saved_of(alloc: Global, scene: &Part<'_, '_>) -> Result<SavedParts, FileFault
 
 /// What a text of version 1 says, in which no records stand.
 #[tactic(auto, using(scene_json_forms::proofs::Walking::walking))]
-fn first_saved(alloc: Global, value: &Part<'_, '_>) -> Result<SavedParts, FileFault>
-    ensures found { IfOk result (λ saved. first_saved (view value.now) ≡ Ok (saved_seen saved)) }
-    ensures fault { IfErr result (λ e. IsTextFault e (first_saved (view value.now))) }
+fn first_saved(alloc: Global, value: &Part<'_, '_>) -> FileResult<SavedParts>
+    ensures { ReadsAs saved_seen result (first_saved (view value.now)) }
 {
     let parts = first_parts(alloc, value)?;
     Ok(SavedParts {
@@ -76,18 +73,16 @@ fn first_saved(alloc: Global, value: &Part<'_, '_>) -> Result<SavedParts, FileFa
 
 /// What a text of version 2 says.
 #[tactic(auto, using(scene_json_forms::proofs::Walking::walking))]
-fn second_saved(alloc: Global, value: &Part<'_, '_>) -> Result<SavedParts, FileFault>
-    ensures found { IfOk result (λ saved. second_saved (view value.now) ≡ Ok (saved_seen saved)) }
-    ensures fault { IfErr result (λ e. IsTextFault e (second_saved (view value.now))) }
+fn second_saved(alloc: Global, value: &Part<'_, '_>) -> FileResult<SavedParts>
+    ensures { ReadsAs saved_seen result (second_saved (view value.now)) }
 {
     object_at(alloc, &Path::Root, value, &EDITOR_KEYS)?;
     saved_of(alloc, value)
 }
 
 /// What a text of a version says.
-fn saved_by(alloc: Global, version: u64, value: &Part<'_, '_>) -> Result<SavedParts, FileFault>
-    ensures found { IfOk result (λ saved. saved_by version (view value.now) ≡ Ok (saved_seen saved)) }
-    ensures fault { IfErr result (λ e. IsTextFault e (saved_by version (view value.now))) }
+fn saved_by(alloc: Global, version: u64, value: &Part<'_, '_>) -> FileResult<SavedParts>
+    ensures { ReadsAs saved_seen result (saved_by version (view value.now)) }
 {
     match version {
         1 => first_saved(alloc, value),
@@ -99,9 +94,8 @@ fn saved_by(alloc: Global, version: u64, value: &Part<'_, '_>) -> Result<SavedPa
 /// The parts and the records that a scene text of version 1 or 2 says, or its first fault of form
 /// (docs/SCENE_FILES.md, "The walk").
 #[tactic(auto, using(scene_json_forms::proofs::Walking::walking))]
-pub(crate) fn saved_in(alloc: Global, value: &Part<'_, '_>) -> Result<SavedParts, FileFault>
-    ensures found { IfOk result (λ saved. saved_in (view value.now) ≡ Ok (saved_seen saved)) }
-    ensures fault { IfErr result (λ e. IsTextFault e (saved_in (view value.now))) }
+pub(crate) fn saved_in(alloc: Global, value: &Part<'_, '_>) -> FileResult<SavedParts>
+    ensures { ReadsAs saved_seen result (saved_in (view value.now)) }
 {
     let version = version_of(alloc, value)?;
     saved_by(alloc, version, value)

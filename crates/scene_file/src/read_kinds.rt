@@ -1,16 +1,18 @@
 //! Kinds.
-ghost use Rattle.std.specs.Prelude.{◌≡◌, [], ◌∷◌, Ok, IfOk, IfErr, OnOk, map as each};
+ghost use Rattle.std.specs.Prelude.{◌≡◌, [], ◌∷◌};
 ghost use Rattle.scene_json.specs.View.{view, views};
 ghost use Rattle.scene_kinds.specs.Answers.{refusal_of};
 ghost use Rattle.scene_kinds.specs.Schema.{with_kind};
 ghost use Rattle.scene_kinds.specs.declared.fault.Fault.TheVariants.{NoMemory};
-ghost use Rattle.scene_json_forms.specs.Outcome.{IsTextFault, Means};
+ghost use Rattle.scene_json_forms.specs.Outcome.{Means, Reads, ReadsAs};
 ghost use Rattle.scene_json_forms.specs.Paths.{path_bytes};
 ghost use Rattle.scene_file.specs.Walk.{added, kind_parts, kinds_from};
 ghost use Rattle.scene_json_forms.specs.declared.fault.FileFault.TheVariants.{BadField, NoMemory as NoRoom};
 
 use scene_json::{Part, Parts};
-use scene_json_forms::{FileFault, Form, Path, ShapeForm, bad_field, list_at, string_at};
+use scene_json_forms::{
+    FileFault, FileResult, Form, Path, ShapeForm, bad_field, list_at, string_at,
+};
 use scene_kinds::{Fault, Refusal, Schema, Shape};
 use std::alloc::Global;
 
@@ -21,9 +23,9 @@ fn kind_from<'a>(
     path: &Path<'_>,
     name: &Part<'_, 'a>,
     shape: &Part<'_, '_>,
-) -> Result<(&'a str, Shape), FileFault>
-    ensures found { IfOk result (λ kind. kind_parts (path_bytes path.now) (view name.now ∷ view shape.now ∷ []) ≡ Ok (kind.0.now, kind.1)) }
-    ensures fault { IfErr result (λ e. IsTextFault e (kind_parts (path_bytes path.now) (view name.now ∷ view shape.now ∷ []))) }
+) -> FileResult<(&'a str, Shape)>
+    ensures { ReadsAs (λ kind. (kind.0.now, kind.1)) result
+        (kind_parts (path_bytes path.now) (view name.now ∷ view shape.now ∷ [])) }
 {
     let name = string_at(alloc, &Path::Item(&*path, 0), name)?;
     let shape = ShapeForm.read(alloc, &Path::Item(&*path, 1), shape)?;
@@ -36,9 +38,8 @@ fn kind_parts<'a>(
     alloc: Global,
     path: &Path<'_>,
     parts: Parts<'_, 'a>,
-) -> Result<(&'a str, Shape), FileFault>
-    ensures found { IfOk result (λ kind. kind_parts (path_bytes path.now) (views parts.entry) ≡ Ok (kind.0.now, kind.1)) }
-    ensures fault { IfErr result (λ e. IsTextFault e (kind_parts (path_bytes path.now) (views parts.entry))) }
+) -> FileResult<(&'a str, Shape)>
+    ensures { ReadsAs (λ kind. (kind.0.now, kind.1)) result (kind_parts (path_bytes path.now) (views parts.entry)) }
 {
     match parts.two() {
         Some((name, shape)) => kind_from(alloc, path, &name, &shape),
@@ -65,9 +66,8 @@ fn add_kind(
     schema: &mut Schema,
     name: &str,
     shape: Shape,
-) -> Result<(), FileFault>
-    ensures found { OnOk result (added (path_bytes path.now) (with_kind schema.old name.now shape) ≡ Ok schema.new) }
-    ensures fault { IfErr result (λ e. IsTextFault e (added (path_bytes path.now) (with_kind schema.old name.now shape))) }
+) -> FileResult<()>
+    ensures { ReadsAs (λ _. schema.new) result (added (path_bytes path.now) (with_kind schema.old name.now shape)) }
 {
     let name = String::from_str(alloc, name)?;
     match schema.add(name, shape) {
@@ -78,9 +78,8 @@ fn add_kind(
 
 /// Kinds, one after another.
 #[tactic(auto, using(scene_json_forms::proofs::Walking::walking))]
-fn kinds_from(alloc: Global, path: &Path<'_>, parts: Parts<'_, '_>) -> Result<Schema, FileFault>
-    ensures found { IfOk result (λ schema. kinds_from (path_bytes path.now) 0 [] (views parts.entry) ≡ Ok schema) }
-    ensures fault { IfErr result (λ e. IsTextFault e (kinds_from (path_bytes path.now) 0 [] (views parts.entry))) }
+fn kinds_from(alloc: Global, path: &Path<'_>, parts: Parts<'_, '_>) -> FileResult<Schema>
+    ensures { Reads result (kinds_from (path_bytes path.now) 0 [] (views parts.entry)) }
 {
     let mut parts = parts;
     let mut schema = Schema::new(alloc);
@@ -115,12 +114,7 @@ impl Form for KindsForm {
     ghost follows = { λ _ _. true };
 
     #[tactic(auto, using(scene_json_forms::proofs::Walking::walking))]
-    fn read(
-        &self,
-        alloc: Global,
-        path: &Path<'_>,
-        value: &Part<'_, '_>,
-    ) -> Result<Schema, FileFault> {
+    fn read(&self, alloc: Global, path: &Path<'_>, value: &Part<'_, '_>) -> FileResult<Self::Item> {
         let parts = list_at(alloc, path, value)?;
         kinds_from(alloc, path, parts)
     }

@@ -1,15 +1,15 @@
 //! Rows and tables.
-ghost use Rattle.std.specs.Prelude.{◌≡◌, Ok, None, IfOk, IfErr, length, map as each};
+ghost use Rattle.std.specs.Prelude.{◌≡◌, None, IfOk, length};
 ghost use Rattle.std.specs.List.{zip};
 ghost use Rattle.scene_json.specs.View.{views};
 ghost use Rattle.scene_file.specs.TableKinds.{AreRising};
-ghost use Rattle.scene_json_forms.specs.Outcome.{IsTextFault};
+ghost use Rattle.scene_json_forms.specs.Outcome.{ReadsAs};
 ghost use Rattle.scene_json_forms.specs.Paths.{path_bytes};
 ghost use Rattle.scene_file.specs.Walk.{cells_from, set_of, shapes_of};
 
 use scene_json::{Part, Parts};
 use scene_json_forms::{
-    CellForm, EntityForm, FileFault, Form, KindNumberForm, ListOf, Ordered, Path, Rising,
+    CellForm, EntityForm, FileResult, Form, KindNumberForm, ListOf, Ordered, Path, Rising,
     bad_field, key_of, list_at, object_at,
 };
 use scene_kinds::{Cell, Cells, KindSet, Row, Schema, Shape};
@@ -22,10 +22,10 @@ fn cells_from(
     path: &Path<'_>,
     shapes: &[Shape],
     parts: Parts<'_, '_>,
-) -> Result<Vec<Cell>, FileFault>
+) -> FileResult<Vec<Cell>>
     requires { length shapes.now ≡ length (views parts) }
-    ensures found { IfOk result (λ cells. cells_from shapes.now (path_bytes path.now) 0 (views parts.entry) ≡ Ok cells.items) }
-    ensures fault { IfErr result (λ e. IsTextFault e (cells_from shapes.now (path_bytes path.now) 0 (views parts.entry))) }
+    ensures { ReadsAs (λ cells. cells.items) result
+        (cells_from shapes.now (path_bytes path.now) 0 (views parts.entry)) }
 {
     let mut parts = parts;
     let mut cells = Vec::new(alloc);
@@ -60,12 +60,7 @@ impl Form for CellsForm<'_> {
     ghost follows = { λ _ _. true };
 
     #[tactic(auto, using(scene_json_forms::proofs::Walking::walking))]
-    fn read(
-        &self,
-        alloc: Global,
-        path: &Path<'_>,
-        value: &Part<'_, '_>,
-    ) -> Result<Vec<Cell>, FileFault> {
+    fn read(&self, alloc: Global, path: &Path<'_>, value: &Part<'_, '_>) -> FileResult<Self::Item> {
         let parts = list_at(alloc, path, value)?;
         if parts.len() != self.shapes.len() {
             return Err(bad_field(alloc, path));
@@ -104,7 +99,7 @@ impl Form for RowForm<'_> {
     ghost follows = { λ _ _. true };
 
     #[tactic(auto, using(scene_json_forms::proofs::Walking::walking))]
-    fn read(&self, alloc: Global, path: &Path<'_>, value: &Part<'_, '_>) -> Result<Row, FileFault> {
+    fn read(&self, alloc: Global, path: &Path<'_>, value: &Part<'_, '_>) -> FileResult<Self::Item> {
         object_at(alloc, path, value, &["cells", "entity"])?;
         let form = CellsForm {
             shapes: self.shapes,
@@ -163,12 +158,7 @@ impl Form for TableForm<'_> {
     ghost follows = { table_follows };
 
     #[tactic(auto, using(scene_json_forms::proofs::Walking::walking, crate::proofs::TableKinds::kinds, crate::proofs::SceneSteps::table_steps))]
-    fn read(
-        &self,
-        alloc: Global,
-        path: &Path<'_>,
-        value: &Part<'_, '_>,
-    ) -> Result<(KindSet, Vec<Row>), FileFault> {
+    fn read(&self, alloc: Global, path: &Path<'_>, value: &Part<'_, '_>) -> FileResult<Self::Item> {
         object_at(alloc, path, value, &["kinds", "rows"])?;
         let form = Rising(KindNumberForm {
             count: self.schema.len() as u8,

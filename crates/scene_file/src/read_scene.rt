@@ -1,9 +1,9 @@
 //! The whole of a scene text of version 1, and what version 2 shares with it.
-ghost use Rattle.std.specs.Prelude.{◌≡◌, [], Ok, IfOk, IfErr};
+ghost use Rattle.std.specs.Prelude.{[]};
 ghost use Rattle.scene_json.specs.View.{view};
 ghost use Rattle.scene_validate.specs.Seen.{seen};
 ghost use Rattle.scene_json_forms.specs.Members.{members_in};
-ghost use Rattle.scene_json_forms.specs.Outcome.{IsTextFault};
+ghost use Rattle.scene_json_forms.specs.Outcome.{Reads, ReadsAs};
 ghost use Rattle.scene_json_forms.specs.Reading.{key_of};
 ghost use Rattle.scene_file.specs.Walk.{first_parts, head_of, parts_in, parts_of, tail_of, version_of};
 ghost use Rattle.scene_file.specs.SeenHead.{head_seen};
@@ -12,8 +12,8 @@ use crate::read_kinds::KindsForm;
 use crate::read_rows::TableForm;
 use scene_json::Part;
 use scene_json_forms::{
-    EntityForm, FileFault, Form, ListOf, NameForm, Ordered, Path, ResourceCellForm, Rising,
-    TickForm, U32Form, bad_field, if_good, key_of, object_at,
+    EntityForm, FileFault, FileResult, Form, ListOf, NameForm, Ordered, Path, ResourceCellForm,
+    Rising, TickForm, U32Form, bad_field, if_good, key_of, object_at,
 };
 use scene_kinds::{Cell, Entity, Schema};
 use scene_validate::WorldParts;
@@ -53,7 +53,7 @@ impl Form for LimitForm {
     ghost follows = { λ _ _. true };
 
     #[tactic(auto, using(scene_json_forms::proofs::Walking::walking))]
-    fn read(&self, alloc: Global, path: &Path<'_>, value: &Part<'_, '_>) -> Result<u32, FileFault> {
+    fn read(&self, alloc: Global, path: &Path<'_>, value: &Part<'_, '_>) -> FileResult<Self::Item> {
         let number = TickForm.read(alloc, path, value)?;
         let limit = if_good(alloc, path, 1 <= number && number <= MOST_SLOTS, number)?;
         Ok(limit as u32)
@@ -80,12 +80,7 @@ impl Form for ChildrenForm {
     ghost follows = { parent_follows };
 
     #[tactic(auto, using(scene_json_forms::proofs::Walking::walking))]
-    fn read(
-        &self,
-        alloc: Global,
-        path: &Path<'_>,
-        value: &Part<'_, '_>,
-    ) -> Result<(Entity, Vec<Entity>), FileFault> {
+    fn read(&self, alloc: Global, path: &Path<'_>, value: &Part<'_, '_>) -> FileResult<Self::Item> {
         object_at(alloc, path, value, &["list", "parent"])?;
         let list = key_of(alloc, &ListOf(EntityForm), path, value, "list")?;
         let parent = key_of(alloc, &EntityForm, path, value, "parent")?;
@@ -119,12 +114,7 @@ impl Form for ResourceForm {
     ghost follows = { name_follows };
 
     #[tactic(auto, using(scene_json_forms::proofs::Walking::walking))]
-    fn read(
-        &self,
-        alloc: Global,
-        path: &Path<'_>,
-        value: &Part<'_, '_>,
-    ) -> Result<(String, Cell), FileFault> {
+    fn read(&self, alloc: Global, path: &Path<'_>, value: &Part<'_, '_>) -> FileResult<Self::Item> {
         object_at(alloc, path, value, &["cell", "name"])?;
         let cell = key_of(alloc, &ResourceCellForm, path, value, "cell")?;
         let name = key_of(alloc, &NameForm, path, value, "name")?;
@@ -145,9 +135,8 @@ pub(crate) fn top_key<F: Form>(
     form: &F,
     scene: &Part<'_, '_>,
     key: &str,
-) -> Result<F::Item, FileFault>
-    ensures found { IfOk result (λ item. key_of (F.word form.now) [] key.now (members_in (view scene.now)) ≡ Ok (F.meant item)) }
-    ensures fault { IfErr result (λ e. IsTextFault e (key_of (F.word form.now) [] key.now (members_in (view scene.now)))) }
+) -> FileResult<F::Item>
+    ensures { ReadsAs F.meant result (key_of (F.word form.now) [] key.now (members_in (view scene.now))) }
 {
     key_of(alloc, form, &Path::Root, scene, key)
 }
@@ -164,9 +153,8 @@ pub(crate) struct SceneHead {
 
 /// What the first five keys of a scene say, up to its slot limit.
 #[tactic(auto, using(scene_json_forms::proofs::Walking::walking))]
-pub(crate) fn head_of(alloc: Global, scene: &Part<'_, '_>) -> Result<SceneHead, FileFault>
-    ensures found { IfOk result (λ head. head_of (members_in (view scene.now)) ≡ Ok (head_seen head)) }
-    ensures fault { IfErr result (λ e. IsTextFault e (head_of (members_in (view scene.now)))) }
+pub(crate) fn head_of(alloc: Global, scene: &Part<'_, '_>) -> FileResult<SceneHead>
+    ensures { ReadsAs head_seen result (head_of (members_in (view scene.now))) }
 {
     let children = top_key(alloc, &Rising(ChildrenForm), scene, "children")?;
     let free = top_key(alloc, &ListOf(U32Form), scene, "free")?;
@@ -188,9 +176,8 @@ pub(crate) fn tail_of(
     alloc: Global,
     head: SceneHead,
     scene: &Part<'_, '_>,
-) -> Result<WorldParts, FileFault>
-    ensures found { IfOk result (λ parts. tail_of (head_seen head) (members_in (view scene.now)) ≡ Ok (seen parts)) }
-    ensures fault { IfErr result (λ e. IsTextFault e (tail_of (head_seen head) (members_in (view scene.now)))) }
+) -> FileResult<WorldParts>
+    ensures { ReadsAs seen result (tail_of (head_seen head) (members_in (view scene.now))) }
 {
     let resources = top_key(alloc, &Rising(ResourceForm), scene, "resources")?;
     let form = Rising(TableForm {
@@ -212,9 +199,8 @@ pub(crate) fn tail_of(
 
 /// The parts that the keys of a scene say.
 #[tactic(auto, using(scene_json_forms::proofs::Walking::walking))]
-fn parts_of(alloc: Global, scene: &Part<'_, '_>) -> Result<WorldParts, FileFault>
-    ensures found { IfOk result (λ parts. parts_of (members_in (view scene.now)) ≡ Ok (seen parts)) }
-    ensures fault { IfErr result (λ e. IsTextFault e (parts_of (members_in (view scene.now)))) }
+fn parts_of(alloc: Global, scene: &Part<'_, '_>) -> FileResult<WorldParts>
+    ensures { ReadsAs seen result (parts_of (members_in (view scene.now))) }
 {
     let head = head_of(alloc, scene)?;
     tail_of(alloc, head, scene)
@@ -222,9 +208,8 @@ fn parts_of(alloc: Global, scene: &Part<'_, '_>) -> Result<WorldParts, FileFault
 
 /// The version of a text, which is an object.
 #[tactic(auto, using(scene_json_forms::proofs::Walking::walking))]
-pub(crate) fn version_of(alloc: Global, value: &Part<'_, '_>) -> Result<u64, FileFault>
-    ensures found { IfOk result (λ version. version_of (view value.now) ≡ Ok version) }
-    ensures fault { IfErr result (λ e. IsTextFault e (version_of (view value.now))) }
+pub(crate) fn version_of(alloc: Global, value: &Part<'_, '_>) -> FileResult<u64>
+    ensures { Reads result (version_of (view value.now)) }
 {
     let root = Path::Root;
     if !value.is_object() {
@@ -235,9 +220,8 @@ pub(crate) fn version_of(alloc: Global, value: &Part<'_, '_>) -> Result<u64, Fil
 
 /// The parts of a text whose version is 1.
 #[tactic(auto, using(scene_json_forms::proofs::Walking::walking))]
-pub(crate) fn first_parts(alloc: Global, value: &Part<'_, '_>) -> Result<WorldParts, FileFault>
-    ensures found { IfOk result (λ parts. first_parts (view value.now) ≡ Ok (seen parts)) }
-    ensures fault { IfErr result (λ e. IsTextFault e (first_parts (view value.now))) }
+pub(crate) fn first_parts(alloc: Global, value: &Part<'_, '_>) -> FileResult<WorldParts>
+    ensures { ReadsAs seen result (first_parts (view value.now)) }
 {
     object_at(alloc, &Path::Root, value, &SCENE_KEYS)?;
     parts_of(alloc, value)
@@ -245,9 +229,8 @@ pub(crate) fn first_parts(alloc: Global, value: &Part<'_, '_>) -> Result<WorldPa
 
 /// The parts that a scene text of version 1 says, or its first fault of form (docs/SCENE_FILES.md, "The walk").
 #[tactic(auto, using(scene_json_forms::proofs::Walking::walking))]
-pub(crate) fn parts_in(alloc: Global, value: &Part<'_, '_>) -> Result<WorldParts, FileFault>
-    ensures found { IfOk result (λ parts. parts_in (view value.now) ≡ Ok (seen parts)) }
-    ensures fault { IfErr result (λ e. IsTextFault e (parts_in (view value.now))) }
+pub(crate) fn parts_in(alloc: Global, value: &Part<'_, '_>) -> FileResult<WorldParts>
+    ensures { ReadsAs seen result (parts_in (view value.now)) }
 {
     let version = version_of(alloc, value)?;
     if version != 1 {

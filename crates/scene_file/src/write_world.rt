@@ -4,9 +4,10 @@ ghost use Rattle.serde_json.specs.Written.{compact_text};
 ghost use Rattle.scene_json.specs.Texts.{Adds};
 ghost use Rattle.scene_links.specs.Forest.{children_of};
 ghost use Rattle.scene_validate.specs.Parts.{lists_of};
+ghost use Rattle.scene_json_forms.specs.NamedCells.{named_cells};
 ghost use Rattle.scene_json_forms.specs.Text.{list_text};
 ghost use Rattle.scene_file.specs.Text.{kind_text, children_text, resource_text, table_text, world_text};
-ghost use Rattle.scene_file.specs.Printing.{named_cells, first_members, last_members};
+ghost use Rattle.scene_file.specs.Printing.{first_members, last_members};
 
 use crate::write_rows::write_tables;
 use scene_json::write_json_text;
@@ -128,7 +129,7 @@ fn write_named(
 }
 
 /// Adds the list of all resources, by the bytes of their names.
-#[tactic(auto, using(crate::proofs::Found::named_whole))]
+#[tactic(auto, using(scene_json_forms::proofs::FoundCells::named_whole))]
 fn write_resources(alloc: Global, out: &mut String, resources: &Resources) -> Result<(), AllocError>
     ensures { OnOk result (Adds out.old out.new (compact_text (list_text resource_text resources.now.cells.entries))) }
 {

@@ -1,11 +1,11 @@
 -- Records that were written are read again.
 use Rattle.std.proofs.Common.{◌≡◌, ℕ, ◌^◌, ◌<◌, true, false, cond, List, [], ◌∷◌, length, refl, ap, ◌∙◌, Option, Some, None, Result, Ok, is_some, nat_eq, codes}
-use Rattle.std.specs.Prelude.{Bool, IfSome}
+use Rattle.std.specs.Prelude.{IfSome}
 use Rattle.std.specs.List.{list_all, AllByRecursion}
 use Rattle.std.specs.Ordering.{nat_cmp}
 use Rattle.std.specs.FinMap.Entries.{below_all, is_sorted}
 use Rattle.std.proofs.lemmas.Bool.{eq-eqb, lt-ltb}
-use Rattle.serde_json.specs.Data.{Data, boolean, string}
+use Rattle.serde_json.specs.Data.{Data, string}
 use Rattle.serde_json.specs.Find.{as_null}
 use Rattle.scene_kinds.specs.declared.cell.Cell.{Cell}
 use Rattle.scene_kinds.specs.declared.entity.Entity.{Entity}
@@ -27,7 +27,7 @@ use Rattle.scene_json_forms.proofs.GoodSteps.{both_pass}
 use Rattle.scene_json_forms.proofs.ListsBack.{ReadsBack, Follow, after, good, below_back, list_back, rising_back}
 use Rattle.scene_json_forms.proofs.ValuesBack.{entity_back, cell_from_back, resource_cell_back}
 use Rattle.scene_file_records.specs.Text.{maybe_text, kcell_text, kcells_text, parent_text, link_text, maybe_resource_cell_text, delta_text, record_text, records_text}
-use Rattle.scene_file_records.specs.Walk.{maybe_of, kind_at, kcell_at, kcells_at, kind_follows, parent_at, link_at, maybe_resource_cell_at, flag_at, delta_at, record_at, records_at}
+use Rattle.scene_file_records.specs.Walk.{maybe_of, kind_at, kcell_at, kcells_at, kind_follows, parent_at, link_at, maybe_resource_cell_at, delta_at, record_at, records_at}
 use Rattle.scene_file_records.specs.Writable.{IsPlace, IsCellOf, AreCells, IsLink, IsResourceCell, IsWritableDelta, IsWritable}
 
 -- ---- cells
@@ -102,91 +102,31 @@ name_back name h path = good path (is_good_name name) name h
 
 -- ---- deltas
 
-spawned_back : (schema : Kinds) (e : Entity) (cells : List (ℕ × Cell)) (fresh : Bool) → IsWritableDelta schema (Spawned e cells fresh) → ReadsBack (delta_at schema) delta_text (Spawned e cells fresh)
-spawned_back schema e cells fresh h path =
-    after (kcells_at schema (under path (codes "cells")) (kcells_text cells)) cells
-    (λ cs. entity_at (under path (codes "entity")) (entity_json e) >>= λ x. flag_at (under path (codes "fresh")) (boolean fresh) >>= λ f. Ok (Spawned x cs f))
-    (Ok (Spawned e cells fresh)) (kcells_back schema cells h.0 (under path (codes "cells")))
-    (after (entity_at (under path (codes "entity")) (entity_json e)) e
-    (λ x. flag_at (under path (codes "fresh")) (boolean fresh) >>= λ f. Ok (Spawned x cells f))
-    (Ok (Spawned e cells fresh)) (entity_back e h.1 (under path (codes "entity")))
-    refl)
-
-despawned_back : (schema : Kinds) (e : Entity) (place : ℕ) (cells : List (ℕ × Cell)) (link : Option (Entity × ℕ)) (retired : Bool) → IsWritableDelta schema (Despawned e place cells link retired) → ReadsBack (delta_at schema) delta_text (Despawned e place cells link retired)
-despawned_back schema e place cells link retired h path =
-    after (kcells_at schema (under path (codes "cells")) (kcells_text cells)) cells
-    (λ cs. entity_at (under path (codes "entity")) (entity_json e) >>= λ x. link_at (under path (codes "link")) (link_text link) >>= λ l. u32_at (under path (codes "place")) (count_text place) >>= λ p. flag_at (under path (codes "retired")) (boolean retired) >>= λ f. Ok (Despawned x p cs l f))
-    (Ok (Despawned e place cells link retired)) (kcells_back schema cells h.0 (under path (codes "cells")))
-    (after (entity_at (under path (codes "entity")) (entity_json e)) e
-    (λ x. link_at (under path (codes "link")) (link_text link) >>= λ l. u32_at (under path (codes "place")) (count_text place) >>= λ p. flag_at (under path (codes "retired")) (boolean retired) >>= λ f. Ok (Despawned x p cells l f))
-    (Ok (Despawned e place cells link retired)) (entity_back e h.1 (under path (codes "entity")))
-    (after (link_at (under path (codes "link")) (link_text link)) link
-    (λ l. u32_at (under path (codes "place")) (count_text place) >>= λ p. flag_at (under path (codes "retired")) (boolean retired) >>= λ f. Ok (Despawned e p cells l f))
-    (Ok (Despawned e place cells link retired)) (link_back link h.2 (under path (codes "link")))
-    (after (u32_at (under path (codes "place")) (count_text place)) place
-    (λ p. flag_at (under path (codes "retired")) (boolean retired) >>= λ f. Ok (Despawned e p cells link f))
-    (Ok (Despawned e place cells link retired)) (place_back place h.3 (under path (codes "place")))
-    refl)))
-
-shifted_back : (schema : Kinds) (e : Entity) (place kind : ℕ) (cell : Cell) (inward : Bool) → IsWritableDelta schema (Shifted e place kind cell inward) → ReadsBack (delta_at schema) delta_text (Shifted e place kind cell inward)
-shifted_back schema e place kind cell inward h path =
-    after (kcell_at schema (under path (codes "cell")) (kcell_text (kind, cell))) (kind, cell)
-    (λ c. entity_at (under path (codes "entity")) (entity_json e) >>= λ x. flag_at (under path (codes "inward")) (boolean inward) >>= λ f. u32_at (under path (codes "place")) (count_text place) >>= λ p. Ok (Shifted x p c.0 c.1 f))
-    (Ok (Shifted e place kind cell inward)) (kcell_back schema (kind, cell) h.0 (under path (codes "cell")))
-    (after (entity_at (under path (codes "entity")) (entity_json e)) e
-    (λ x. flag_at (under path (codes "inward")) (boolean inward) >>= λ f. u32_at (under path (codes "place")) (count_text place) >>= λ p. Ok (Shifted x p kind cell f))
-    (Ok (Shifted e place kind cell inward)) (entity_back e h.1 (under path (codes "entity")))
-    (after (u32_at (under path (codes "place")) (count_text place)) place
-    (λ p. Ok (Shifted e p kind cell inward))
-    (Ok (Shifted e place kind cell inward)) (place_back place h.2 (under path (codes "place")))
-    refl))
-
-cell_set_back : (schema : Kinds) (e : Entity) (kind : ℕ) (old new : Cell) → IsWritableDelta schema (CellSet e kind old new) → ReadsBack (delta_at schema) delta_text (CellSet e kind old new)
-cell_set_back schema e kind old new h path =
-    after (kcell_at schema (under path (codes "after")) (kcell_text (kind, new))) (kind, new)
-    (λ a. kcell_at schema (under path (codes "before")) (kcell_text (kind, old)) >>= λ b. entity_at (under path (codes "entity")) (entity_json e) >>= λ x. if_good (under path (codes "after")) (nat_eq a.0 b.0) (CellSet x a.0 b.1 a.1))
-    (Ok (CellSet e kind old new)) (kcell_back schema (kind, new) h.0 (under path (codes "after")))
-    (after (kcell_at schema (under path (codes "before")) (kcell_text (kind, old))) (kind, old)
-    (λ b. entity_at (under path (codes "entity")) (entity_json e) >>= λ x. if_good (under path (codes "after")) (nat_eq kind b.0) (CellSet x kind b.1 new))
-    (Ok (CellSet e kind old new)) (kcell_back schema (kind, old) h.1 (under path (codes "before")))
-    (after (entity_at (under path (codes "entity")) (entity_json e)) e
-    (λ x. if_good (under path (codes "after")) (nat_eq kind kind) (CellSet x kind old new))
-    (Ok (CellSet e kind old new)) (entity_back e h.2 (under path (codes "entity")))
-    (good (under path (codes "after")) (nat_eq kind kind) (CellSet e kind old new) (eq-eqb kind kind refl))))
-
-linked_back : (schema : Kinds) (e : Entity) (old new : Option (Entity × ℕ)) → IsWritableDelta schema (Linked e old new) → ReadsBack (delta_at schema) delta_text (Linked e old new)
-linked_back schema e old new h path =
-    after (link_at (under path (codes "after")) (link_text new)) new
-    (λ a. link_at (under path (codes "before")) (link_text old) >>= λ b. entity_at (under path (codes "entity")) (entity_json e) >>= λ x. Ok (Linked x b a))
-    (Ok (Linked e old new)) (link_back new h.0 (under path (codes "after")))
-    (after (link_at (under path (codes "before")) (link_text old)) old
-    (λ b. entity_at (under path (codes "entity")) (entity_json e) >>= λ x. Ok (Linked x b new))
-    (Ok (Linked e old new)) (link_back old h.1 (under path (codes "before")))
-    (after (entity_at (under path (codes "entity")) (entity_json e)) e
-    (λ x. Ok (Linked x old new))
-    (Ok (Linked e old new)) (entity_back e h.2 (under path (codes "entity")))
-    refl))
-
-resource_set_back : (schema : Kinds) (name : List ℕ) (old new : Option Cell) → IsWritableDelta schema (ResourceSet name old new) → ReadsBack (delta_at schema) delta_text (ResourceSet name old new)
-resource_set_back schema name old new h path =
-    after (maybe_resource_cell_at (under path (codes "after")) (maybe_resource_cell_text new)) new
-    (λ a. maybe_resource_cell_at (under path (codes "before")) (maybe_resource_cell_text old) >>= λ b. name_at (under path (codes "name")) (string name) >>= λ n. Ok (ResourceSet n b a))
-    (Ok (ResourceSet name old new)) (maybe_cell_back new h.0 (under path (codes "after")))
-    (after (maybe_resource_cell_at (under path (codes "before")) (maybe_resource_cell_text old)) old
-    (λ b. name_at (under path (codes "name")) (string name) >>= λ n. Ok (ResourceSet n b new))
-    (Ok (ResourceSet name old new)) (maybe_cell_back old h.1 (under path (codes "before")))
-    (after (name_at (under path (codes "name")) (string name)) name
-    (λ n. Ok (ResourceSet n old new))
-    (Ok (ResourceSet name old new)) (name_back name h.2 (under path (codes "name")))
-    refl))
-
+-- each key is read again, one after another
 delta_back : (schema : Kinds) (d : Delta) → IsWritableDelta schema d → ReadsBack (delta_at schema) delta_text d
-delta_back schema (Spawned e cells fresh) h = spawned_back schema e cells fresh h
-delta_back schema (Despawned e place cells link retired) h = despawned_back schema e place cells link retired h
-delta_back schema (Shifted e place kind cell inward) h = shifted_back schema e place kind cell inward h
-delta_back schema (CellSet e kind before after) h = cell_set_back schema e kind before after h
-delta_back schema (Linked e before after) h = linked_back schema e before after h
-delta_back schema (ResourceSet name before after) h = resource_set_back schema name before after h
+delta_back schema (Spawned e cells fresh) h path = λ i.
+    kcells_back schema cells h.0 (under path (codes "cells")) i >>= λ cs. entity_back e h.1 (under path (codes "entity")) i
+    >>= λ x. Ok (Spawned x cs fresh)
+delta_back schema (Despawned e place cells link retired) h path = λ i.
+    kcells_back schema cells h.0 (under path (codes "cells")) i >>= λ cs. entity_back e h.1 (under path (codes "entity")) i
+    >>= λ x. link_back link h.2 (under path (codes "link")) i >>= λ l. place_back place h.3 (under path (codes "place")) i
+    >>= λ p. Ok (Despawned x p cs l retired)
+delta_back schema (Shifted e place kind cell inward) h path = λ i.
+    kcell_back schema (kind, cell) h.0 (under path (codes "cell")) i >>= λ c. entity_back e h.1 (under path (codes "entity")) i
+    >>= λ x. place_back place h.2 (under path (codes "place")) i >>= λ p. Ok (Shifted x p c.0 c.1 inward)
+delta_back schema (CellSet e kind old new) h path =
+    let set : Entity → ℕ × Cell → ℕ × Cell → Result Delta FileFault =
+    λ x b a. if_good (under path (codes "after")) (nat_eq a.0 b.0) (CellSet x a.0 b.1 a.1) in
+    let read : delta_at schema path (delta_text (CellSet e kind old new)) ≡ set e (kind, old) (kind, new) = λ i.
+    kcell_back schema (kind, new) h.0 (under path (codes "after")) i >>= λ a. kcell_back schema (kind, old) h.1 (under path (codes "before")) i
+    >>= λ b. entity_back e h.2 (under path (codes "entity")) i >>= λ x. set x b a in
+    read ∙ good (under path (codes "after")) (nat_eq kind kind) (CellSet e kind old new) (eq-eqb kind kind refl)
+delta_back schema (Linked e old new) h path = λ i.
+    link_back new h.0 (under path (codes "after")) i >>= λ a. link_back old h.1 (under path (codes "before")) i
+    >>= λ b. entity_back e h.2 (under path (codes "entity")) i >>= λ x. Ok (Linked x b a)
+delta_back schema (ResourceSet name old new) h path = λ i.
+    maybe_cell_back new h.0 (under path (codes "after")) i >>= λ a. maybe_cell_back old h.1 (under path (codes "before")) i
+    >>= λ b. name_back name h.2 (under path (codes "name")) i >>= λ n. Ok (ResourceSet n b a)
 
 each_delta_back : (schema : Kinds) (ds : List Delta) → AllByRecursion (IsWritableDelta schema) ds
     → AllByRecursion (ReadsBack (delta_at schema) delta_text) ds

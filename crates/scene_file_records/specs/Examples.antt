@@ -52,23 +52,30 @@ first_delta = codes "undo[0].deltas[0]"
 abbrev pub at_key : List ℕ → List ℕ
 at_key key = first_delta ++ (codes "." ++ key)
 
+-- a delta of these bytes has a bad field under this key
+abbrev pub IsBadAt : List ℕ → List ℕ → Type 0
+IsBadAt delta key = IsFaulty (of_delta delta) (BadField (at_key key))
+
 -- a spawn of one Int: its text, also in another order of keys, with white space, with a further cell and with a later
 -- tick
 abbrev pub SpawnIsWrittenAndRead : Type 0
 SpawnIsWrittenAndRead =
-    let spawn : ℕ → ℕ → List Record = λ changed tick. record_of tick (Spawned (ent 0 1) ((0, cell (value.Int (pos 5)) 1 changed) ∷ []) true ∷ []) ∷ [] in
+    let spawn : ℕ → ℕ → List Record = λ changed tick.
+    record_of tick (Spawned (ent 0 1) ((0, cell (value.Int (pos 5)) 1 changed) ∷ []) true ∷ []) ∷ [] in
     IsTextOf (codes "[]") []
     × IsTextOf (codes "[{\"deltas\":[{\"cells\":[[0,5,1,1]],\"entity\":\"0v1\",\"fresh\":true,\"op\":\"spawned\"}],\"tick\":0}]") (spawn 1 0)
     × IsTextOf (codes "[{\"deltas\":[{\"cells\":[[0,5,1,2]],\"entity\":\"0v1\",\"fresh\":true,\"op\":\"spawned\"}],\"tick\":0}]") (spawn 2 0)
     × IsTextOf (codes "[{\"deltas\":[{\"cells\":[[0,5,1,1]],\"entity\":\"0v1\",\"fresh\":true,\"op\":\"spawned\"}],\"tick\":3}]") (spawn 1 3)
-    × (said (codes "[ {\"tick\":0,\"deltas\":[{\"op\":\"spawned\",\"fresh\":true,\"entity\":\"0v1\",\"cells\":[[0,5,1,1]]}]}\n]") ≡ Some (Ok (spawn 1 0)))
+    × (said (codes "[ {\"tick\":0,\"deltas\":[{\"op\":\"spawned\",\"fresh\":true,\"entity\":\"0v1\",\"cells\":[[0,5,1,1]]}]}\n]")
+    ≡ Some (Ok (spawn 1 0)))
 
 -- the other deltas
 abbrev pub OthersAreWrittenAndRead : Type 0
 OthersAreWrittenAndRead =
     let one : Delta → List Record = λ d. record_of 0 (d ∷ []) ∷ [] in
     let int : ℕ → ℕ → Cell = λ n changed. cell (value.Int (pos n)) 1 changed in
-    IsTextOf (codes "[{\"deltas\":[{\"cells\":[[0,0,1,1]],\"entity\":\"0v1\",\"link\":null,\"op\":\"despawned\",\"place\":0,\"retired\":false}],\"tick\":3}]")
+    IsTextOf
+    (codes "[{\"deltas\":[{\"cells\":[[0,0,1,1]],\"entity\":\"0v1\",\"link\":null,\"op\":\"despawned\",\"place\":0,\"retired\":false}],\"tick\":3}]")
     (record_of 3 (Despawned (ent 0 1) 0 ((0, int 0 1) ∷ []) None false ∷ []) ∷ [])
     × IsTextOf (of_delta (codes "{\"cells\":[],\"entity\":\"0v1\",\"link\":[\"2v1\",4],\"op\":\"despawned\",\"place\":7,\"retired\":true}"))
     (one (Despawned (ent 0 1) 7 [] (Some (ent 2 1, 4)) true))
@@ -95,42 +102,40 @@ RecordFaults =
 -- counts
 abbrev pub OpFaults : Type 0
 OpFaults =
-    IsFaulty (of_delta (codes "{\"cells\":[],\"x\":0}")) (BadField (at_key (codes "op")))
-    × IsFaulty (of_delta (codes "{\"op\":\"spawn\"}")) (BadField (at_key (codes "op")))
-    × IsFaulty (of_delta (codes "{\"op\":0}")) (BadField (at_key (codes "op")))
+    IsBadAt (codes "{\"cells\":[],\"x\":0}") (codes "op")
+    × IsBadAt (codes "{\"op\":\"spawn\"}") (codes "op")
+    × IsBadAt (codes "{\"op\":0}") (codes "op")
     × IsFaulty (of_delta (codes "{\"op\":\"spawned\",\"place\":0}")) (UnknownKey (at_key (codes "place")))
-    × IsFaulty (of_delta (codes "{\"op\":\"spawned\"}")) (BadField (at_key (codes "cells")))
-    × IsFaulty (of_delta (codes "{\"cells\":[],\"fresh\":true,\"op\":\"spawned\"}")) (BadField (at_key (codes "entity")))
-    × IsFaulty (of_delta (codes "{\"cells\":[],\"entity\":\"0v1\",\"fresh\":1,\"op\":\"spawned\"}")) (BadField (at_key (codes "fresh")))
-    × IsFaulty (of_delta (codes "{\"op\":\"spawn\",\"op\":\"linked\"}")) (BadField (at_key (codes "after")))
+    × IsBadAt (codes "{\"op\":\"spawned\"}") (codes "cells")
+    × IsBadAt (codes "{\"cells\":[],\"fresh\":true,\"op\":\"spawned\"}") (codes "entity")
+    × IsBadAt (codes "{\"cells\":[],\"entity\":\"0v1\",\"fresh\":1,\"op\":\"spawned\"}") (codes "fresh")
+    × IsBadAt (codes "{\"op\":\"spawn\",\"op\":\"linked\"}") (codes "after")
 
 -- the cells: their length, a kind that is there, a value of its shape, and the order of the kinds after the parts
 abbrev pub CellFaults : Type 0
 CellFaults =
-    let spawn : List ℕ → List ℕ = λ cells. of_delta (codes "{\"cells\":" ++ (cells ++ codes ",\"entity\":\"0v1\",\"fresh\":true,\"op\":\"spawned\"}")) in
-    IsFaulty (spawn (codes "[[0,5,1]]")) (BadField (at_key (codes "cells[0]")))
-    × IsFaulty (spawn (codes "[[2,5,1,1]]")) (BadField (at_key (codes "cells[0][0]")))
-    × IsFaulty (spawn (codes "[[0,true,1,1]]")) (BadField (at_key (codes "cells[0][1]")))
-    × IsFaulty (spawn (codes "[[0,5,1,-1]]")) (BadField (at_key (codes "cells[0][3]")))
-    × IsFaulty (spawn (codes "[[1,true,1,1],[0,5,1,1]]")) (BadField (at_key (codes "cells[1]")))
-    × IsFaulty (spawn (codes "[[0,5,1,1],[0,5,1,1.0]]")) (BadField (at_key (codes "cells[1][3]")))
+    let spawn : List ℕ → List ℕ = λ cells. codes "{\"cells\":" ++ (cells ++ codes ",\"entity\":\"0v1\",\"fresh\":true,\"op\":\"spawned\"}") in
+    IsBadAt (spawn (codes "[[0,5,1]]")) (codes "cells[0]")
+    × IsBadAt (spawn (codes "[[2,5,1,1]]")) (codes "cells[0][0]")
+    × IsBadAt (spawn (codes "[[0,true,1,1]]")) (codes "cells[0][1]")
+    × IsBadAt (spawn (codes "[[0,5,1,-1]]")) (codes "cells[0][3]")
+    × IsBadAt (spawn (codes "[[1,true,1,1],[0,5,1,1]]")) (codes "cells[1]")
+    × IsBadAt (spawn (codes "[[0,5,1,1],[0,5,1,1.0]]")) (codes "cells[1][3]")
 
 -- the kinds of a set cell, after its parts
 abbrev pub KindFaults : Type 0
 KindFaults =
-    IsFaulty (of_delta (codes "{\"after\":[1,true,1,1],\"before\":[0,5,1,1],\"entity\":\"0v1\",\"op\":\"cellset\"}")) (BadField (at_key (codes "after")))
-    × IsFaulty (of_delta (codes "{\"after\":[1,true,1,1],\"before\":[0,5,1,1],\"entity\":\"v\",\"op\":\"cellset\"}")) (BadField (at_key (codes "entity")))
+    IsBadAt (codes "{\"after\":[1,true,1,1],\"before\":[0,5,1,1],\"entity\":\"0v1\",\"op\":\"cellset\"}") (codes "after")
+    × IsBadAt (codes "{\"after\":[1,true,1,1],\"before\":[0,5,1,1],\"entity\":\"v\",\"op\":\"cellset\"}") (codes "entity")
 
 -- links: their length, and a place of 32 bits
 abbrev pub LinkFaults : Type 0
 LinkFaults =
-    IsFaulty (of_delta (codes "{\"after\":[\"1v1\"],\"before\":null,\"entity\":\"0v1\",\"op\":\"linked\"}")) (BadField (at_key (codes "after")))
-    × IsFaulty (of_delta (codes "{\"after\":null,\"before\":[\"1v1\",4294967296],\"entity\":\"0v1\",\"op\":\"linked\"}"))
-    (BadField (at_key (codes "before[1]")))
+    IsBadAt (codes "{\"after\":[\"1v1\"],\"before\":null,\"entity\":\"0v1\",\"op\":\"linked\"}") (codes "after")
+    × IsBadAt (codes "{\"after\":null,\"before\":[\"1v1\",4294967296],\"entity\":\"0v1\",\"op\":\"linked\"}") (codes "before[1]")
 
 -- resources: a name that isn't good comes after both cells
 abbrev pub NameFaults : Type 0
 NameFaults =
-    IsFaulty (of_delta (codes "{\"after\":null,\"before\":null,\"name\":\"9\",\"op\":\"resourceset\"}")) (BadField (at_key (codes "name")))
-    × IsFaulty (of_delta (codes "{\"after\":null,\"before\":[\"Int\",true,1,1],\"name\":\"9\",\"op\":\"resourceset\"}"))
-    (BadField (at_key (codes "before[1]")))
+    IsBadAt (codes "{\"after\":null,\"before\":null,\"name\":\"9\",\"op\":\"resourceset\"}") (codes "name")
+    × IsBadAt (codes "{\"after\":null,\"before\":[\"Int\",true,1,1],\"name\":\"9\",\"op\":\"resourceset\"}") (codes "before[1]")

@@ -3,7 +3,7 @@ ghost use Rattle.std.specs.Prelude.{◌≡◌};
 ghost use Rattle.scene_file_records.specs.Op.{op_named as named_op};
 
 use scene_json::Part;
-use scene_json_forms::{FileFault, Form, Path, field};
+use scene_json_forms::{FileResult, Form, Path, field};
 use std::alloc::Global;
 
 /// What a delta does, as its key `op` says it (docs/SCENE_FILES.md, "Version 2").
@@ -51,7 +51,7 @@ impl Form for OpForm {
 
     ghost follows = { λ _ _. true };
 
-    fn read(&self, alloc: Global, path: &Path<'_>, value: &Part<'_, '_>) -> Result<Op, FileFault> {
+    fn read(&self, alloc: Global, path: &Path<'_>, value: &Part<'_, '_>) -> FileResult<Self::Item> {
         let op = value.as_str().and_then(op_named);
         field(alloc, path, op)
     }

@@ -1,14 +1,14 @@
 //! Cells with their kinds, and cells of resources that may be missing.
-ghost use Rattle.std.specs.Prelude.{◌≡◌, [], ◌∷◌, Ok, IfOk, IfErr};
+ghost use Rattle.std.specs.Prelude.{[], ◌∷◌};
 ghost use Rattle.scene_json.specs.View.{view, views};
-ghost use Rattle.scene_json_forms.specs.Outcome.{IsTextFault};
+ghost use Rattle.scene_json_forms.specs.Outcome.{Reads};
 ghost use Rattle.scene_json_forms.specs.Paths.{path_bytes};
 ghost use Rattle.scene_file_records.specs.Walk.{kind_at, kcell_parts};
 
 use scene_json::{Part, Parts};
 use scene_json_forms::{
-    FileFault, Form, KindNumberForm, Ordered, Path, ResourceCellForm, Rising, bad_field, cell_from,
-    field, list_at,
+    FileResult, Form, KindNumberForm, Ordered, Path, ResourceCellForm, Rising, bad_field,
+    cell_from, field, list_at,
 };
 use scene_kinds::{Cell, Cells, Schema, Shape};
 use std::alloc::Global;
@@ -20,9 +20,8 @@ fn kind_at(
     schema: &Schema,
     path: &Path<'_>,
     value: &Part<'_, '_>,
-) -> Result<(u8, Shape), FileFault>
-    ensures found { IfOk result (λ kind. kind_at schema.now (path_bytes path.now) (view value.now) ≡ Ok kind) }
-    ensures fault { IfErr result (λ e. IsTextFault e (kind_at schema.now (path_bytes path.now) (view value.now))) }
+) -> FileResult<(u8, Shape)>
+    ensures { Reads result (kind_at schema.now (path_bytes path.now) (view value.now)) }
 {
     let form = KindNumberForm {
         count: schema.len() as u8,
@@ -42,11 +41,9 @@ fn cell_of_kind(
     value: &Part<'_, '_>,
     added: &Part<'_, '_>,
     changed: &Part<'_, '_>,
-) -> Result<(u8, Cell), FileFault>
-    ensures found { IfOk result (λ cell. kcell_parts schema.now (path_bytes path.now)
-        (view kind.now ∷ view value.now ∷ view added.now ∷ view changed.now ∷ []) ≡ Ok cell) }
-    ensures fault { IfErr result (λ e. IsTextFault e (kcell_parts schema.now (path_bytes path.now)
-        (view kind.now ∷ view value.now ∷ view added.now ∷ view changed.now ∷ []))) }
+) -> FileResult<(u8, Cell)>
+    ensures { Reads result
+        (kcell_parts schema.now (path_bytes path.now) (view kind.now ∷ view value.now ∷ view added.now ∷ view changed.now ∷ [])) }
 {
     let kind = kind_at(alloc, schema, &Path::Item(&*path, 0), kind)?;
     let cell = cell_from(alloc, kind.1, path, 1, value, added, changed)?;
@@ -60,9 +57,8 @@ fn kcell_parts(
     schema: &Schema,
     path: &Path<'_>,
     parts: Parts<'_, '_>,
-) -> Result<(u8, Cell), FileFault>
-    ensures found { IfOk result (λ cell. kcell_parts schema.now (path_bytes path.now) (views parts.entry) ≡ Ok cell) }
-    ensures fault { IfErr result (λ e. IsTextFault e (kcell_parts schema.now (path_bytes path.now) (views parts.entry))) }
+) -> FileResult<(u8, Cell)>
+    ensures { Reads result (kcell_parts schema.now (path_bytes path.now) (views parts.entry)) }
 {
     match parts.four() {
         Some((kind, value, added, changed)) => {
@@ -94,12 +90,7 @@ impl Form for KCellForm<'_> {
     ghost follows = { kind_follows };
 
     #[tactic(auto, using(scene_json_forms::proofs::Walking::walking))]
-    fn read(
-        &self,
-        alloc: Global,
-        path: &Path<'_>,
-        value: &Part<'_, '_>,
-    ) -> Result<(u8, Cell), FileFault> {
+    fn read(&self, alloc: Global, path: &Path<'_>, value: &Part<'_, '_>) -> FileResult<Self::Item> {
         let parts = list_at(alloc, path, value)?;
         kcell_parts(alloc, self.schema, path, parts)
     }
@@ -133,12 +124,7 @@ impl Form for KCellsForm<'_> {
     ghost follows = { λ _ _. true };
 
     #[tactic(auto, using(scene_json_forms::proofs::Walking::walking, crate::proofs::SameLists::kept))]
-    fn read(
-        &self,
-        alloc: Global,
-        path: &Path<'_>,
-        value: &Part<'_, '_>,
-    ) -> Result<Cells, FileFault> {
+    fn read(&self, alloc: Global, path: &Path<'_>, value: &Part<'_, '_>) -> FileResult<Self::Item> {
         let form = Rising(KCellForm {
             schema: self.schema,
         });
@@ -167,12 +153,7 @@ impl Form for MaybeResourceCellForm {
     ghost follows = { λ _ _. true };
 
     #[tactic(auto, using(scene_json_forms::proofs::Walking::walking))]
-    fn read(
-        &self,
-        alloc: Global,
-        path: &Path<'_>,
-        value: &Part<'_, '_>,
-    ) -> Result<Option<Cell>, FileFault> {
+    fn read(&self, alloc: Global, path: &Path<'_>, value: &Part<'_, '_>) -> FileResult<Self::Item> {
         if value.is_null() {
             return Ok(None);
         }

@@ -1,8 +1,7 @@
 //! Deltas.
-ghost use Rattle.std.specs.Prelude.{◌≡◌, Ok, IfOk, IfErr, OnOk};
 ghost use Rattle.scene_json.specs.View.{view};
 ghost use Rattle.scene_json_forms.specs.Members.{members_in};
-ghost use Rattle.scene_json_forms.specs.Outcome.{IsTextFault};
+ghost use Rattle.scene_json_forms.specs.Outcome.{Reads, ReadsAs};
 ghost use Rattle.scene_json_forms.specs.Paths.{path_bytes};
 ghost use Rattle.scene_json_forms.specs.Reading.{object_at};
 ghost use Rattle.scene_file_records.specs.Op.{op_keys};
@@ -14,7 +13,7 @@ use crate::read_links::{FlagForm, LinkForm};
 use scene_deltas::{Delta, ResourceCell};
 use scene_json::Part;
 use scene_json_forms::{
-    EntityForm, FileFault, Form, NameForm, Path, U32Form, bad_field, if_good, key_of, object_at,
+    EntityForm, FileResult, Form, NameForm, Path, U32Form, bad_field, if_good, key_of, object_at,
 };
 use scene_kinds::{Schema, Text};
 use std::alloc::Global;
@@ -28,9 +27,8 @@ fn spawned_of(
     schema: &Schema,
     path: &Path<'_>,
     value: &Part<'_, '_>,
-) -> Result<Delta, FileFault>
-    ensures found { IfOk result (λ delta. spawned_of schema.now (path_bytes path.now) (members_in (view value.now)) ≡ Ok delta) }
-    ensures fault { IfErr result (λ e. IsTextFault e (spawned_of schema.now (path_bytes path.now) (members_in (view value.now)))) }
+) -> FileResult<Delta>
+    ensures { Reads result (spawned_of schema.now (path_bytes path.now) (members_in (view value.now))) }
 {
     let cells = key_of(alloc, &KCellsForm { schema }, path, value, "cells")?;
     let entity = key_of(alloc, &EntityForm, path, value, "entity")?;
@@ -49,9 +47,8 @@ fn despawned_of(
     schema: &Schema,
     path: &Path<'_>,
     value: &Part<'_, '_>,
-) -> Result<Delta, FileFault>
-    ensures found { IfOk result (λ delta. despawned_of schema.now (path_bytes path.now) (members_in (view value.now)) ≡ Ok delta) }
-    ensures fault { IfErr result (λ e. IsTextFault e (despawned_of schema.now (path_bytes path.now) (members_in (view value.now)))) }
+) -> FileResult<Delta>
+    ensures { Reads result (despawned_of schema.now (path_bytes path.now) (members_in (view value.now))) }
 {
     let cells = key_of(alloc, &KCellsForm { schema }, path, value, "cells")?;
     let entity = key_of(alloc, &EntityForm, path, value, "entity")?;
@@ -74,9 +71,8 @@ fn shifted_of(
     schema: &Schema,
     path: &Path<'_>,
     value: &Part<'_, '_>,
-) -> Result<Delta, FileFault>
-    ensures found { IfOk result (λ delta. shifted_of schema.now (path_bytes path.now) (members_in (view value.now)) ≡ Ok delta) }
-    ensures fault { IfErr result (λ e. IsTextFault e (shifted_of schema.now (path_bytes path.now) (members_in (view value.now)))) }
+) -> FileResult<Delta>
+    ensures { Reads result (shifted_of schema.now (path_bytes path.now) (members_in (view value.now))) }
 {
     let (kind, cell) = key_of(alloc, &KCellForm { schema }, path, value, "cell")?;
     let entity = key_of(alloc, &EntityForm, path, value, "entity")?;
@@ -98,9 +94,8 @@ fn cell_set_of(
     schema: &Schema,
     path: &Path<'_>,
     value: &Part<'_, '_>,
-) -> Result<Delta, FileFault>
-    ensures found { IfOk result (λ delta. cell_set_of schema.now (path_bytes path.now) (members_in (view value.now)) ≡ Ok delta) }
-    ensures fault { IfErr result (λ e. IsTextFault e (cell_set_of schema.now (path_bytes path.now) (members_in (view value.now)))) }
+) -> FileResult<Delta>
+    ensures { Reads result (cell_set_of schema.now (path_bytes path.now) (members_in (view value.now))) }
 {
     let form = KCellForm { schema };
     let (kind, after) = key_of(alloc, &form, path, value, "after")?;
@@ -117,9 +112,8 @@ fn cell_set_of(
 
 /// The delta of a link.
 #[tactic(auto, using(scene_json_forms::proofs::Walking::walking))]
-fn linked_of(alloc: Global, path: &Path<'_>, value: &Part<'_, '_>) -> Result<Delta, FileFault>
-    ensures found { IfOk result (λ delta. linked_of (path_bytes path.now) (members_in (view value.now)) ≡ Ok delta) }
-    ensures fault { IfErr result (λ e. IsTextFault e (linked_of (path_bytes path.now) (members_in (view value.now)))) }
+fn linked_of(alloc: Global, path: &Path<'_>, value: &Part<'_, '_>) -> FileResult<Delta>
+    ensures { Reads result (linked_of (path_bytes path.now) (members_in (view value.now))) }
 {
     let after = key_of(alloc, &LinkForm, path, value, "after")?;
     let before = key_of(alloc, &LinkForm, path, value, "before")?;
@@ -133,9 +127,8 @@ fn linked_of(alloc: Global, path: &Path<'_>, value: &Part<'_, '_>) -> Result<Del
 
 /// The delta of a resource.
 #[tactic(auto, using(scene_json_forms::proofs::Walking::walking))]
-fn resource_set_of(alloc: Global, path: &Path<'_>, value: &Part<'_, '_>) -> Result<Delta, FileFault>
-    ensures found { IfOk result (λ delta. resource_set_of (path_bytes path.now) (members_in (view value.now)) ≡ Ok delta) }
-    ensures fault { IfErr result (λ e. IsTextFault e (resource_set_of (path_bytes path.now) (members_in (view value.now)))) }
+fn resource_set_of(alloc: Global, path: &Path<'_>, value: &Part<'_, '_>) -> FileResult<Delta>
+    ensures { Reads result (resource_set_of (path_bytes path.now) (members_in (view value.now))) }
 {
     let after = key_of(alloc, &MaybeResourceCellForm, path, value, "after")?;
     let before = key_of(alloc, &MaybeResourceCellForm, path, value, "before")?;
@@ -149,9 +142,8 @@ fn resource_set_of(alloc: Global, path: &Path<'_>, value: &Part<'_, '_>) -> Resu
 
 /// What a delta does, which is an object.
 #[tactic(auto, using(scene_json_forms::proofs::Walking::walking))]
-fn op_of(alloc: Global, path: &Path<'_>, value: &Part<'_, '_>) -> Result<Op, FileFault>
-    ensures found { IfOk result (λ op. op_of (path_bytes path.now) (view value.now) ≡ Ok op) }
-    ensures fault { IfErr result (λ e. IsTextFault e (op_of (path_bytes path.now) (view value.now))) }
+fn op_of(alloc: Global, path: &Path<'_>, value: &Part<'_, '_>) -> FileResult<Op>
+    ensures { Reads result (op_of (path_bytes path.now) (view value.now)) }
 {
     if !value.is_object() {
         return Err(bad_field(alloc, path));
@@ -160,9 +152,9 @@ fn op_of(alloc: Global, path: &Path<'_>, value: &Part<'_, '_>) -> Result<Op, Fil
 }
 
 /// Sees that a delta has no other keys than those of its `op`.
-fn known_keys(alloc: Global, op: Op, path: &Path<'_>, value: &Part<'_, '_>) -> Result<(), FileFault>
-    ensures found { OnOk result (object_at (op_keys op) (path_bytes path.now) (view value.now) ≡ Ok (members_in (view value.now))) }
-    ensures fault { IfErr result (λ e. IsTextFault e (object_at (op_keys op) (path_bytes path.now) (view value.now))) }
+fn known_keys(alloc: Global, op: Op, path: &Path<'_>, value: &Part<'_, '_>) -> FileResult<()>
+    ensures { ReadsAs (λ _. members_in (view value.now)) result
+        (object_at (op_keys op) (path_bytes path.now) (view value.now)) }
 {
     match op {
         Op::Spawned => object_at(alloc, path, value, &["cells", "entity", "fresh", "op"]),
@@ -186,9 +178,8 @@ fn delta_of(
     op: Op,
     path: &Path<'_>,
     value: &Part<'_, '_>,
-) -> Result<Delta, FileFault>
-    ensures found { IfOk result (λ delta. delta_of schema.now op (path_bytes path.now) (members_in (view value.now)) ≡ Ok delta) }
-    ensures fault { IfErr result (λ e. IsTextFault e (delta_of schema.now op (path_bytes path.now) (members_in (view value.now)))) }
+) -> FileResult<Delta>
+    ensures { Reads result (delta_of schema.now op (path_bytes path.now) (members_in (view value.now))) }
 {
     match op {
         Op::Spawned => spawned_of(alloc, schema, path, value),
@@ -222,12 +213,7 @@ impl Form for DeltaForm<'_> {
     ghost follows = { λ _ _. true };
 
     #[tactic(auto, using(scene_json_forms::proofs::Walking::walking))]
-    fn read(
-        &self,
-        alloc: Global,
-        path: &Path<'_>,
-        value: &Part<'_, '_>,
-    ) -> Result<Delta, FileFault> {
+    fn read(&self, alloc: Global, path: &Path<'_>, value: &Part<'_, '_>) -> FileResult<Self::Item> {
         let op = op_of(alloc, path, value)?;
         known_keys(alloc, op, path, value)?;
         delta_of(alloc, self.schema, op, path, value)

@@ -1,12 +1,12 @@
 //! Links, and marks that are true or false.
-ghost use Rattle.std.specs.Prelude.{◌≡◌, [], ◌∷◌, Ok, IfOk, IfErr};
+ghost use Rattle.std.specs.Prelude.{[], ◌∷◌};
 ghost use Rattle.scene_json.specs.View.{view, views};
-ghost use Rattle.scene_json_forms.specs.Outcome.{IsTextFault};
+ghost use Rattle.scene_json_forms.specs.Outcome.{Reads};
 ghost use Rattle.scene_json_forms.specs.Paths.{path_bytes};
 ghost use Rattle.scene_file_records.specs.Walk.{parent_parts};
 
 use scene_json::{Part, Parts};
-use scene_json_forms::{EntityForm, FileFault, Form, Path, U32Form, bad_field, field, list_at};
+use scene_json_forms::{EntityForm, FileResult, Form, Path, U32Form, bad_field, field, list_at};
 use scene_kinds::Entity;
 use std::alloc::Global;
 
@@ -28,12 +28,7 @@ impl Form for FlagForm {
 
     ghost follows = { λ _ _. true };
 
-    fn read(
-        &self,
-        alloc: Global,
-        path: &Path<'_>,
-        value: &Part<'_, '_>,
-    ) -> Result<bool, FileFault> {
+    fn read(&self, alloc: Global, path: &Path<'_>, value: &Part<'_, '_>) -> FileResult<Self::Item> {
         field(alloc, path, value.as_bool())
     }
 }
@@ -45,9 +40,8 @@ fn parent_from(
     path: &Path<'_>,
     parent: &Part<'_, '_>,
     place: &Part<'_, '_>,
-) -> Result<(Entity, u32), FileFault>
-    ensures found { IfOk result (λ link. parent_parts (path_bytes path.now) (view parent.now ∷ view place.now ∷ []) ≡ Ok link) }
-    ensures fault { IfErr result (λ e. IsTextFault e (parent_parts (path_bytes path.now) (view parent.now ∷ view place.now ∷ []))) }
+) -> FileResult<(Entity, u32)>
+    ensures { Reads result (parent_parts (path_bytes path.now) (view parent.now ∷ view place.now ∷ [])) }
 {
     let parent = EntityForm.read(alloc, &Path::Item(&*path, 0), parent)?;
     let place = U32Form.read(alloc, &Path::Item(&*path, 1), place)?;
@@ -56,13 +50,8 @@ fn parent_from(
 
 /// A parent and a place in its list, of the parts of a list.
 #[tactic(auto, using(scene_json_forms::proofs::Walking::walking, crate::proofs::Parted::parted))]
-fn parent_parts(
-    alloc: Global,
-    path: &Path<'_>,
-    parts: Parts<'_, '_>,
-) -> Result<(Entity, u32), FileFault>
-    ensures found { IfOk result (λ link. parent_parts (path_bytes path.now) (views parts.entry) ≡ Ok link) }
-    ensures fault { IfErr result (λ e. IsTextFault e (parent_parts (path_bytes path.now) (views parts.entry))) }
+fn parent_parts(alloc: Global, path: &Path<'_>, parts: Parts<'_, '_>) -> FileResult<(Entity, u32)>
+    ensures { Reads result (parent_parts (path_bytes path.now) (views parts.entry)) }
 {
     match parts.two() {
         Some((parent, place)) => parent_from(alloc, path, &parent, &place),
@@ -90,12 +79,7 @@ impl Form for LinkForm {
     ghost follows = { λ _ _. true };
 
     #[tactic(auto, using(scene_json_forms::proofs::Walking::walking))]
-    fn read(
-        &self,
-        alloc: Global,
-        path: &Path<'_>,
-        value: &Part<'_, '_>,
-    ) -> Result<Option<(Entity, u32)>, FileFault> {
+    fn read(&self, alloc: Global, path: &Path<'_>, value: &Part<'_, '_>) -> FileResult<Self::Item> {
         if value.is_null() {
             return Ok(None);
         }

@@ -3,7 +3,7 @@
 use crate::read_deltas::DeltaForm;
 use scene_journal::FrameRecord;
 use scene_json::Part;
-use scene_json_forms::{FileFault, Form, ListOf, Path, TickForm, key_of, object_at};
+use scene_json_forms::{FileResult, Form, ListOf, Path, TickForm, key_of, object_at};
 use scene_kinds::Schema;
 use std::alloc::Global;
 
@@ -29,12 +29,7 @@ impl Form for RecordForm<'_> {
     ghost follows = { λ _ _. true };
 
     #[tactic(auto, using(scene_json_forms::proofs::Walking::walking, crate::proofs::SameLists::kept))]
-    fn read(
-        &self,
-        alloc: Global,
-        path: &Path<'_>,
-        value: &Part<'_, '_>,
-    ) -> Result<FrameRecord, FileFault> {
+    fn read(&self, alloc: Global, path: &Path<'_>, value: &Part<'_, '_>) -> FileResult<Self::Item> {
         object_at(alloc, path, value, &["deltas", "tick"])?;
         let form = ListOf(DeltaForm {
             schema: self.schema,
@@ -73,12 +68,7 @@ impl Form for RecordsForm<'_> {
     ghost follows = { λ _ _. true };
 
     #[tactic(auto, using(crate::proofs::SameLists::kept))]
-    fn read(
-        &self,
-        alloc: Global,
-        path: &Path<'_>,
-        value: &Part<'_, '_>,
-    ) -> Result<Vec<FrameRecord>, FileFault> {
+    fn read(&self, alloc: Global, path: &Path<'_>, value: &Part<'_, '_>) -> FileResult<Self::Item> {
         let form = ListOf(RecordForm {
             schema: self.schema,
         });

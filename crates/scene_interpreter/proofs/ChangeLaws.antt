@@ -5,10 +5,9 @@ use Rattle.scene_script.specs.declared.script_line.Line.{Line}
 use Rattle.scene_script.specs.declared.script_line.Line.TheVariants.{Empty, Kind, Slots, Load, Calls, Depth, Do, Queue, Commit, Show, Get, Changed, Added, History, Dump, DumpAll}
 use Rattle.scene_script.specs.declared.bad_line.BadLine.{BadLine}
 use Rattle.scene_script.specs.Script.{line_in}
-use Rattle.scene_interpreter.specs.declared.play_state.PlayState.{PlayState}
 use Rattle.scene_interpreter.specs.Changes.{changes, changes_alone, changes_frame, changes_said, changes_setup, changes_within, declares}
 use Rattle.scene_interpreter.specs.OpenFrame.{Opened}
-use Rattle.scene_interpreter.specs.Play.{Base, Declared, Loaded, SetupState, frame_reply, kind_reply, lone_reply, reply_within, said_reply, setup_kinds, setup_said, slots_reply}
+use Rattle.scene_interpreter.specs.Play.{Base, Declared, Loaded, PlayState, SetupState, frame_reply, kind_reply, lone_reply, reply_within, said_reply, setup_kinds, setup_said, slots_reply}
 use Rattle.scene_interpreter.specs.Interpreter.{Interpreter, Setting, Playing, interpreter_reply, set_or_begun}
 use Rattle.scene_interpreter.proofs.FrameLaws.{frame_put_back}
 

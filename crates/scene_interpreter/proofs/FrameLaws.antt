@@ -4,9 +4,8 @@ use Rattle.std.specs.Prelude.{Err, is_some}
 use Rattle.scene_script.specs.declared.script_line.Line.{Line}
 use Rattle.scene_script.specs.declared.script_line.Line.TheVariants.{Do}
 use Rattle.scene_kinds.specs.Answers.{Outcome}
-use Rattle.scene_interpreter.specs.declared.play_state.PlayState.{PlayState}
 use Rattle.scene_interpreter.specs.OpenFrame.{Opened, with_command}
-use Rattle.scene_interpreter.specs.Play.{with_frame, lone_reply, line_reply, queued_reply, frame_reply, reply_within}
+use Rattle.scene_interpreter.specs.Play.{PlayState, frame_reply, line_reply, lone_reply, queued_reply, reply_within, with_frame}
 
 -- where no frame is open, the reply is the one outside a frame
 pub alone_within : (s : PlayState) (line : Line) → is_some s.frame ≡ false → lone_reply s line ≡ line_reply s line

@@ -6,10 +6,9 @@ use Rattle.scene_script.specs.declared.bad_line.BadLine.{BadLine}
 use Rattle.scene_interpreter.specs.declared.answer.LineAnswer.{LineAnswer}
 use Rattle.scene_interpreter.specs.declared.halt.Halt.{Halt}
 use Rattle.scene_interpreter.specs.declared.halt.Halt.TheVariants.{Begun}
-use Rattle.scene_interpreter.specs.declared.play_state.PlayState.{PlayState}
 use Rattle.scene_interpreter.specs.declared.setup_line.SetupAnswer.TheVariants.{Given, Ends}
 use Rattle.scene_interpreter.specs.Answer.{Says, said_of}
-use Rattle.scene_interpreter.specs.Play.{StateReply, SetupReply, SetupState, first_state, said_reply, setup_kinds, setup_said}
+use Rattle.scene_interpreter.specs.Play.{PlayState, SetupReply, SetupState, StateReply, first_state, said_reply, setup_kinds, setup_said}
 use Rattle.scene_interpreter.specs.Interpreter.{HaltsSetup, Interpreter, Setting, Playing, Tells, halted, played, interpreter_said, set_or_begun}
 use Rattle.scene_interpreter.specs.Said.{bad_in, said_text}
 use Rattle.scene_interpreter.specs.Setup.{AnswersSetup}

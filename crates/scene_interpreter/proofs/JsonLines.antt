@@ -13,12 +13,11 @@ use Rattle.scene_script.specs.declared.script_line.Line.TheVariants.{Show, Get, 
 use Rattle.scene_script.specs.Script.{line_in}
 use Rattle.scene_interpreter.specs.declared.halt.Halt.{Halt}
 use Rattle.scene_interpreter.specs.declared.json_question.StateJson.{StateJson}
-use Rattle.scene_interpreter.specs.declared.play_state.PlayState.{PlayState}
 use Rattle.scene_interpreter.specs.JsonAnswer.{json_line}
 use Rattle.scene_interpreter.specs.JsonLine.{AddsJson, IsAnsweredAsJson, asked_in, question_of}
 use Rattle.scene_interpreter.specs.JsonQuestion.{asked_json}
 use Rattle.scene_interpreter.specs.OpenFrame.{Opened}
-use Rattle.scene_interpreter.specs.Play.{SetupState, first_state, lone_reply, now, reply_within, row_said, said_reply, saved_said, setup_kinds, setup_said}
+use Rattle.scene_interpreter.specs.Play.{PlayState, SetupState, first_state, lone_reply, now, reply_within, row_said, said_reply, saved_said, setup_kinds, setup_said}
 use Rattle.scene_interpreter.specs.Interpreter.{Interpreter, Setting, Playing, begun, halted, owner_of, interpreter_reply, set_or_begun}
 use Rattle.scene_interpreter.specs.Said.{bad_in}
 

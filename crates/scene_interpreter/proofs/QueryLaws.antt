@@ -13,9 +13,8 @@ use Rattle.scene_session.specs.Queries.{ListsAfter, ListsSince}
 use Rattle.scene_session.specs.Owner.{OwnerState, machine_at}
 use Rattle.scene_interpreter.specs.declared.answer.LineAnswer.{LineAnswer}
 use Rattle.scene_interpreter.specs.declared.answer.LineAnswer.TheVariants.{Replied}
-use Rattle.scene_interpreter.specs.declared.play_state.PlayState.{PlayState}
 use Rattle.scene_interpreter.specs.Answer.{Says}
-use Rattle.scene_interpreter.specs.Play.{no_filter, now, query_reply, since_said, with_owner}
+use Rattle.scene_interpreter.specs.Play.{PlayState, no_filter, now, query_reply, since_said, with_owner}
 use Rattle.scene_interpreter.specs.Said.{Said, refused}
 
 -- a list of cells is what was asked

@@ -3,8 +3,7 @@ use Rattle.std.specs.Prelude.{◌≡◌, string_bytes}
 use Rattle.scene_session.specs.Calls.{told}
 use Rattle.scene_interpreter.specs.declared.answer.LineAnswer.{LineAnswer}
 use Rattle.scene_interpreter.specs.declared.answer.LineAnswer.TheVariants as code
-use Rattle.scene_interpreter.specs.declared.play_state.PlayState.{PlayState}
-use Rattle.scene_interpreter.specs.Play.{StateReply}
+use Rattle.scene_interpreter.specs.Play.{PlayState, StateReply}
 use Rattle.scene_interpreter.specs.Said.{Said, Nothing, Taken, Queued, Called, Fault, Marked, Counted, Text, Changed, Added, Bad}
 
 -- the answer of the code, without the room of its lists

@@ -1,5 +1,5 @@
 -- An interpreter: the lines of a script one at a time.
-use Rattle.std.specs.Prelude.{◌≡◌, ◌≢◌, ⊤, ℕ, max, List, [], ◌++◌, false, true, Option, Some, None, Result}
+use Rattle.std.specs.Prelude.{◌≡◌, ◌≢◌, ⊤, ℕ, max, List, [], ◌++◌, Option, Some, None, Result}
 use Rattle.scene_kinds.specs.Schema.{Kinds}
 use Rattle.scene_session.specs.Owner.{OwnerState}
 use Rattle.scene_systems.specs.declared.system_rule.SystemRule.{SystemRule}
@@ -9,36 +9,43 @@ use Rattle.scene_script.specs.Script.{line_in}
 use Rattle.scene_interpreter.specs.declared.answer.LineAnswer.{LineAnswer}
 use Rattle.scene_interpreter.specs.declared.halt.Halt.{Halt}
 use Rattle.scene_interpreter.specs.declared.halt.Halt.TheVariants.{Before, Begun, After, Lost}
-use Rattle.scene_interpreter.specs.declared.play_state.PlayState.{PlayState}
 use Rattle.scene_interpreter.specs.declared.interpreter.Interpreter.{Interpreter as Code}
 use Rattle.scene_interpreter.specs.declared.interpreter.Mode.{Mode}
 use Rattle.scene_interpreter.specs.declared.interpreter.Mode.TheVariants as code
 use Rattle.scene_interpreter.specs.Answer.{said_of}
-use Rattle.scene_interpreter.specs.Play.{StateReply, SetupReply, SetupState, first_owner, first_setup, first_state, said_reply, setup_kinds, setup_said, with_frame}
+use Rattle.scene_interpreter.specs.Play.{PlayState, StateReply, SetupReply, SetupState, first_owner, first_setup, first_state, said_reply, setup_kinds, setup_said, state_by, with_frame}
 use Rattle.scene_interpreter.specs.Said.{Said, bad_in, said_text}
-use Rattle.scene_interpreter.specs.Setup.{setup_of, without_base}
+use Rattle.scene_interpreter.specs.Setup.{setup_by, without_base}
 
 -- what the lines so far have come to: a setup, or what follows it
 pub data Interpreter : Type 0 where
   Setting : SetupState → Interpreter
   Playing : PlayState → Interpreter
 
--- the mode of the code, and the interpreter
-abbrev pub mode_of : Mode → Interpreter
-mode_of (code.Setting s) = Setting (setup_of s)
-mode_of (code.Playing s) = Playing s
+-- the mode of the code, over an owner that is seen so, with a limit of calls that is so many
+abbrev pub mode_by : {O L : Type 0} → (O → OwnerState) → (L → ℕ) → Mode O L → Interpreter
+mode_by seen most (code.Setting s) = Setting (setup_by most s)
+mode_by seen most (code.Playing s) = Playing (state_by seen s)
 
--- an interpreter, as contracts see it
-abbrev pub interpreter_of : Code → Interpreter
-interpreter_of p = mode_of p.mode
+-- an interpreter, as contracts see it, whichever owner it is over
+abbrev pub reached : {O L : Type 0} → (O → OwnerState) → (L → ℕ) → Code O L → Interpreter
+reached seen most p = mode_by seen most p.mode
 
--- the interpreter before the first line, with a lock
+-- one of the code over a lone owner
+abbrev pub LoneCode : Type 0
+LoneCode = Code OwnerState ℕ
+
+-- and as contracts see it; 0 calls are taken as 1
+abbrev pub interpreter_of : LoneCode → Interpreter
+interpreter_of = reached (λ owner. owner) (λ limit. max limit 1)
+
+-- the interpreter before the first line of a run
 abbrev pub first_interpreter : Interpreter
 first_interpreter = Setting first_setup
 
--- the same without one, of which so many frames can be undone, and which may make so many calls; 0 is taken as 1
+-- one before its first line of which so many frames can be undone, and which may make so many calls; 0 is taken as 1
 abbrev pub lone_interpreter : (depth calls : ℕ) → Interpreter
-lone_interpreter depth calls = Setting (record first_setup { calls = max calls 1; depth = depth; is_alone = true })
+lone_interpreter depth calls = Setting (record first_setup { calls = max calls 1; depth = depth })
 
 -- the kinds so far
 abbrev pub interpreter_kinds : Interpreter → Kinds
@@ -60,10 +67,10 @@ abbrev pub without_frame : Interpreter → Interpreter
 without_frame (Setting s) = Setting s
 without_frame (Playing s) = Playing (with_frame s None)
 
--- there is no editor that can be lent: the setup isn't over, or a lock is over the editor
-abbrev pub HasNoEditor : Interpreter → Type 0
-HasNoEditor (Setting s) = ⊤
-HasNoEditor (Playing s) = s.owner.is_alone ≡ false
+-- the setup isn't over
+abbrev pub IsSetting : Interpreter → Type 0
+IsSetting (Setting s) = ⊤
+IsSetting (Playing s) = ⊥
 
 -- what a line is answered with, the text of it, why the line is bad where it is, and the interpreter after it
 pub record LineReply : Type 0 where

@@ -1,5 +1,5 @@
 -- What each line says: the setup, and then the calls on the machine of saved worlds, line by line.
-use Rattle.std.specs.Prelude.{ℕ, List, [], ◌++◌, Bool, false, length, reverse, Option, Some, None, Result, Ok, Err, option_map, codes}
+use Rattle.std.specs.Prelude.{ℕ, List, [], ◌++◌, length, reverse, Option, Some, None, Result, Ok, Err, option_map, codes}
 use Rattle.scene_kinds.specs.declared.entity.Entity.{Entity}
 use Rattle.scene_kinds.specs.declared.fault.Fault.{Fault}
 use Rattle.scene_kinds.specs.declared.fault.Fault.TheVariants.{NoSuchEntity}
@@ -23,7 +23,7 @@ use Rattle.scene_schedule.specs.Schedule.{ScheduleState, schedule_fault}
 use Rattle.scene_undo.specs.declared.cursor.Cursor.{Cursor}
 use Rattle.scene_undo.specs.Cursor.{cursor_of, since}
 use Rattle.scene_undo.specs.Editor.{EditorState, at_depth, new_editor}
-use Rattle.scene_interpreter.specs.declared.play_state.PlayState.{PlayState}
+use Rattle.scene_interpreter.specs.declared.play_state.PlayState.{PlayState as Code}
 use Rattle.scene_script.specs.declared.script_line.Line.{Line}
 use Rattle.scene_script.specs.declared.script_line.Line.TheVariants.{Empty, Kind, Slots, Load, Calls, Depth, Do, Begin, Queue, Commit, Undo, Redo, Show, Get, Mark, Changed, Added, Phase, System, Clear, Advance, As, History, Dump, DumpAll}
 use Rattle.scene_script.specs.declared.bad_line.BadLine.{BadLine}
@@ -36,6 +36,14 @@ use Rattle.scene_print.specs.Printed.{row_text}
 use Rattle.scene_print.specs.Shown.{show_text}
 
 -- ---- the state between two lines, and cursors
+
+-- with an owner as contracts see it, whichever it is
+abbrev pub PlayState : Type 0
+PlayState = Code OwnerState
+
+-- the state of the code, over an owner that is seen so
+abbrev pub state_by : {O : Type 0} → (O → OwnerState) → Code O → PlayState
+state_by seen s = record { owner = seen s.owner; schema = s.schema; cursor = s.cursor; frame = s.frame; phases = s.phases }
 
 -- the owner at first, the kinds, the cursor from before the first mark, no frame and no phases
 abbrev pub opening_state : OwnerState → Kinds → PlayState
@@ -203,12 +211,11 @@ pub data Base : Type 0 where
   Declared : Kinds → ℕ → Base
   Loaded : EditorState → Base
 
--- and how many calls there may be, how many frames can be undone, and whether the run has no lock
+-- and how many calls there may be, and how many frames can be undone
 pub record SetupState : Type 0 where
   pub base : Base
   pub calls : ℕ
   pub depth : ℕ
-  pub is_alone : Bool
 
 -- the kinds so far
 abbrev pub base_kinds : Base → Kinds
@@ -226,7 +233,7 @@ first_editor (Loaded e) depth = at_depth depth e
 
 -- the owner with which the run begins
 abbrev pub first_owner : SetupState → OwnerState
-first_owner s = opening_owner (whole_of (first_editor s.base s.depth)) s.calls s.is_alone
+first_owner s = opening_owner (whole_of (first_editor s.base s.depth)) s.calls
 
 -- the state in which the run begins
 abbrev pub first_state : SetupState → PlayState
@@ -295,6 +302,6 @@ abbrev pub setup_said : SetupState → Result Line BadLine → Option SetupReply
 setup_said s (Ok line) = setup_reply s line
 setup_said s (Err reason) = Some (setup_bad s reason)
 
--- no kinds yet, the greatest limits, and a lock
+-- no kinds yet, and the greatest limits that lines can set
 abbrev pub first_setup : SetupState
-first_setup = record { base = Declared [] 1048576; calls = 1048576; depth = most_frames; is_alone = false }
+first_setup = record { base = Declared [] 1048576; calls = 1048576; depth = most_frames }

@@ -1,13 +1,11 @@
 -- The setup of the code, and what the bodies of its lines have done when they end.
-use Rattle.std.specs.Prelude.{◌≡◌, ℕ, max, [], Bool, true, false, Option, Some, None, Result, Ok}
+use Rattle.std.specs.Prelude.{◌≡◌, ℕ, [], Option, Some, None, Result, Ok}
 use Rattle.scene_script.specs.declared.script_line.Line.{Line}
 use Rattle.scene_script.specs.declared.bad_line.BadLine.{BadLine}
 use Rattle.scene_interpreter.specs.declared.answer.LineAnswer.{LineAnswer}
 use Rattle.scene_interpreter.specs.declared.setup.Setup.{Setup}
 use Rattle.scene_interpreter.specs.declared.setup.Base.{Base as Code}
 use Rattle.scene_interpreter.specs.declared.setup.Base.TheVariants as code
-use Rattle.scene_interpreter.specs.declared.setup.Calls.{Calls}
-use Rattle.scene_interpreter.specs.declared.setup.Calls.TheVariants.{Kept, Counted}
 use Rattle.scene_interpreter.specs.declared.setup_line.SetupAnswer.{SetupAnswer}
 use Rattle.scene_interpreter.specs.declared.setup_line.SetupAnswer.TheVariants.{Given, Ends}
 use Rattle.scene_interpreter.specs.Answer.{said_of}
@@ -18,19 +16,9 @@ abbrev pub base_of : Code → Base
 base_of (code.Declared kinds limit) = Declared kinds limit
 base_of (code.Loaded e) = Loaded e
 
--- how many calls there may be; at least one
-abbrev pub call_limit_of : Calls → ℕ
-call_limit_of (Kept limit) = limit
-call_limit_of (Counted limit) = max limit 1
-
--- calls that are only counted are those of a run without a lock
-abbrev pub are_counted : Calls → Bool
-are_counted (Kept limit) = false
-are_counted (Counted limit) = true
-
--- and a setup
-abbrev pub setup_of : Setup → SetupState
-setup_of s = record { base = base_of s.base; calls = call_limit_of s.calls; depth = s.depth; is_alone = are_counted s.calls }
+-- and a setup, whose limit of calls is so many
+abbrev pub setup_by : {O L : Type 0} → (L → ℕ) → Setup O L → SetupState
+setup_by most s = record { base = base_of s.base; calls = most s.calls; depth = s.depth }
 
 -- the setup that has lost its kinds or its scene
 abbrev pub without_base : SetupState → SetupState

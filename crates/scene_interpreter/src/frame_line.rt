@@ -3,7 +3,7 @@ ghost use Rattle.std.specs.Prelude.{◌≡◌, ◌≤◌, length, IfErr, IfOk, O
 ghost use Rattle.scene_script.specs.declared.script_line.Line.TheVariants.{Queue as FurtherQueue, Commit};
 ghost use Rattle.scene_interpreter.specs.Answer.{Says};
 ghost use Rattle.scene_interpreter.specs.OpenFrame.{queues_of, with_command};
-ghost use Rattle.scene_interpreter.specs.Play.{frame_reply, queued_reply, with_frame};
+ghost use Rattle.scene_interpreter.specs.Play.{frame_reply, queued_reply, state_by, with_frame};
 
 use crate::answer::{LineAnswer, refused};
 use crate::open_frame::OpenFrame;
@@ -12,17 +12,18 @@ use crate::state_line::answer_call_or_back;
 use scene_commands::Command;
 use scene_queue::Queue;
 use scene_script::{BadLine, Line};
-use scene_session::{Call, Performer};
+use scene_session::{Call, Performer, SessionOwner};
 use std::alloc::{AllocError, Global};
 
 /// A command, which goes into the last queue.
-fn answer_queued(
-    state: &mut PlayState,
+fn answer_queued<O: SessionOwner>(
+    state: &mut PlayState<O>,
     frame: OpenFrame,
     command: Command,
 ) -> Result<LineAnswer, AllocError>
-    ensures answer { IfOk result (λ answer. Says answer state.new (queued_reply state.old frame (with_command frame command))) }
-    ensures same { OnErr result (state.new ≡ with_frame state.old (Some frame)) }
+    ensures answer { IfOk result (λ answer. Says answer (state_by O.state state.new)
+        (queued_reply (state_by O.state state.old) frame (with_command frame command))) }
+    ensures same { OnErr result (state_by O.state state.new ≡ with_frame (state_by O.state state.old) (Some frame)) }
 {
     let mut frame = frame;
     let pushed = frame.push(command);
@@ -34,13 +35,13 @@ fn answer_queued(
 }
 
 /// `queue`.
-fn answer_queue(
+fn answer_queue<O: SessionOwner>(
     alloc: Global,
-    state: &mut PlayState,
+    state: &mut PlayState<O>,
     frame: OpenFrame,
 ) -> Result<LineAnswer, AllocError>
-    ensures answer { IfOk result (λ answer. Says answer state.new (frame_reply state.old frame FurtherQueue)) }
-    ensures same { OnErr result (state.new ≡ with_frame state.old (Some frame)) }
+    ensures answer { IfOk result (λ answer. Says answer (state_by O.state state.new) (frame_reply (state_by O.state state.old) frame FurtherQueue)) }
+    ensures same { OnErr result (state_by O.state state.new ≡ with_frame (state_by O.state state.old) (Some frame)) }
 {
     let mut frame = frame;
     let added = frame.add_queue(alloc);
@@ -64,14 +65,14 @@ fn queues_to_commit(frame: OpenFrame) -> Result<Vec<Queue>, OpenFrame>
 }
 
 /// `commit`. The frame is over, whatever the answer is.
-fn answer_commit<P: Performer>(
+fn answer_commit<O: SessionOwner, P: Performer<O>>(
     performer: &P,
     alloc: Global,
-    state: &mut PlayState,
+    state: &mut PlayState<O>,
     frame: OpenFrame,
 ) -> Result<LineAnswer, AllocError>
-    ensures answer { IfOk result (λ answer. Says answer state.new (frame_reply state.old frame Commit)) }
-    ensures same { OnErr result (state.new ≡ with_frame state.old (Some frame)) }
+    ensures answer { IfOk result (λ answer. Says answer (state_by O.state state.new) (frame_reply (state_by O.state state.old) frame Commit)) }
+    ensures same { OnErr result (state_by O.state state.new ≡ with_frame (state_by O.state state.old) (Some frame)) }
 {
     let queues = match queues_to_commit(frame) {
         Ok(queues) => queues,
@@ -94,15 +95,15 @@ fn answer_commit<P: Performer>(
 
 /// Answers a line in a frame that was taken out of the state. The frame is there again where the line doesn't end it,
 /// and where no memory is found.
-pub(crate) fn answer_in_frame<P: Performer>(
+pub(crate) fn answer_in_frame<O: SessionOwner, P: Performer<O>>(
     performer: &P,
     alloc: Global,
-    state: &mut PlayState,
+    state: &mut PlayState<O>,
     frame: OpenFrame,
     line: Line,
 ) -> Result<LineAnswer, AllocError>
-    ensures answer { IfOk result (λ answer. Says answer state.new (frame_reply state.old frame line)) }
-    ensures same { OnErr result (state.new ≡ with_frame state.old (Some frame)) }
+    ensures answer { IfOk result (λ answer. Says answer (state_by O.state state.new) (frame_reply (state_by O.state state.old) frame line)) }
+    ensures same { OnErr result (state_by O.state state.new ≡ with_frame (state_by O.state state.old) (Some frame)) }
 {
     let answer = match line {
         Line::Do(command) => return answer_queued(state, frame, command),

@@ -5,22 +5,23 @@ ghost use Rattle.scene_script.specs.Script.{line_in};
 ghost use Rattle.scene_session.specs.Whole.{whole_of};
 ghost use Rattle.scene_interpreter.specs.Answer.{Says};
 ghost use Rattle.scene_interpreter.specs.Changes.{changes, frame_is_open};
-ghost use Rattle.scene_interpreter.specs.Play.{first_owner, first_state, said_reply};
-ghost use Rattle.scene_interpreter.specs.Interpreter.{HaltsSetup, HasNoEditor, IsAnswered, Interpreter as Reached, Playing, Tells, begun, first_interpreter, halted, owner_of, lone_interpreter, interpreter_kinds, interpreter_of, interpreter_reply, interpreter_said, systems_of, without_frame};
-ghost use Rattle.scene_interpreter.specs.Setup.{setup_of};
+ghost use Rattle.scene_interpreter.specs.Play.{first_owner, first_state, said_reply, state_by};
+ghost use Rattle.scene_interpreter.specs.Interpreter.{HaltsSetup, Interpreter as Reached, IsAnswered, IsSetting, Playing, Tells, begun, first_interpreter, halted, interpreter_kinds, interpreter_of, interpreter_reply, interpreter_said, lone_interpreter, owner_of, reached, systems_of, without_frame};
+ghost use Rattle.scene_interpreter.specs.Setup.{setup_by};
 ghost use Rattle.scene_interpreter.specs.declared.halt.Halt.TheVariants.{After, Begun};
 
 use crate::answer::LineAnswer;
 use crate::changes::{changes_setup, changes_state};
 use crate::halt::Halt;
 use crate::play_state::PlayState;
+use crate::script_owner::ScriptOwner;
 use crate::settings::InterpreterSettings;
-use crate::setup::{Calls, Setup};
+use crate::setup::{Base, Setup};
 use crate::setup_line::{SetupAnswer, answer_setup};
 use crate::state_line::answer;
 use scene_kinds::Schema;
-use scene_script::{BadLine, Line, LineError, read_line};
-use scene_session::{Performer, SessionOwner};
+use scene_script::{BadLine, Limit, Line, LineError, read_line};
+use scene_session::{LoneOwner, Performer};
 use scene_systems::Phase;
 use scene_undo::Editor;
 use std::alloc::{AllocError, Global};
@@ -28,19 +29,20 @@ use std::mem;
 
 /// Where an interpreter is.
 #[derive(Drop)]
-pub(crate) enum Mode {
+pub(crate) enum Mode<O: ScriptOwner> {
     /// In the setup.
-    Setting(Setup),
+    Setting(Setup<O>),
     /// Behind the setup.
-    Playing(PlayState),
+    Playing(PlayState<O>),
 }
 
 /// What the lines of a script so far have come to: the setup, or the sessions of the state, the frame that is open, the
-/// systems and the cursor (docs/SCRIPTS.md, "Lines"). It takes a line at a time, and keeps none of them.
+/// systems and the cursor (docs/SCRIPTS.md, "Lines"). It takes a line at a time, and keeps none of them. What lines are
+/// answered with doesn't depend on the owner of the sessions (`a_lock_changes_no_answer`).
 #[derive(Drop)]
-pub struct Interpreter {
+pub struct Interpreter<O: ScriptOwner> {
     pub(crate) alloc: Global,
-    pub(crate) mode: Mode,
+    pub(crate) mode: Mode<O>,
 }
 
 /// What a line says, or why it is bad.
@@ -60,50 +62,52 @@ pub(crate) fn said_in(
 
 /// Ends the setup by a line, and answers it in the state that follows. The state is there also where no memory is found
 /// for the line itself.
-fn begin<P: Performer>(
+fn begin<O: ScriptOwner, P: Performer<O>>(
     performer: &P,
     alloc: Global,
-    setup: &mut Setup,
+    setup: &mut Setup<O>,
     line: Line,
-) -> Result<(PlayState, Result<LineAnswer, AllocError>), Halt>
-    ensures begun { IfOk result (λ p. MatchResult p.1 (λ answer. Says answer p.0 (said_reply (first_state (setup_of setup.old)) (Ok line)))
-        (λ _. p.0 ≡ first_state (setup_of setup.old))) }
-    ensures halted { IfErr result (λ h. HaltsSetup h (setup_of setup.old) (setup_of setup.new)) }
+) -> Result<(PlayState<O>, Result<LineAnswer, AllocError>), Halt>
+    ensures begun { IfOk result (λ p. MatchResult p.1
+        (λ answer. Says answer (state_by O.state p.0) (said_reply (first_state (setup_by O.most setup.old)) (Ok line)))
+        (λ _. state_by O.state p.0 ≡ first_state (setup_by O.most setup.old))) }
+    ensures halted { IfErr result (λ h. HaltsSetup h (setup_by O.most setup.old) (setup_by O.most setup.new)) }
 {
     let mut state = setup.begin(alloc)?;
     let answered = answer(performer, alloc, &mut state, Ok(line));
     Ok((state, answered))
 }
 
-/// Drops a setup.
-fn leave_setup(_setup: Setup) {}
-
-/// Drops the sessions of a state.
-fn leave_owner(_owner: SessionOwner) {}
-
-/// Drops what a mode has. Only here: a drop of a whole scene is dear to check wherever it is, two in one function are
-/// dearer still, and a move isn't.
-fn leave(mode: Mode) {
-    match mode {
-        Mode::Setting(setup) => leave_setup(setup),
-        Mode::Playing(state) => leave_owner(owner_of_state(state)),
-    }
-}
-
 /// The sessions of a state, of which all else is dropped.
-fn owner_of_state(state: PlayState) -> SessionOwner
+fn owner_of_state<O: ScriptOwner>(state: PlayState<O>) -> O
     ensures { result ≡ state.owner }
 {
     let PlayState { owner, .. } = state;
     owner
 }
 
+/// Drops a setup.
+fn leave_setup<O: ScriptOwner>(setup: Setup<O>) {
+    let Setup { .. } = setup;
+}
+
+/// Drops what a mode has. Only here: a drop of a whole scene is dear to check wherever it is, two in one function are
+/// dearer still, and a move isn't.
+fn leave<O: ScriptOwner>(mode: Mode<O>) {
+    match mode {
+        Mode::Setting(setup) => leave_setup(setup),
+        Mode::Playing(state) => owner_of_state(state).close(),
+    }
+}
+
 /// The sessions in which a setup ends, of which all else is dropped.
-fn owner_of_setup(alloc: Global, setup: Setup) -> Result<SessionOwner, AllocError>
-    ensures { IfOk result (λ owner. owner ≡ first_owner (setup_of setup)) }
+fn owner_of_setup<O: ScriptOwner>(alloc: Global, setup: Setup<O>) -> Result<O, AllocError>
+    ensures { IfOk result (λ owner. O.state owner ≡ first_owner (setup_by O.most setup)) }
 {
     let mut setup = setup;
-    setup.take_owner(alloc)
+    let owner = setup.take_owner(alloc);
+    leave_setup(setup);
+    owner
 }
 
 /// What a line that ended the setup came to.
@@ -116,11 +120,37 @@ fn after_begin(answered: Result<LineAnswer, AllocError>) -> Result<LineAnswer, H
     }
 }
 
-impl Interpreter {
-    /// The interpreter before its first line, whose sessions will have a lock. `OnThreads` performs its lines. It takes
-    /// no memory.
-    pub fn new(alloc: Global) -> Interpreter
-        ensures { interpreter_of result ≡ first_interpreter }
+impl Interpreter<LoneOwner> {
+    /// The interpreter before its first line, whose sessions will have no lock, with these limits. Its calls are only
+    /// counted, and so may be more than a lock keeps. It takes no memory.
+    pub fn alone(alloc: Global, settings: InterpreterSettings) -> Self
+        ensures { interpreter_of result ≡ lone_interpreter settings.depth settings.calls }
+    {
+        let InterpreterSettings { depth, calls } = settings;
+        let base = Base::Declared(Schema::new(alloc), Limit::most());
+        Interpreter {
+            alloc,
+            mode: Mode::Setting(Setup { base, calls, depth }),
+        }
+    }
+
+    /// The editor behind the setup, to read without a copy. `None` only in the setup. It takes no memory.
+    pub fn editor(&self) -> Option<&Editor>
+        ensures editor { IfSome result (λ editor. whole_of editor.now ≡ whole_at (owner_of (interpreter_of self.now))) }
+        ensures missing { IfNone result (IsSetting (interpreter_of self.now)) }
+    {
+        match &self.mode {
+            Mode::Setting(_) => None,
+            Mode::Playing(state) => Some(state.owner.editor()),
+        }
+    }
+}
+
+impl<O: ScriptOwner> Interpreter<O> {
+    /// The interpreter before its first line, with the limits with which the run of a script begins. It takes no
+    /// memory.
+    pub fn new(alloc: Global) -> Self
+        ensures { reached O.state O.most result ≡ first_interpreter }
     {
         Interpreter {
             alloc,
@@ -128,25 +158,9 @@ impl Interpreter {
         }
     }
 
-    /// The interpreter before its first line, whose sessions will have no lock, with these limits: `ThisThread`
-    /// performs its lines. What they are answered with doesn't depend on the lock (`a_lock_changes_no_answer`). Its
-    /// calls are only counted, and so may be more than a lock keeps. It takes no memory.
-    pub fn alone(alloc: Global, settings: InterpreterSettings) -> Interpreter
-        ensures { interpreter_of result ≡ lone_interpreter settings.depth settings.calls }
-    {
-        let InterpreterSettings { depth, calls } = settings;
-        let mut setup = Setup::new(alloc);
-        setup.depth = depth;
-        setup.calls = Calls::Counted(calls);
-        Interpreter {
-            alloc,
-            mode: Mode::Setting(setup),
-        }
-    }
-
     /// The kinds so far.
     pub fn schema(&self) -> &Schema
-        ensures { result.now ≡ interpreter_kinds (interpreter_of self.now) }
+        ensures { result.now ≡ interpreter_kinds (reached O.state O.most self.now) }
     {
         match &self.mode {
             Mode::Setting(setup) => setup.schema(),
@@ -156,7 +170,7 @@ impl Interpreter {
 
     /// Whether a frame is open: a line `begin` without its `commit`.
     pub fn has_open_frame(&self) -> bool
-        ensures { result ≡ frame_is_open (interpreter_of self.now) }
+        ensures { result ≡ frame_is_open (reached O.state O.most self.now) }
     {
         match &self.mode {
             Mode::Setting(_) => false,
@@ -167,7 +181,7 @@ impl Interpreter {
     /// The systems that the lines so far have given, phase by phase (docs/SCRIPTS.md, "Systems"). In the setup there
     /// are none. It takes no memory.
     pub fn systems(&self) -> &[Phase]
-        ensures { result.now ≡ systems_of (interpreter_of self.now) }
+        ensures { result.now ≡ systems_of (reached O.state O.most self.now) }
     {
         match &self.mode {
             Mode::Setting(_) => &[],
@@ -177,7 +191,7 @@ impl Interpreter {
 
     /// The session whose turn it is, 0 to 7; in the setup 0. It takes no memory.
     pub fn session(&self) -> u32
-        ensures { result ≡ (owner_of (interpreter_of self.now)).session }
+        ensures { result ≡ (owner_of (reached O.state O.most self.now)).session }
     {
         match &self.mode {
             Mode::Setting(_) => 0,
@@ -187,10 +201,10 @@ impl Interpreter {
 
     /// How many calls there may be, those included that were made. It takes no memory.
     pub fn call_limit(&self) -> u64
-        ensures { result ≡ (owner_of (interpreter_of self.now)).limit }
+        ensures { result ≡ (owner_of (reached O.state O.most self.now)).limit }
     {
         match &self.mode {
-            Mode::Setting(setup) => setup.calls.limit(),
+            Mode::Setting(setup) => O::number_of(&setup.calls),
             Mode::Playing(state) => state.owner.limit(),
         }
     }
@@ -198,8 +212,8 @@ impl Interpreter {
     /// Drops the frame that is open, with its commands, and makes no call. It says whether there was one; all else
     /// stays. It takes no memory.
     pub fn drop_frame(&mut self) -> bool
-        ensures open { result ≡ frame_is_open (interpreter_of self.old) }
-        ensures dropped { interpreter_of self.new ≡ without_frame (interpreter_of self.old) }
+        ensures open { result ≡ frame_is_open (reached O.state O.most self.old) }
+        ensures dropped { reached O.state O.most self.new ≡ without_frame (reached O.state O.most self.old) }
     {
         match &mut self.mode {
             Mode::Setting(_) => false,
@@ -214,7 +228,7 @@ impl Interpreter {
     ///
     /// `AllocError` where no memory was found for what it says.
     pub fn changes(&self, bytes: &[u8]) -> Result<bool, AllocError>
-        ensures { IfOk result (λ b. b ≡ changes (interpreter_of self.now) bytes.now) }
+        ensures { IfOk result (λ b. b ≡ changes (reached O.state O.most self.now) bytes.now) }
     {
         let said = said_in(self.alloc, self.schema(), bytes)?;
         match &self.mode {
@@ -226,14 +240,15 @@ impl Interpreter {
     /// Plays what a line says to the setup, which it may end. Only there is it called.
     // A function pays at entry for the room of its locals, and a line behind the setup needs none of these.
     #[inline(never)]
-    fn set_said<P: Performer>(
+    fn set_said<P: Performer<O>>(
         &mut self,
         performer: &P,
         said: Result<Line, BadLine>,
     ) -> Result<LineAnswer, Halt>
-        ensures answer { IfOk result (λ answer. Tells answer (interpreter_of self.new) (interpreter_said (interpreter_of self.old) said)) }
-        ensures halted { IfErr result (λ h. interpreter_of self.new
-            ≡ halted h (interpreter_of self.old) (interpreter_said (interpreter_of self.old) said).interpreter) }
+        ensures answer { IfOk result (λ answer. Tells answer (reached O.state O.most self.new)
+            (interpreter_said (reached O.state O.most self.old) said)) }
+        ensures halted { IfErr result (λ h. reached O.state O.most self.new
+            ≡ halted h (reached O.state O.most self.old) (interpreter_said (reached O.state O.most self.old) said).interpreter) }
         ensures undone { IfErr result (λ h. h ≢ After) }
     {
         let Mode::Setting(setup) = &mut self.mode else {
@@ -258,14 +273,15 @@ impl Interpreter {
     /// Halted as `play` is.
     #[tactic(auto, using(crate::proofs::InterpreterLaws::told))]
     #[inline(always)]
-    pub fn play_said<P: Performer>(
+    pub fn play_said<P: Performer<O>>(
         &mut self,
         performer: &P,
         said: Result<Line, BadLine>,
     ) -> Result<LineAnswer, Halt>
-        ensures answer { IfOk result (λ answer. Tells answer (interpreter_of self.new) (interpreter_said (interpreter_of self.old) said)) }
-        ensures halted { IfErr result (λ h. interpreter_of self.new
-            ≡ halted h (interpreter_of self.old) (interpreter_said (interpreter_of self.old) said).interpreter) }
+        ensures answer { IfOk result (λ answer. Tells answer (reached O.state O.most self.new)
+            (interpreter_said (reached O.state O.most self.old) said)) }
+        ensures halted { IfErr result (λ h. reached O.state O.most self.new
+            ≡ halted h (reached O.state O.most self.old) (interpreter_said (reached O.state O.most self.old) said).interpreter) }
         ensures undone { IfErr result (λ h. h ≢ After) }
     {
         match &mut self.mode {
@@ -283,10 +299,11 @@ impl Interpreter {
     ///
     /// Halted only for want of memory: `Before` and `Begun`, where the line isn't done; `Lost`, where it would have
     /// ended the setup, whose kinds or scene are lost.
-    pub fn play<P: Performer>(&mut self, performer: &P, bytes: &[u8]) -> Result<LineAnswer, Halt>
-        ensures answer { IfOk result (λ answer. Tells answer (interpreter_of self.new) (interpreter_reply (interpreter_of self.old) bytes.now)) }
-        ensures halted { IfErr result (λ h. interpreter_of self.new
-            ≡ halted h (interpreter_of self.old) (interpreter_reply (interpreter_of self.old) bytes.now).interpreter) }
+    pub fn play<P: Performer<O>>(&mut self, performer: &P, bytes: &[u8]) -> Result<LineAnswer, Halt>
+        ensures answer { IfOk result (λ answer. Tells answer (reached O.state O.most self.new)
+            (interpreter_reply (reached O.state O.most self.old) bytes.now)) }
+        ensures halted { IfErr result (λ h. reached O.state O.most self.new
+            ≡ halted h (reached O.state O.most self.old) (interpreter_reply (reached O.state O.most self.old) bytes.now).interpreter) }
         ensures undone { IfErr result (λ h. h ≢ After) }
     {
         let Ok(said) = said_in(self.alloc, self.schema(), bytes) else {
@@ -299,16 +316,16 @@ impl Interpreter {
     ///
     /// Halted only for want of memory, as `play` is, or `After`, where the line is done. A part of the answer may be
     /// added then.
-    pub fn line<P: Performer>(
+    pub fn line<P: Performer<O>>(
         &mut self,
         performer: &P,
         bytes: &[u8],
         out: &mut String,
     ) -> Result<Option<BadLine>, Halt>
-        ensures answer { IfOk result (λ bad. IsAnswered (string_bytes out.old) (string_bytes out.new) (interpreter_of self.new) bad
-            (interpreter_reply (interpreter_of self.old) bytes.now)) }
-        ensures halted { IfErr result (λ h. interpreter_of self.new
-            ≡ halted h (interpreter_of self.old) (interpreter_reply (interpreter_of self.old) bytes.now).interpreter) }
+        ensures answer { IfOk result (λ bad. IsAnswered (string_bytes out.old) (string_bytes out.new) (reached O.state O.most self.new) bad
+            (interpreter_reply (reached O.state O.most self.old) bytes.now)) }
+        ensures halted { IfErr result (λ h. reached O.state O.most self.new
+            ≡ halted h (reached O.state O.most self.old) (interpreter_reply (reached O.state O.most self.old) bytes.now).interpreter) }
     {
         let answer = self.play(performer, bytes)?;
         match answer.write_text(self.alloc, self.schema(), out) {
@@ -318,8 +335,8 @@ impl Interpreter {
     }
 
     /// Goes to the state behind the setup.
-    pub(crate) fn go_to(&mut self, state: PlayState)
-        ensures { interpreter_of self.new ≡ Playing state }
+    pub(crate) fn go_to(&mut self, state: PlayState<O>)
+        ensures { reached O.state O.most self.new ≡ Playing (state_by O.state state) }
     {
         leave(mem::replace(&mut self.mode, Mode::Playing(state)));
     }
@@ -329,8 +346,9 @@ impl Interpreter {
     ///
     /// Halted only for want of memory: `Before`; `Lost`, where the kinds or the scene of the setup are lost.
     pub fn end_setup(&mut self) -> Result<(), Halt>
-        ensures begun { OnOk result (interpreter_of self.new ≡ begun (interpreter_of self.old)) }
-        ensures halted { IfErr result (λ h. (next : Reached) → interpreter_of self.new ≡ halted h (interpreter_of self.old) next) }
+        ensures begun { OnOk result (reached O.state O.most self.new ≡ begun (reached O.state O.most self.old)) }
+        ensures halted { IfErr result (λ h. (next : Reached)
+            → reached O.state O.most self.new ≡ halted h (reached O.state O.most self.old) next) }
     {
         match &mut self.mode {
             Mode::Playing(_) => Ok(()),
@@ -344,18 +362,6 @@ impl Interpreter {
         }
     }
 
-    /// The editor behind the setup of an interpreter that is alone, to read without a copy. `None` only in the setup,
-    /// and where a lock is over the editor. It takes no memory.
-    pub fn editor(&self) -> Option<&Editor>
-        ensures editor { IfSome result (λ editor. whole_of editor.now ≡ whole_at (owner_of (interpreter_of self.now))) }
-        ensures missing { IfNone result (HasNoEditor (interpreter_of self.now)) }
-    {
-        match &self.mode {
-            Mode::Setting(_) => None,
-            Mode::Playing(state) => state.owner.editor(),
-        }
-    }
-
     /// Drops the interpreter, as the end of its owner would. Who says it has the drop checked here, where it is dear,
     /// and not once more in a crate of its own.
     pub fn close(self) {
@@ -366,8 +372,8 @@ impl Interpreter {
     /// The sessions as the lines so far leave them. A frame that is still open is dropped.
     ///
     /// `AllocError` where no memory was found, which only an interpreter in its setup needs.
-    pub fn into_owner(self) -> Result<SessionOwner, AllocError>
-        ensures { IfOk result (λ owner. owner ≡ owner_of (interpreter_of self)) }
+    pub fn into_owner(self) -> Result<O, AllocError>
+        ensures { IfOk result (λ owner. O.state owner ≡ owner_of (reached O.state O.most self)) }
     {
         let Interpreter { alloc, mode, .. } = self;
         match mode {

@@ -5,17 +5,18 @@ ghost use Rattle.scene_session.specs.Owner.{whole_at};
 ghost use Rattle.scene_interpreter.specs.JsonAnswer.{json_line};
 ghost use Rattle.scene_interpreter.specs.JsonLine.{AddsJson, IsAnsweredAsJson, asked_in, question_of};
 ghost use Rattle.scene_interpreter.specs.JsonQuestion.{asked_json};
-ghost use Rattle.scene_interpreter.specs.Play.{first_state};
-ghost use Rattle.scene_interpreter.specs.Interpreter.{HaltsSetup, Interpreter as State, begun, halted, owner_of, interpreter_of, interpreter_reply};
-ghost use Rattle.scene_interpreter.specs.Setup.{setup_of};
+ghost use Rattle.scene_interpreter.specs.Play.{first_state, state_by};
+ghost use Rattle.scene_interpreter.specs.Interpreter.{HaltsSetup, Interpreter as Reached, begun, halted, reached, interpreter_reply, owner_of};
+ghost use Rattle.scene_interpreter.specs.Setup.{setup_by};
 
 use crate::halt::Halt;
 use crate::interpreter::{Interpreter, Mode, said_in};
 use crate::json_question::StateJson;
 use crate::play_state::PlayState;
+use crate::script_owner::ScriptOwner;
 use crate::setup::Setup;
 use scene_script::{BadLine, Line};
-use scene_session::Performer;
+use scene_session::{Performer, SessionOwner};
 use std::alloc::{AllocError, Global};
 
 /// What a line asks of the state, where it asks for a text of it.
@@ -32,43 +33,40 @@ fn question_of(said: &Result<Line, BadLine>) -> Option<StateJson>
 }
 
 /// Asks the state behind the setup, which stays as it is.
-fn ask_state<P: Performer>(
+fn ask_state<O: SessionOwner, P: Performer<O>>(
     performer: &P,
     alloc: Global,
-    state: &mut PlayState,
+    state: &mut PlayState<O>,
     asked: StateJson,
 ) -> Result<String, AllocError>
-    ensures text { IfOk result (λ text. string_bytes text ≡ json_line (asked_json asked (whole_at state.old.owner))) }
-    ensures same { state.new ≡ state.old }
+    ensures text { IfOk result (λ text. string_bytes text ≡ json_line (asked_json asked (whole_at (O.state state.old.owner)))) }
+    ensures same { state_by O.state state.new ≡ state_by O.state state.old }
 {
-    match performer.ask(alloc, &mut state.owner, &asked) {
-        Some(text) => text,
-        None => Err(AllocError),
-    }
+    performer.ask(alloc, &mut state.owner, &asked)
 }
 
 /// Ends the setup by a line that asks the state that follows. The state is there also where no memory is found for
 /// the answer.
-fn begin_asked<P: Performer>(
+fn begin_asked<O: ScriptOwner, P: Performer<O>>(
     performer: &P,
     alloc: Global,
-    setup: &mut Setup,
+    setup: &mut Setup<O>,
     asked: StateJson,
-) -> Result<(PlayState, Result<String, AllocError>), Halt>
-    ensures begun { IfOk result (λ p. p.0 ≡ first_state (setup_of setup.old)) }
+) -> Result<(PlayState<O>, Result<String, AllocError>), Halt>
+    ensures begun { IfOk result (λ p. state_by O.state p.0 ≡ first_state (setup_by O.most setup.old)) }
     ensures text { IfOk result (λ p. IfOk p.1 (λ text. string_bytes text
-        ≡ json_line (asked_json asked (whole_at (first_state (setup_of setup.old)).owner)))) }
-    ensures halted { IfErr result (λ h. HaltsSetup h (setup_of setup.old) (setup_of setup.new)) }
+        ≡ json_line (asked_json asked (whole_at (first_state (setup_by O.most setup.old)).owner)))) }
+    ensures halted { IfErr result (λ h. HaltsSetup h (setup_by O.most setup.old) (setup_by O.most setup.new)) }
 {
     let mut state = setup.begin(alloc)?;
     let answered = ask_state(performer, alloc, &mut state, asked);
     Ok((state, answered))
 }
 
-impl Interpreter {
+impl<O: ScriptOwner> Interpreter<O> {
     /// What a line asks of the state, where it does.
     fn asked_in(&self, bytes: &[u8]) -> Result<Option<StateJson>, AllocError>
-        ensures { IfOk result (λ asked. asked ≡ asked_in (interpreter_of self.now) bytes.now) }
+        ensures { IfOk result (λ asked. asked ≡ asked_in (reached O.state O.most self.now) bytes.now) }
     {
         if self.has_open_frame() {
             return Ok(None);
@@ -78,10 +76,11 @@ impl Interpreter {
     }
 
     /// Asks the state, and ends the setup where it hasn't ended.
-    fn ask<P: Performer>(&mut self, performer: &P, asked: StateJson) -> Result<String, Halt>
-        ensures text { IfOk result (λ text. string_bytes text ≡ json_line (asked_json asked (whole_at (owner_of (interpreter_of self.old))))) }
-        ensures begun { IfOk result (λ _. interpreter_of self.new ≡ begun (interpreter_of self.old)) }
-        ensures halted { IfErr result (λ h. (next : State) → interpreter_of self.new ≡ halted h (interpreter_of self.old) next) }
+    fn ask<P: Performer<O>>(&mut self, performer: &P, asked: StateJson) -> Result<String, Halt>
+        ensures text { IfOk result (λ text. string_bytes text ≡ json_line (asked_json asked (whole_at (owner_of (reached O.state O.most self.old))))) }
+        ensures begun { IfOk result (λ _. reached O.state O.most self.new ≡ begun (reached O.state O.most self.old)) }
+        ensures halted { IfErr result (λ h. (next : Reached)
+            → reached O.state O.most self.new ≡ halted h (reached O.state O.most self.old) next) }
     {
         match &mut self.mode {
             Mode::Playing(state) => match ask_state(performer, self.alloc, state, asked) {
@@ -102,16 +101,17 @@ impl Interpreter {
     }
 
     /// Adds what the state is asked for.
-    fn show_json<P: Performer>(
+    fn show_json<P: Performer<O>>(
         &mut self,
         performer: &P,
         asked: StateJson,
         out: &mut String,
     ) -> Result<Option<BadLine>, Halt>
         ensures bad { IfOk result (λ bad. bad ≡ None) }
-        ensures begun { IfOk result (λ _. interpreter_of self.new ≡ begun (interpreter_of self.old)) }
-        ensures text { OnOk result (Adds out.old out.new (json_line (asked_json asked (whole_at (owner_of (interpreter_of self.old)))))) }
-        ensures halted { IfErr result (λ h. interpreter_of self.new ≡ halted h (interpreter_of self.old) (begun (interpreter_of self.old))) }
+        ensures begun { IfOk result (λ _. reached O.state O.most self.new ≡ begun (reached O.state O.most self.old)) }
+        ensures text { OnOk result (Adds out.old out.new (json_line (asked_json asked (whole_at (owner_of (reached O.state O.most self.old)))))) }
+        ensures halted { IfErr result (λ h. reached O.state O.most self.new
+            ≡ halted h (reached O.state O.most self.old) (begun (reached O.state O.most self.old))) }
     {
         let text = self.ask(performer, asked)?;
         match out.push_str(text.as_str()) {
@@ -121,18 +121,19 @@ impl Interpreter {
     }
 
     /// Plays a line, and adds its answer.
-    fn play_json<P: Performer>(
+    fn play_json<P: Performer<O>>(
         &mut self,
         performer: &P,
         bytes: &[u8],
         out: &mut String,
     ) -> Result<Option<BadLine>, Halt>
-        ensures bad { IfOk result (λ bad. bad ≡ (interpreter_reply (interpreter_of self.old) bytes.now).bad) }
-        ensures interpreter { OnOk result (interpreter_of self.new ≡ (interpreter_reply (interpreter_of self.old) bytes.now).interpreter) }
+        ensures bad { IfOk result (λ bad. bad ≡ (interpreter_reply (reached O.state O.most self.old) bytes.now).bad) }
+        ensures interpreter { OnOk result (reached O.state O.most self.new
+            ≡ (interpreter_reply (reached O.state O.most self.old) bytes.now).interpreter) }
         ensures text { OnOk result (AddsJson (string_bytes out.old) (string_bytes out.new)
-            (interpreter_of self.old) (interpreter_of self.new) bytes.now None) }
-        ensures halted { IfErr result (λ h. interpreter_of self.new
-            ≡ halted h (interpreter_of self.old) (interpreter_reply (interpreter_of self.old) bytes.now).interpreter) }
+            (reached O.state O.most self.old) (reached O.state O.most self.new) bytes.now None) }
+        ensures halted { IfErr result (λ h. reached O.state O.most self.new
+            ≡ halted h (reached O.state O.most self.old) (interpreter_reply (reached O.state O.most self.old) bytes.now).interpreter) }
     {
         let answer = self.play(performer, bytes)?;
         match answer.write_json(self.alloc, self.schema(), out) {
@@ -146,16 +147,16 @@ impl Interpreter {
     /// `LineAnswer`. It costs what `line` costs, and outside a frame one more reading of the line.
     ///
     /// Halted only for want of memory, as `line` is. A part of the answer may be added then.
-    pub fn line_json<P: Performer>(
+    pub fn line_json<P: Performer<O>>(
         &mut self,
         performer: &P,
         bytes: &[u8],
         out: &mut String,
     ) -> Result<Option<BadLine>, Halt>
         ensures answer { IfOk result (λ bad. IsAnsweredAsJson (string_bytes out.old) (string_bytes out.new)
-            (interpreter_of self.old) (interpreter_of self.new) bytes.now bad) }
-        ensures halted { IfErr result (λ h. interpreter_of self.new
-            ≡ halted h (interpreter_of self.old) (interpreter_reply (interpreter_of self.old) bytes.now).interpreter) }
+            (reached O.state O.most self.old) (reached O.state O.most self.new) bytes.now bad) }
+        ensures halted { IfErr result (λ h. reached O.state O.most self.new
+            ≡ halted h (reached O.state O.most self.old) (interpreter_reply (reached O.state O.most self.old) bytes.now).interpreter) }
     {
         let Ok(asked) = self.asked_in(bytes) else {
             return Err(Halt::Before);

@@ -1,10 +1,10 @@
-//! The limits of an interpreter that is alone.
+//! The limits of an interpreter over a lone owner.
 ghost use Rattle.std.specs.Prelude.{◌≡◌};
 
 use scene_script::Limit;
 
-/// The limits with which an interpreter without a lock begins (docs/SCRIPTS.md, "Setup"). The lines `depth` and `calls`
-/// set them anew.
+/// The limits with which an interpreter over a lone owner begins (docs/SCRIPTS.md, "Setup"). The lines `depth` and
+/// `calls` set them anew.
 #[derive(Drop, Debug)]
 pub struct InterpreterSettings {
     /// How many frames can be undone.

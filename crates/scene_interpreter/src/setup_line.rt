@@ -3,9 +3,10 @@ ghost use Rattle.std.specs.Prelude.{◌≡◌, IfOk, OnErr};
 ghost use Rattle.scene_file.specs.EditorScene.{loaded_editor};
 ghost use Rattle.scene_machine.specs.Machine.{most_frames};
 ghost use Rattle.scene_interpreter.specs.Play.{calls_reply, depth_reply, kind_reply, load_reply, setup_said, slots_reply};
-ghost use Rattle.scene_interpreter.specs.Setup.{AnswersSetup, SetupSays, base_of, setup_of};
+ghost use Rattle.scene_interpreter.specs.Setup.{AnswersSetup, SetupSays, base_of, setup_by};
 
 use crate::answer::{LineAnswer, faulty, refused};
+use crate::script_owner::ScriptOwner;
 use crate::setup::{Base, Setup};
 use scene_file::load_editor_text;
 use scene_kinds::Shape;
@@ -23,15 +24,15 @@ pub(crate) enum SetupAnswer {
 }
 
 /// `kind`.
-fn answer_kind(
+fn answer_kind<O: ScriptOwner>(
     alloc: Global,
-    setup: &mut Setup,
+    setup: &mut Setup<O>,
     name: &str,
     shape: Shape,
 ) -> Result<LineAnswer, AllocError>
-    ensures answer { IfOk result (λ answer. SetupSays answer (setup_of setup.new)
-        (kind_reply (setup_of setup.old) (base_of setup.old.base) name.now shape)) }
-    ensures same { OnErr result (setup_of setup.new ≡ setup_of setup.old) }
+    ensures answer { IfOk result (λ answer. SetupSays answer (setup_by O.most setup.new)
+        (kind_reply (setup_by O.most setup.old) (base_of setup.old.base) name.now shape)) }
+    ensures same { OnErr result (setup_by O.most setup.new ≡ setup_by O.most setup.old) }
 {
     let Base::Declared(schema, _) = &mut setup.base else {
         return Ok(LineAnswer::Bad(BadLine::SceneLoaded));
@@ -44,8 +45,8 @@ fn answer_kind(
 }
 
 /// `slots`.
-fn answer_slots(setup: &mut Setup, slots: Limit) -> LineAnswer
-    ensures { SetupSays result (setup_of setup.new) (slots_reply (setup_of setup.old) (base_of setup.old.base) slots) }
+fn answer_slots<O: ScriptOwner>(setup: &mut Setup<O>, slots: Limit) -> LineAnswer
+    ensures { SetupSays result (setup_by O.most setup.new) (slots_reply (setup_by O.most setup.old) (base_of setup.old.base) slots) }
 {
     let Base::Declared(_, limit) = &mut setup.base else {
         return LineAnswer::Bad(BadLine::SceneLoaded);
@@ -56,10 +57,14 @@ fn answer_slots(setup: &mut Setup, slots: Limit) -> LineAnswer
 
 /// `load`. One that fails leaves the setup as it was.
 #[tactic(auto, using(crate::proofs::FileFaultLaws::is_wanted))]
-fn answer_load(alloc: Global, setup: &mut Setup, text: &str) -> Result<LineAnswer, AllocError>
-    ensures answer { IfOk result (λ answer. SetupSays answer (setup_of setup.new)
-        (load_reply (setup_of setup.old) (loaded_editor most_frames text.now))) }
-    ensures same { OnErr result (setup_of setup.new ≡ setup_of setup.old) }
+fn answer_load<O: ScriptOwner>(
+    alloc: Global,
+    setup: &mut Setup<O>,
+    text: &str,
+) -> Result<LineAnswer, AllocError>
+    ensures answer { IfOk result (λ answer. SetupSays answer (setup_by O.most setup.new)
+        (load_reply (setup_by O.most setup.old) (loaded_editor most_frames text.now))) }
+    ensures same { OnErr result (setup_by O.most setup.new ≡ setup_by O.most setup.old) }
 {
     match load_editor_text(alloc, text.as_bytes(), MOST_FRAMES) {
         Ok(editor) => {
@@ -71,16 +76,16 @@ fn answer_load(alloc: Global, setup: &mut Setup, text: &str) -> Result<LineAnswe
 }
 
 /// `calls`.
-fn answer_calls(setup: &mut Setup, calls: Limit) -> LineAnswer
-    ensures { SetupSays result (setup_of setup.new) (calls_reply (setup_of setup.old) calls) }
+fn answer_calls<O: ScriptOwner>(setup: &mut Setup<O>, calls: Limit) -> LineAnswer
+    ensures { SetupSays result (setup_by O.most setup.new) (calls_reply (setup_by O.most setup.old) calls) }
 {
-    setup.calls.set(calls);
+    setup.calls = O::limit_to(calls);
     LineAnswer::Taken
 }
 
 /// `depth`.
-fn answer_depth(setup: &mut Setup, depth: Limit) -> LineAnswer
-    ensures { SetupSays result (setup_of setup.new) (depth_reply (setup_of setup.old) depth) }
+fn answer_depth<O: ScriptOwner>(setup: &mut Setup<O>, depth: Limit) -> LineAnswer
+    ensures { SetupSays result (setup_by O.most setup.new) (depth_reply (setup_by O.most setup.old) depth) }
 {
     setup.depth = depth;
     LineAnswer::Taken
@@ -88,13 +93,14 @@ fn answer_depth(setup: &mut Setup, depth: Limit) -> LineAnswer
 
 /// Answers what a line of the setup says, or hands a line back that ends it. Where no memory is found, the setup is as
 /// it was.
-pub(crate) fn answer_setup(
+pub(crate) fn answer_setup<O: ScriptOwner>(
     alloc: Global,
-    setup: &mut Setup,
+    setup: &mut Setup<O>,
     said: Result<Line, BadLine>,
 ) -> Result<SetupAnswer, AllocError>
-    ensures answer { IfOk result (AnswersSetup (setup_of setup.old) (setup_of setup.new) said (setup_said (setup_of setup.old) said)) }
-    ensures same { OnErr result (setup_of setup.new ≡ setup_of setup.old) }
+    ensures answer { IfOk result (AnswersSetup (setup_by O.most setup.old) (setup_by O.most setup.new) said
+        (setup_said (setup_by O.most setup.old) said)) }
+    ensures same { OnErr result (setup_by O.most setup.new ≡ setup_by O.most setup.old) }
 {
     let answer = match said {
         Err(reason) => LineAnswer::Bad(reason),

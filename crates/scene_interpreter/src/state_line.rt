@@ -4,7 +4,7 @@ ghost use Rattle.scene_script.specs.declared.script_line.Line.TheVariants.{Added
 ghost use Rattle.scene_session.specs.Calls.{Submit, asked, queue_count};
 ghost use Rattle.scene_interpreter.specs.Answer.{Says};
 ghost use Rattle.scene_interpreter.specs.OpenFrame.{alone};
-ghost use Rattle.scene_interpreter.specs.Play.{call_reply, line_reply, lone_reply, now, query_reply, said_reply};
+ghost use Rattle.scene_interpreter.specs.Play.{call_reply, line_reply, lone_reply, now, query_reply, said_reply, state_by};
 ghost use Rattle.scene_interpreter.specs.Questions.{asked_said};
 
 use crate::answer::{LineAnswer, refused};
@@ -17,20 +17,20 @@ use scene_commands::Command;
 use scene_pass::Filter;
 use scene_queue::Queue;
 use scene_script::{BadLine, Line, SessionNumber};
-use scene_session::{AddedSince, Call, ChangedSince, CursorNow, Performer};
+use scene_session::{AddedSince, Call, ChangedSince, CursorNow, Performer, SessionOwner};
 use std::alloc::{AllocError, Global};
 
 /// A call of the session whose turn it is; or the call, where no memory was found, and then the state is as it was.
-pub(crate) fn answer_call_or_back<P: Performer>(
+pub(crate) fn answer_call_or_back<O: SessionOwner, P: Performer<O>>(
     performer: &P,
     alloc: Global,
-    state: &mut PlayState,
+    state: &mut PlayState<O>,
     call: Call,
 ) -> Result<LineAnswer, Call>
     requires { queue_count call ≤ 4294967295 }
-    ensures answer { IfOk result (λ answer. Says answer state.new (call_reply state.old (asked call))) }
+    ensures answer { IfOk result (λ answer. Says answer (state_by O.state state.new) (call_reply (state_by O.state state.old) (asked call))) }
     ensures back { IfErr result (λ back. back ≡ call) }
-    ensures same { OnErr result (state.new ≡ state.old) }
+    ensures same { OnErr result (state_by O.state state.new ≡ state_by O.state state.old) }
 {
     let reply = performer.perform(alloc, &mut state.owner, call)?;
     Ok(LineAnswer::Replied(reply))
@@ -38,15 +38,15 @@ pub(crate) fn answer_call_or_back<P: Performer>(
 
 /// A call of the session whose turn it is.
 #[inline(always)]
-pub(crate) fn answer_call<P: Performer>(
+pub(crate) fn answer_call<O: SessionOwner, P: Performer<O>>(
     performer: &P,
     alloc: Global,
-    state: &mut PlayState,
+    state: &mut PlayState<O>,
     call: Call,
 ) -> Result<LineAnswer, AllocError>
     requires { queue_count call ≤ 4294967295 }
-    ensures answer { IfOk result (λ answer. Says answer state.new (call_reply state.old (asked call))) }
-    ensures same { OnErr result (state.new ≡ state.old) }
+    ensures answer { IfOk result (λ answer. Says answer (state_by O.state state.new) (call_reply (state_by O.state state.old) (asked call))) }
+    ensures same { OnErr result (state_by O.state state.new ≡ state_by O.state state.old) }
 {
     match performer.perform(alloc, &mut state.owner, call) {
         Ok(reply) => Ok(LineAnswer::Replied(reply)),
@@ -68,135 +68,124 @@ fn lone_queue(alloc: Global, command: Command) -> Result<Vec<Queue>, AllocError>
 }
 
 /// A command where no frame is open.
-fn answer_command<P: Performer>(
+fn answer_command<O: SessionOwner, P: Performer<O>>(
     performer: &P,
     alloc: Global,
-    state: &mut PlayState,
+    state: &mut PlayState<O>,
     command: Command,
 ) -> Result<LineAnswer, AllocError>
-    ensures answer { IfOk result (λ answer. Says answer state.new (call_reply state.old (Submit (alone command)))) }
-    ensures same { OnErr result (state.new ≡ state.old) }
+    ensures answer { IfOk result (λ answer. Says answer (state_by O.state state.new)
+        (call_reply (state_by O.state state.old) (Submit (alone command)))) }
+    ensures same { OnErr result (state_by O.state state.new ≡ state_by O.state state.old) }
 {
     let queues = lone_queue(alloc, command)?;
     answer_call(performer, alloc, state, Call::Submit(queues))
 }
 
 /// `begin`.
-fn answer_begin(alloc: Global, state: &mut PlayState) -> LineAnswer
-    ensures { Says result state.new (lone_reply state.old Begin) }
+fn answer_begin<O: SessionOwner>(alloc: Global, state: &mut PlayState<O>) -> LineAnswer
+    ensures { Says result (state_by O.state state.new) (lone_reply (state_by O.state state.old) Begin) }
 {
     state.frame = Some(OpenFrame::new(alloc));
     LineAnswer::Taken
 }
 
 /// `as`.
-fn answer_as(state: &mut PlayState, session: SessionNumber) -> LineAnswer
-    ensures { Says result state.new (lone_reply state.old (As session)) }
+fn answer_as<O: SessionOwner>(state: &mut PlayState<O>, session: SessionNumber) -> LineAnswer
+    ensures { Says result (state_by O.state state.new) (lone_reply (state_by O.state state.old) (As session)) }
 {
     state.owner.turn_to(session.get());
     LineAnswer::Taken
 }
 
 /// What is asked of the world.
-fn answer_world<P: Performer>(
+fn answer_world<O: SessionOwner, P: Performer<O>>(
     performer: &P,
     alloc: Global,
-    state: &mut PlayState,
+    state: &mut PlayState<O>,
     asked: WorldText,
 ) -> Result<LineAnswer, AllocError>
-    ensures answer { IfOk result (λ answer. Says answer state.new (query_reply state.old (asked_said asked (now state.old)))) }
-    ensures same { OnErr result (state.new ≡ state.old) }
+    ensures answer { IfOk result (λ answer. Says answer (state_by O.state state.new)
+        (query_reply (state_by O.state state.old) (asked_said asked (now (state_by O.state state.old))))) }
+    ensures same { OnErr result (state_by O.state state.new ≡ state_by O.state state.old) }
 {
-    match performer.ask(alloc, &mut state.owner, &asked) {
-        Some(answer) => answer,
-        None => Err(AllocError),
-    }
+    performer.ask(alloc, &mut state.owner, &asked)
 }
 
 /// `dumpall`.
-fn answer_dumpall<P: Performer>(
+fn answer_dumpall<O: SessionOwner, P: Performer<O>>(
     performer: &P,
     alloc: Global,
-    state: &mut PlayState,
+    state: &mut PlayState<O>,
 ) -> Result<LineAnswer, AllocError>
-    ensures answer { IfOk result (λ answer. Says answer state.new (lone_reply state.old DumpAll)) }
-    ensures same { OnErr result (state.new ≡ state.old) }
+    ensures answer { IfOk result (λ answer. Says answer (state_by O.state state.new) (lone_reply (state_by O.state state.old) DumpAll)) }
+    ensures same { OnErr result (state_by O.state state.new ≡ state_by O.state state.old) }
 {
-    match performer.ask(alloc, &mut state.owner, &EditorText) {
-        Some(answer) => answer,
-        None => Err(AllocError),
-    }
+    performer.ask(alloc, &mut state.owner, &EditorText)
 }
 
 /// `history`.
-fn answer_history(state: &PlayState) -> LineAnswer
-    ensures { Says result state.now (lone_reply state.now History) }
+fn answer_history<O: SessionOwner>(state: &PlayState<O>) -> LineAnswer
+    ensures { Says result (state_by O.state state.now) (lone_reply (state_by O.state state.now) History) }
 {
     LineAnswer::Counted(state.owner.call_count())
 }
 
 /// `mark`.
-fn answer_mark<P: Performer>(
+fn answer_mark<O: SessionOwner, P: Performer<O>>(
     performer: &P,
     alloc: Global,
-    state: &mut PlayState,
-) -> Result<LineAnswer, AllocError>
-    ensures answer { IfOk result (λ answer. Says answer state.new (lone_reply state.old Mark)) }
-    ensures same { OnErr result (state.new ≡ state.old) }
+    state: &mut PlayState<O>,
+) -> LineAnswer
+    ensures { Says result (state_by O.state state.new) (lone_reply (state_by O.state state.old) Mark) }
 {
-    match performer.ask(alloc, &mut state.owner, &CursorNow) {
-        Some(cursor) => {
-            state.cursor = cursor;
-            Ok(LineAnswer::Marked(cursor))
-        }
-        None => Err(AllocError),
-    }
+    let cursor = performer.ask(alloc, &mut state.owner, &CursorNow);
+    state.cursor = cursor;
+    LineAnswer::Marked(cursor)
 }
 
 /// `changed`.
-fn answer_changed<P: Performer>(
+fn answer_changed<O: SessionOwner, P: Performer<O>>(
     performer: &P,
     alloc: Global,
-    state: &mut PlayState,
+    state: &mut PlayState<O>,
 ) -> Result<LineAnswer, AllocError>
-    ensures answer { IfOk result (λ answer. Says answer state.new (lone_reply state.old Changed)) }
-    ensures same { OnErr result (state.new ≡ state.old) }
+    ensures answer { IfOk result (λ answer. Says answer (state_by O.state state.new) (lone_reply (state_by O.state state.old) Changed)) }
+    ensures same { OnErr result (state_by O.state state.new ≡ state_by O.state state.old) }
 {
     let query = ChangedSince(state.cursor, Filter::all());
     match performer.ask(alloc, &mut state.owner, &query) {
-        Some(Ok(cells)) => Ok(LineAnswer::Changed(cells)),
-        Some(Err(refusal)) => refused(refusal),
-        None => Err(AllocError),
+        Ok(cells) => Ok(LineAnswer::Changed(cells)),
+        Err(refusal) => refused(refusal),
     }
 }
 
 /// `added`.
-fn answer_added<P: Performer>(
+fn answer_added<O: SessionOwner, P: Performer<O>>(
     performer: &P,
     alloc: Global,
-    state: &mut PlayState,
+    state: &mut PlayState<O>,
 ) -> Result<LineAnswer, AllocError>
-    ensures answer { IfOk result (λ answer. Says answer state.new (lone_reply state.old Added)) }
-    ensures same { OnErr result (state.new ≡ state.old) }
+    ensures answer { IfOk result (λ answer. Says answer (state_by O.state state.new) (lone_reply (state_by O.state state.old) Added)) }
+    ensures same { OnErr result (state_by O.state state.new ≡ state_by O.state state.old) }
 {
     let query = AddedSince(state.cursor, Filter::all());
     match performer.ask(alloc, &mut state.owner, &query) {
-        Some(Ok(cells)) => Ok(LineAnswer::Added(cells)),
-        Some(Err(refusal)) => refused(refusal),
-        None => Err(AllocError),
+        Ok(cells) => Ok(LineAnswer::Added(cells)),
+        Err(refusal) => refused(refusal),
     }
 }
 
 /// Answers a line behind the setup where no frame is open.
 #[inline(always)]
-fn answer_alone<P: Performer>(
+fn answer_alone<O: SessionOwner, P: Performer<O>>(
     performer: &P,
     alloc: Global,
-    state: &mut PlayState,
+    state: &mut PlayState<O>,
     line: Line,
 ) -> Result<LineAnswer, AllocError>
-    ensures answer { IfOk result (λ answer. Says answer state.new (lone_reply state.old line)) }
-    ensures same { OnErr result (state.new ≡ state.old) }
+    ensures answer { IfOk result (λ answer. Says answer (state_by O.state state.new) (lone_reply (state_by O.state state.old) line)) }
+    ensures same { OnErr result (state_by O.state state.new ≡ state_by O.state state.old) }
 {
     match line {
         Line::Empty => Ok(LineAnswer::Nothing),
@@ -210,7 +199,7 @@ fn answer_alone<P: Performer>(
         Line::Redo => answer_call(performer, alloc, state, Call::Redo),
         Line::Show => answer_world(performer, alloc, state, WorldText::Show),
         Line::Get(entity) => answer_world(performer, alloc, state, WorldText::Get(entity)),
-        Line::Mark => answer_mark(performer, alloc, state),
+        Line::Mark => Ok(answer_mark(performer, alloc, state)),
         Line::Changed => answer_changed(performer, alloc, state),
         Line::Added => answer_added(performer, alloc, state),
         Line::Phase => answer_phase(state),
@@ -226,14 +215,14 @@ fn answer_alone<P: Performer>(
 
 /// Answers a line behind the setup.
 #[inline(always)]
-fn answer_line<P: Performer>(
+fn answer_line<O: SessionOwner, P: Performer<O>>(
     performer: &P,
     alloc: Global,
-    state: &mut PlayState,
+    state: &mut PlayState<O>,
     line: Line,
 ) -> Result<LineAnswer, AllocError>
-    ensures answer { IfOk result (λ answer. Says answer state.new (line_reply state.old line)) }
-    ensures same { OnErr result (state.new ≡ state.old) }
+    ensures answer { IfOk result (λ answer. Says answer (state_by O.state state.new) (line_reply (state_by O.state state.old) line)) }
+    ensures same { OnErr result (state_by O.state state.new ≡ state_by O.state state.old) }
 {
     // Nothing is moved out where there is no frame.
     if state.frame.is_none() {
@@ -248,14 +237,14 @@ fn answer_line<P: Performer>(
 /// Answers what a line behind the setup says. Where no memory is found, the state is as it was.
 // It is inlined with what it calls: who names the line, as the calls of C do, then pays for that line alone.
 #[inline(always)]
-pub(crate) fn answer<P: Performer>(
+pub(crate) fn answer<O: SessionOwner, P: Performer<O>>(
     performer: &P,
     alloc: Global,
-    state: &mut PlayState,
+    state: &mut PlayState<O>,
     said: Result<Line, BadLine>,
 ) -> Result<LineAnswer, AllocError>
-    ensures answer { IfOk result (λ answer. Says answer state.new (said_reply state.old said)) }
-    ensures same { OnErr result (state.new ≡ state.old) }
+    ensures answer { IfOk result (λ answer. Says answer (state_by O.state state.new) (said_reply (state_by O.state state.old) said)) }
+    ensures same { OnErr result (state_by O.state state.new ≡ state_by O.state state.old) }
 {
     match said {
         Ok(line) => answer_line(performer, alloc, state, line),

@@ -3,13 +3,14 @@ use Rattle.std.proofs.Common.{◌≡◌, ℕ, ◌+◌, ◌<◌, ◌≤◌, true,
 use Rattle.std.proofs.lemmas.List.{append_assoc, drop_more, drop_all, append-nil}
 use Rattle.scene_kinds.specs.declared.entity.Entity.{Entity}
 use Rattle.scene_alloc.specs.Slots.{retires}
-use Rattle.scene_links.specs.Forest.{link_in, post}
+use Rattle.scene_links.specs.Forest.{children_of, link_in, post}
 use Rattle.scene_model.specs.World.{World, is_live}
 use Rattle.scene_model.specs.Commands.{despawn_recursive}
 use Rattle.scene_model.specs.Perform.{Despawn}
 use Rattle.scene_model.specs.Raw.{cut_row}
 use Rattle.scene_model.specs.RawLists.{CutNote, CanCutNoted, cut_noted, MayAll, after_all}
 use Rattle.scene_model.specs.Valid.{IsValid}
+use Rattle.scene_model.proofs.CanParts.{cut_out}
 use Rattle.scene_model.proofs.DespawnEach.{recursive_is_whole}
 use Rattle.scene_model.proofs.ListBack.{recursive_cuts}
 use Rattle.scene_world.specs.Room.{Room, Holds}
@@ -46,10 +47,11 @@ recursive_each w e valid live =
 -- a row that may be cut is a delta that leads on
 cut_leads : (w : World) (e : Entity) (n : CutNote) → n.entity ≡ e → CanCutNoted n w → LeadTo (deltas_of w (Despawn e)) w (cut_row w e)
 cut_leads w e n same can =
+    let one = (cut_out w n.entity n.place n.cells n.link n.retired).0 can in
     subst (λ x. LeadTo (deltas_of w (Despawn x)) w (cut_row w x)) same
     (one_leads (Despawned n.entity n.place n.cells n.link n.retired) (deltas_of w (Despawn n.entity)) w (cut_row w n.entity)
-    (ap (λ o. of_row o (λ place cells. Despawned n.entity place cells (link_in w.children n.entity) (retires n.entity) ∷ [])) can.row
-    ∙ (λ i. Despawned n.entity n.place n.cells (can.linked i) (sym can.retires i) ∷ []))
+    (ap (λ o. of_row o (λ place cells. Despawned n.entity place cells (link_in w.children n.entity) (retires n.entity) ∷ [])) one.row
+    ∙ (λ i. Despawned n.entity n.place n.cells (one.linked i) (sym one.retires i) ∷ []))
     can refl)
 
 -- the first entities are cut, the others can be, and the deltas lead back
@@ -73,6 +75,9 @@ module _ (room : Room) (start : World) (order : List Entity) (i : ℕ) (w : Worl
 
   pub can_next : CanCutEach (e ∷ drop (i + 1) order) w
   can_next = subst (λ es. CanCutEach es w) rest now.can
+
+  pub childless_next : children_of w.children e ≡ []
+  childless_next = let n = can_next.0.0 in subst (λ x. children_of w.children x ≡ []) can_next.0.1.0 ((cut_out w n.entity n.place n.cells n.link n.retired).0 can_next.0.1.1).childless
 
   -- one more is cut
   pub next_cut : (o : Option Delta) (v : World) (es : List Delta) → IsValid w → Holds room w → listed_delta o ≡ deltas_of w (Despawn e) → v ≡ cut_row w e → es ≡ ds ++ listed_delta o → UnderWay room start order (i + 1) v es

@@ -1,18 +1,15 @@
 -- What the functions find in lists of deltas, and in lists of records.
 use Rattle.std.proofs.Common.{◌≡◌, ℕ, suc, Bool, true, false, List, [], ◌∷◌, ◌++◌, length, refl, ap, sym, ◌∙◌, subst, Option, Some, None, option_map, MatchOption}
 use Rattle.std.specs.Option.{option_or}
-use Rattle.std.proofs.lemmas.Bool.{false_from_ne_true}
 use Rattle.scene_model.specs.World.{World}
 use Rattle.scene_model.specs.RawLists.{MayAll, after_all}
 use Rattle.scene_deltas.specs.declared.delta.Delta.{Delta}
-use Rattle.scene_deltas.specs.Deltas.{FitsOn, FitsBack, fwd, fwd_all, back_all, AllFitOn, AllFitBack}
+use Rattle.scene_deltas.specs.Deltas.{fits_on, fits_back, fwd, fwd_all, back_all, AllFitOn, AllFitBack}
 use Rattle.scene_journal.specs.Faults.{IsFirstUnfit, IsLastUnfit}
 use Rattle.scene_journal.specs.Records.{Record}
-use Rattle.scene_deltas.specs.Fits.{fits_on, fits_back}
 use Rattle.scene_journal.specs.Unfit.{unless, first_unfit, last_unfit}
 use Rattle.scene_journal.specs.FirstFaults.{IsFirstFault, first_fault_in}
 use Rattle.scene_journal.specs.FaultLaws.{Finds}
-use Rattle.scene_deltas.proofs.TestedDeltas.{fits_on_decides, fits_back_decides}
 
 -- ---- what is found
 
@@ -48,31 +45,30 @@ first_found (d ∷ ds) w = from (fits_on d w) refl (first_unfit ds (fwd d w)) (f
       cut = refl;
       number = refl;
       fit = tt;
-      unfit = λ fits. let wrong : true ≡ false = sym ((fits_on_decides d w).1 fits) ∙ fails in absurd (cc);
+      unfit = fails;
     }
-    from true passes None rest = ((fits_on_decides d w).0 passes, rest)
+    from true passes None rest = (passes, rest)
     from true passes (Some k) rest = record {
       before = d ∷ rest.before;
       delta = rest.delta;
       behind = rest.behind;
       cut = ap (λ l. d ∷ l) rest.cut;
       number = ap (λ n. suc n) rest.number;
-      fit = ((fits_on_decides d w).0 passes, rest.fit);
+      fit = (passes, rest.fit);
       unfit = rest.unfit;
     }
 
 none_unfit : (ds : List Delta) (w : World) → AllFitOn ds w → first_unfit ds w ≡ None
 none_unfit [] w fit = refl
 none_unfit (d ∷ ds) w fit =
-    λ i. option_or (unless ((fits_on_decides d w).1 fit.0 i) 0) (option_map (λ k. suc k) (none_unfit ds (fwd d w) fit.1 i))
+    λ i. option_or (unless (fit.0 i) 0) (option_map (λ k. suc k) (none_unfit ds (fwd d w) fit.1 i))
 
-first_is : (before : List Delta) (d : Delta) (behind : List Delta) (w : World) → AllFitOn before w → (FitsOn d (fwd_all before w) → ⊥)
+first_is : (before : List Delta) (d : Delta) (behind : List Delta) (w : World) → AllFitOn before w → fits_on d (fwd_all before w) ≡ false
     → first_unfit (before ++ d ∷ behind) w ≡ Some (length before)
 first_is [] d behind w fit unfit =
-    ap (λ b. option_or (unless b 0) (option_map (λ k. suc k) (first_unfit behind (fwd d w))))
-    (false_from_ne_true (fits_on d w) (λ h. unfit ((fits_on_decides d w).0 h)))
+    ap (λ b. option_or (unless b 0) (option_map (λ k. suc k) (first_unfit behind (fwd d w)))) unfit
 first_is (b ∷ bs) d behind w fit unfit =
-    λ i. option_or (unless ((fits_on_decides b w).1 fit.0 i) 0) (option_map (λ k. suc k) (first_is bs d behind (fwd b w) fit.1 unfit i))
+    λ i. option_or (unless (fit.0 i) 0) (option_map (λ k. suc k) (first_is bs d behind (fwd b w) fit.1 unfit i))
 
 pub first_finds : (ds : List Delta) (w : World) → Finds (first_unfit ds w) (AllFitOn ds w) (IsFirstUnfit ds w)
 first_finds ds w =
@@ -96,7 +92,7 @@ last_found (d ∷ ds) w = from (fits_back d (back_all ds w)) refl (last_unfit ds
       fit = rest.fit;
       unfit = rest.unfit;
     }
-    from true passes None rest = (rest, (fits_back_decides d (back_all ds w)).0 passes)
+    from true passes None rest = (rest, passes)
     from false fails None rest = record {
       before = [];
       delta = d;
@@ -104,19 +100,18 @@ last_found (d ∷ ds) w = from (fits_back d (back_all ds w)) refl (last_unfit ds
       cut = refl;
       number = refl;
       fit = rest;
-      unfit = λ fits. let wrong : true ≡ false = sym ((fits_back_decides d (back_all ds w)).1 fits) ∙ fails in absurd (cc);
+      unfit = fails;
     }
 
 none_unfit_back : (ds : List Delta) (w : World) → AllFitBack ds w → last_unfit ds w ≡ None
 none_unfit_back [] w fit = refl
 none_unfit_back (d ∷ ds) w fit =
-    λ i. option_or (option_map (λ k. suc k) (none_unfit_back ds w fit.0 i)) (unless ((fits_back_decides d (back_all ds w)).1 fit.1 i) 0)
+    λ i. option_or (option_map (λ k. suc k) (none_unfit_back ds w fit.0 i)) (unless (fit.1 i) 0)
 
-last_is : (before : List Delta) (d : Delta) (behind : List Delta) (w : World) → AllFitBack behind w → (FitsBack d (back_all behind w) → ⊥)
+last_is : (before : List Delta) (d : Delta) (behind : List Delta) (w : World) → AllFitBack behind w → fits_back d (back_all behind w) ≡ false
     → last_unfit (before ++ d ∷ behind) w ≡ Some (length before)
 last_is [] d behind w fit unfit =
-    λ i. option_or (option_map (λ k. suc k) (none_unfit_back behind w fit i))
-    (unless (false_from_ne_true (fits_back d (back_all behind w)) (λ h. unfit ((fits_back_decides d (back_all behind w)).0 h)) i) 0)
+    λ i. option_or (option_map (λ k. suc k) (none_unfit_back behind w fit i)) (unless (unfit i) 0)
 last_is (b ∷ bs) d behind w fit unfit =
     ap (λ o. option_or (option_map (λ k. suc k) o) (unless (fits_back b (back_all (bs ++ d ∷ behind) w)) 0)) (last_is bs d behind w fit unfit)
 

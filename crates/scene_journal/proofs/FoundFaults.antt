@@ -3,19 +3,17 @@ use Rattle.std.proofs.Common.{◌≡◌, ℕ, ◌+◌, Bool, true, false, List, 
 use Rattle.std.specs.Prelude.{IsTrue, ◌↔◌}
 use Rattle.std.specs.Cmp.{unsigned_Decides}
 use Rattle.std.specs.Option.{option_or}
-use Rattle.std.proofs.lemmas.Bool.{and_parts, and_from, false_from_ne_true}
+use Rattle.std.proofs.lemmas.Bool.{and_parts, and_from}
 use Rattle.scene_model.specs.World.{World}
 use Rattle.scene_model.specs.Commands.{highest_tick}
-use Rattle.scene_model.specs.Can.{CanSetTick}
+use Rattle.scene_model.specs.Can.{can_set_tick}
 use Rattle.scene_deltas.specs.Deltas.{AllFitOn, AllFitBack, back_all}
 use Rattle.scene_journal.specs.Faults.{CanRaiseFor, IsFirstUnfit, IsLastUnfit, IsFaultOn, IsFaultBack}
 use Rattle.scene_journal.specs.Records.{Record, raised, redone, undone, RecordFitsOn, RecordFitsBack}
-use Rattle.scene_deltas.specs.Tests.{can_set_tick}
 use Rattle.scene_journal.specs.Unfit.{unless, first_unfit, last_unfit, can_raise_for, first_unfit_on, first_unfit_back}
 use Rattle.scene_journal.specs.FirstFaults.{PastFits, FutureFits, IsPastFault, IsFutureFault, IsFaultOf, past_fault, future_fault, first_fault}
 use Rattle.scene_journal.specs.FaultLaws.{Finds, RecordsAreTested, RecordFaultsAreFound, FirstFaultsAreFound}
 use Rattle.scene_journal.proofs.FirstFinds.{finds, found, not_none, first_finds, last_finds, in_turn_finds}
-use Rattle.scene_deltas.proofs.Tests.{set_tick}
 
 -- ---- a record that is redone
 
@@ -69,9 +67,6 @@ module _ (r : Record) (w : World) where
   abbrev opening : World
   opening = back_all r.deltas w
 
-  timely : Decides (can_set_tick opening r.tick_before) (CanSetTick opening r.tick_before)
-  timely = set_tick opening r.tick_before
-
   back_found : (b : Bool) → is_its_tick ≡ b → (o : Option ℕ) → last_unfit r.deltas w ≡ o → MatchOption o (AllFitBack r.deltas w) (IsLastUnfit r.deltas w)
       → (c : Bool) → can_set_tick opening r.tick_before ≡ c
       → MatchOption (option_or (unless b (count r w)) (option_or o (unless c (count r w)))) (RecordFitsBack r w) (IsFaultBack r w)
@@ -85,11 +80,11 @@ module _ (r : Record) (w : World) where
     delta = λ same unfit. rest;
     late = λ same fit. absurd (not_none (last_unfit r.deltas w) k is (back.none.1 fit));
   }
-  back_found true passes None is rest true late = record { tick = its_tick.0 passes; deltas = rest; timely = timely.0 late }
+  back_found true passes None is rest true late = record { tick = its_tick.0 passes; deltas = rest; timely = late }
   back_found true passes None is rest false late = record {
     tick = λ other. absurd (other (its_tick.0 passes));
     delta = λ same unfit. absurd (unfit rest);
-    late = λ same fit. (refl, λ can. let wrong : true ≡ false = sym (timely.1 can) ∙ late in absurd (cc));
+    late = λ same fit. (refl, late);
   }
 
   back_some : (k : ℕ) → IsFaultBack r w k → (b : Bool) → is_its_tick ≡ b → (o : Option ℕ) → last_unfit r.deltas w ≡ o → first_unfit_back r w ≡ Some k
@@ -103,14 +98,14 @@ module _ (r : Record) (w : World) where
   back_some k fault true passes None is =
       let late = fault.late (its_tick.0 passes) (back.none.0 is) in
       (λ i. option_or (unless (passes i) (count r w))
-      (option_or (is i) (unless (false_from_ne_true (can_set_tick opening r.tick_before) (λ h. late.1 (timely.0 h)) i) (count r w))))
+      (option_or (is i) (unless (late.1 i) (count r w))))
       ∙ ap Some (sym late.0)
 
   pub back_finds : Finds (first_unfit_back r w) (RecordFitsBack r w) (IsFaultBack r w)
   back_finds =
       finds (first_unfit_back r w) (RecordFitsBack r w) (IsFaultBack r w)
       (back_found is_its_tick refl (last_unfit r.deltas w) refl (found (last_unfit r.deltas w) back) (can_set_tick opening r.tick_before) refl)
-      (λ fits i. option_or (unless (its_tick.1 fits.tick i) (count r w)) (option_or (back.none.1 fits.deltas i) (unless (timely.1 fits.timely i) (count r w))))
+      (λ fits i. option_or (unless (its_tick.1 fits.tick i) (count r w)) (option_or (back.none.1 fits.deltas i) (unless (fits.timely i) (count r w))))
       (λ k fault. back_some k fault is_its_tick refl (last_unfit r.deltas w) refl)
 
 -- ---- the laws of one record

@@ -3,14 +3,11 @@ use Rattle.std.proofs.Common.{◌≡◌, ◌<◌, ◌+◌, ℕ}
 use Rattle.std.proofs.Math.Logic.{∥∥₁_elim}
 use Rattle.std.proofs.Props.{props}
 use Rattle.scene_model.specs.World.{World}
-use Rattle.scene_model.specs.Can.{CanSetTick}
+use Rattle.scene_model.specs.Can.{can_set_tick}
 use Rattle.scene_model.specs.Commands.{highest_tick}
 use Rattle.scene_deltas.specs.Deltas.{back_all}
-use Rattle.scene_deltas.proofs.Truncated.{each_fits_back, each_fits_on}
+use Rattle.scene_deltas.proofs.Truncated.{each_fits_back, each_fits_on, passes-prop}
 use Rattle.scene_journal.specs.Records.{Record, raised, RecordFitsBack, RecordFitsOn}
-
-tick-prop : (w : World) (tick : ℕ) → IsProp (CanSetTick w tick)
-tick-prop w tick = Prim.hlevel props
 
 same-prop : (m n : ℕ) → IsProp (m ≡ n)
 same-prop m n = Prim.hlevel props
@@ -23,7 +20,7 @@ module _ (P : Type 0) (known : ∥ P ∥₁) where
   fits_back_from r w get = record {
     tick = ∥∥₁_elim known (same-prop w.tick (r.tick_before + 1)) (λ p. (get p).tick);
     deltas = each_fits_back P known r.deltas w (λ p. (get p).deltas);
-    timely = ∥∥₁_elim known (tick-prop (back_all r.deltas w) r.tick_before) (λ p. (get p).timely);
+    timely = ∥∥₁_elim known (passes-prop (can_set_tick (back_all r.deltas w) r.tick_before)) (λ p. (get p).timely);
   }
 
   pub fits_on_from : (r : Record) (w : World) → (P → RecordFitsOn r w) → RecordFitsOn r w

@@ -16,6 +16,7 @@ use Rattle.scene_world.specs.Stage.{Staged, noting, act}
 use Rattle.scene_model.specs.Valid.{IsValid}
 use Rattle.scene_model.proofs.CommandKeeps.{commands_keep}
 use Rattle.scene_model.proofs.MoveKeeps.{raise_keeps}
+use Rattle.scene_model.proofs.CanParts.{set_tick as tick_decides}
 use Rattle.scene_model.proofs.PartCommands.{raise_sets_tick}
 use Rattle.scene_model.proofs.Outcomes.{not_ok, same_world}
 use Rattle.scene_deltas.specs.declared.delta.Delta.{Delta}
@@ -109,7 +110,7 @@ frames_are_records queues w v es valid held is =
     let parts = both_accepted w (raise_tick w) (λ a u. queues_from perform 0 queues u) es v is in
     let u = parts.1.0 in
     let raises = raise_sets_tick w u valid parts.1.1.0 in
-    let tick = raises.0.low in
+    let tick = ((tick_decides w (w.tick + 1)).0 raises.0).low in
     let start : InStep (raised w) 0 u (record { world = raised w; notes = [] }) = (
       sym raises.1,
       record { valid = subst IsValid raises.1 (raise_keeps w u valid parts.1.1.0); lead = record { fit = tt; made = refl } },

@@ -2,7 +2,7 @@
 use Rattle.std.proofs.Common.{◌≡◌, ℕ, true, false, not, List, [], ◌∷◌, length, refl, ap, subst, sym, ◌∙◌, Option, Some, None, Ok}
 use Rattle.std.proofs.Common.{if◌then◌else◌, slice_get}
 use Rattle.std.specs.Prelude.{option_map}
-use Rattle.std.proofs.lemmas.Bool.{lt-ltb}
+use Rattle.std.proofs.lemmas.Bool.{and_parts, lt-ltb}
 use Rattle.std.proofs.lemmas.Option.{same_Some, slice_get_within}
 use Rattle.scene_kinds.specs.Answers.{Outcome}
 use Rattle.scene_kinds.specs.Cells.{cell_of, put_over}
@@ -16,7 +16,7 @@ use Rattle.scene_kinds.specs.declared.value.Value.{Value}
 use Rattle.scene_table.specs.Table.{row_with_cell}
 use Rattle.scene_table.specs.Tables.{with_row_at}
 use Rattle.scene_table.specs.declared.home.Home.{Home}
-use Rattle.scene_model.specs.Can.{IsGoodCell, CanSetCell}
+use Rattle.scene_model.specs.Can.{has_cell as has_this_cell, is_good_cell, can_set_cell}
 use Rattle.scene_model.specs.CommandRaw.{Inserts}
 use Rattle.scene_model.specs.Commands.{insert, insert_fault, after_insert, unless, with_live}
 use Rattle.scene_model.specs.Perform.{Insert}
@@ -67,7 +67,7 @@ module _ (w : World) (e : Entity) (kind : ℕ) (value : Value) (c : Cell) (there
       ap (λ o. of_row o (λ place cells. inserted w.tick e kind value place (cell_of cells kind) ∷ [])) is
       ∙ ap (λ o. inserted w.tick e kind value h.place o ∷ []) here)
 
-  can : IsValid w → CanSetCell w e kind c over
+  can : IsValid w → can_set_cell w e kind c over ≡ true
   can valid = (subst (Inserts w (set_cell w e kind over) e kind value) there (insert_shifts_or_sets w (set_cell w e kind over) e kind value valid sets)).0
 
 -- as the code has it
@@ -82,8 +82,8 @@ module _ (w : World) (e : Entity) (kind : ℕ) (value : Value) (added changed : 
   same : put_over (Some now.0) value w.tick ≡ new
   same = λ i. record { value = value; added = now.1.1 i; changed = sym tick i }
 
-  pub is_good : IsValid w → IsGoodCell w kind new
-  is_good valid = subst (IsGoodCell w kind) same (can w e kind value now.0 now.1.0 fits valid).good
+  pub is_good : IsValid w → is_good_cell w kind new ≡ true
+  is_good valid = ap (is_good_cell w kind) (sym same) ∙ (and_parts (has_this_cell (cells_of w e) kind now.0) _ (can w e kind value now.0 now.1.0 fits valid)).1
 
   pub made : (v : World) → v ≡ set_cell w e kind new → insert w e kind value ≡ Ok (tt, v)
   made v is =

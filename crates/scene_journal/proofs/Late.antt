@@ -1,14 +1,14 @@
 -- The tick of a world may be set to the one before it just where no cell was changed at the world's own tick, and such
 -- a cell stands at a spot that is listed.
 use Rattle.std.proofs.Common.{◌≡◌, ℕ, zero, suc, ◌+◌, ◌≤◌, Bool, true, false, cond, ◌&&◌, List, [], ◌∷◌, refl, ap, sym, ◌∙◌, arith, Option, Some, None}
-use Rattle.std.specs.Prelude.{◌↔◌, Contains, nat_le, option_map, slice_get}
+use Rattle.std.specs.Prelude.{Contains, nat_le, option_map, slice_get}
 use Rattle.std.specs.List.{list_all}
 use Rattle.std.specs.Ordering.{nat_cmp, eq_by_cmp}
 use Rattle.std.specs.Cmp.{nat_cmp_total}
 use Rattle.std.specs.FinMap.{nat_cmp-IsAntisymmetric}
 use Rattle.std.proofs.lemmas.Bool.{and_parts, le-leb, leb-true}
-use Rattle.std.proofs.lemmas.Bool.Decides.{nat_tests}
-use Rattle.std.proofs.lemmas.Option.{same_Some, slice_get-get_or}
+use Rattle.std.proofs.lemmas.Bool.Decides.{nat_tests, same_from_decides}
+use Rattle.std.proofs.lemmas.Option.{slice_get-get_or}
 use Rattle.scene_kinds.specs.declared.cell.Cell.{Cell}
 use Rattle.scene_kinds.specs.Cells.{IsAscending, cell_of}
 use Rattle.scene_kinds.proofs.CellLaws.{below_none, first_below, rest_ascends}
@@ -16,25 +16,17 @@ use Rattle.scene_kinds.proofs.Maps.{equal_keys, ties_itself}
 use Rattle.scene_resources.specs.Resources.{cell_of as resource_of}
 use Rattle.scene_model.specs.World.{World}
 use Rattle.scene_model.specs.Valid.{IsValid, is_timely}
-use Rattle.scene_model.specs.Can.{CanSetTick}
+use Rattle.scene_model.specs.Can.{can_set_tick}
 use Rattle.scene_model.specs.Raw.{cells_of, listed_cells}
+use Rattle.scene_model.proofs.CanParts.{CanSetTick, set_tick}
 use Rattle.scene_model.proofs.RowOf.{has_cell, row_stands, row_there}
+use Rattle.scene_model.proofs.TimelyTests.{passed_at, pass_all}
 use Rattle.scene_journal.specs.declared.spot.Spot.{Spot}
 use Rattle.scene_journal.specs.declared.spot.Spot.TheVariants.{Component, Resource}
 use Rattle.scene_journal.specs.Newest.{Newest, Covers, IsListed, changed_in, is_other, was_changed_otherwise}
 use Rattle.scene_journal.proofs.Listed.{found_at}
 
--- ---- tests of all elements
-
-passed_at : {X : Type 0} (p : X → Bool) (xs : List X) (i : ℕ) (x : X) → list_all p xs ≡ true → slice_get xs i ≡ Some x → p x ≡ true
-passed_at p [] i x all h = absurd (let k : None ≡ Some x = h in cc)
-passed_at p (y ∷ ys) zero x all h = ap p (sym (same_Some y x h)) ∙ (and_parts (p y) (list_all p ys) all).0
-passed_at p (y ∷ ys) (suc i) x all h = passed_at p ys i x (and_parts _ _ all).1 h
-
-pass_all : {X : Type 0} (p : X → Bool) (xs : List X) → ((i : ℕ) (x : X) → slice_get xs i ≡ Some x → p x ≡ true) → list_all p xs ≡ true
-pass_all p [] each = refl
-pass_all p (y ∷ ys) each = ap (λ b. b && list_all p ys) (each zero y refl) ∙ pass_all p ys (λ i. each (suc i))
-
+-- what all elements pass, one of them passes
 passed_in : {X : Type 0} (p : X → Bool) (xs : List X) (x : X) → list_all p xs ≡ true → Contains xs x → p x ≡ true
 passed_in p xs x all there = passed_at p xs there.0 x all (slice_get-get_or xs there.0 x there.1 ∙ ap (λ y. Some y) there.2)
 
@@ -114,5 +106,5 @@ module _ (n : Newest) (w : World) (tick age : ℕ) (spots : List Spot) (v : IsVa
       from None q = refl
       from (Some c) q = not_now w.tick tick c is (can.resources name c q)
 
-  pub late_listed : (list_all (was_changed_otherwise w w.tick) spots ≡ true) ↔ CanSetTick w tick
-  late_listed = (can_set, λ can. pass_all (was_changed_otherwise w w.tick) spots (λ i spot at. spot_passes can spot))
+  pub late_listed : list_all (was_changed_otherwise w w.tick) spots ≡ can_set_tick w tick
+  late_listed = same_from_decides _ _ (can_set, λ can. pass_all (was_changed_otherwise w w.tick) spots (λ i spot at. spot_passes can spot)) (set_tick w tick)

@@ -1,12 +1,12 @@
 -- Records take each other's direction back.
-use Rattle.std.proofs.Common.{◌≡◌, ◌+◌, ◌<◌, false, refl, ap, subst, sym, ◌∙◌, arith, Ok, nat_eq, if◌then◌else◌}
+use Rattle.std.proofs.Common.{◌≡◌, ◌+◌, ◌<◌, true, false, refl, ap, subst, sym, ◌∙◌, arith, Ok, nat_eq, if◌then◌else◌}
 use Rattle.std.proofs.lemmas.Bool.Decides.{nat_tests}
 use Rattle.scene_kinds.specs.declared.fault.Fault.TheVariants.{TickFull}
 use Rattle.scene_kinds.specs.Answers.{refuse}
 use Rattle.scene_model.specs.World.{World}
 use Rattle.scene_model.specs.Commands.{highest_tick, raise_tick}
 use Rattle.scene_model.specs.Raw.{set_tick}
-use Rattle.scene_model.specs.Can.{CanSetTick}
+use Rattle.scene_model.specs.Can.{can_set_tick}
 use Rattle.scene_model.specs.Valid.{IsValid}
 use Rattle.scene_model.proofs.PartCommands.{raise_sets_tick}
 use Rattle.scene_model.proofs.ResourceBack.{ticks_come_back}
@@ -21,13 +21,13 @@ raises w low =
     let apart : nat_eq w.tick highest_tick ≡ false = grind (arith, nat_tests) in
     ap (λ b. if b then refuse TickFull else Ok (tt, raised w)) apart
 
-pub can_raise : (w : World) → IsValid w → w.tick < highest_tick → CanSetTick w (w.tick + 1)
+pub can_raise : (w : World) → IsValid w → w.tick < highest_tick → can_set_tick w (w.tick + 1) ≡ true
 can_raise w v low = (raise_sets_tick w (raised w) v (raises w low)).0
 
 -- ---- redone, and undone again
 
 module _ (r : Record) (w : World) (v : IsValid w) (fits : RecordFitsOn r w) where
-  can_tick : (w.tick ≡ w.tick) × CanSetTick w (w.tick + 1)
+  can_tick : (w.tick ≡ w.tick) × (can_set_tick w (w.tick + 1) ≡ true)
   can_tick = (refl, can_raise w v fits.low)
 
   pub raised_valid : IsValid (raised w)
@@ -43,7 +43,7 @@ module _ (r : Record) (w : World) (v : IsValid w) (fits : RecordFitsOn r w) wher
   redone_fits_back = record {
     tick = fwd_all_keeps_tick r.deltas (raised w) ∙ ap (λ n. n + 1) fits.tick;
     deltas = (delta_lists_come_back r.deltas).0.can_come_back (raised w) raised_valid fits.deltas;
-    timely = subst (λ u. CanSetTick u r.tick_before) (sym deltas_back) (subst (CanSetTick (raised w)) fits.tick ((ticks_come_back w.tick (w.tick + 1)).can_come_back w v can_tick).1);
+    timely = subst (λ u. can_set_tick u r.tick_before ≡ true) (sym deltas_back) (subst (λ t. can_set_tick (raised w) t ≡ true) fits.tick ((ticks_come_back w.tick (w.tick + 1)).can_come_back w v can_tick).1);
   }
 
   redone_comes_back : undone r (redone r w) ≡ w
@@ -61,7 +61,7 @@ module _ (r : Record) (w : World) (v : IsValid w) (fits : RecordFitsBack r w) wh
   bare_valid : IsValid bare
   bare_valid = (delta_lists_come_back r.deltas).1.keeps w v fits.deltas
 
-  can_lower : (bare.tick ≡ r.tick_before + 1) × CanSetTick bare r.tick_before
+  can_lower : (bare.tick ≡ r.tick_before + 1) × (can_set_tick bare r.tick_before ≡ true)
   can_lower = (back_all_keeps_tick r.deltas w ∙ fits.tick, fits.timely)
 
   undone_valid : IsValid (undone r w)

@@ -1,9 +1,9 @@
 -- Deltas that are made, or taken back, up to one of them.
-use Rattle.std.proofs.Common.{◌≡◌, ℕ, ◌+◌, ◌<◌, ◌≤◌, List, [], ◌∷◌, ◌++◌, length, take, drop, get_or, refl, ap, sym, subst, ◌∙◌, arith}
+use Rattle.std.proofs.Common.{◌≡◌, ℕ, Bool, true, false, ◌+◌, ◌<◌, ◌≤◌, List, [], ◌∷◌, ◌++◌, length, take, drop, get_or, refl, ap, sym, subst, ◌∙◌, arith}
 use Rattle.std.proofs.lemmas.List.{take_all, take-append-drop, length-take-le}
 use Rattle.scene_model.specs.World.{World}
 use Rattle.scene_deltas.specs.declared.delta.Delta.{Delta}
-use Rattle.scene_deltas.specs.Deltas.{fwd, back, FitsOn, FitsBack, fwd_all, back_all, AllFitOn, AllFitBack}
+use Rattle.scene_deltas.specs.Deltas.{fwd, back, fits_on, fits_back, FitsOn, FitsBack, fwd_all, back_all, AllFitOn, AllFitBack}
 use Rattle.scene_kinds.specs.declared.refusal.Refusal.{Refusal}
 use Rattle.scene_journal.specs.Records.{Record}
 use Rattle.scene_journal.specs.Faults.{IsFirstUnfit, IsLastUnfit, IsFaultBack, FaultsAreFaults, IsAfterSome, IsBeforeSome, Names}
@@ -29,7 +29,7 @@ module _ (ds : List Delta) (w v : World) (i : ℕ) (d : Delta) (low : i < length
       may_longer fwd ds w v i d low is made (IsReadyOn wider) (on_wider room wider (take i ds) w wide before)
       (record { fits = fits; held = subst (Holds wider) by held })
 
-  pub unfit_here : AllFitOn (take i ds) w → (FitsOn d v → ⊥) → IsFirstUnfit ds w i
+  pub unfit_here : AllFitOn (take i ds) w → fits_on d v ≡ false → IsFirstUnfit ds w i
   unfit_here before unfit = record {
     before = take i ds;
     delta = d;
@@ -37,7 +37,7 @@ module _ (ds : List Delta) (w v : World) (i : ℕ) (d : Delta) (low : i < length
     cut = cut_here fwd ds w v i d low is made;
     number = sym (length-take-le i ds (omega (arith, low)));
     fit = before;
-    unfit = λ h. unfit (subst (FitsOn d) (sym made) h);
+    unfit = ap (fits_on d) (sym made) ∙ unfit;
   }
 
 pub some_made : (ds : List Delta) (w v : World) (i : ℕ) → v ≡ fwd_all (take i ds) w → IsAfterSome ds w v
@@ -70,8 +70,8 @@ module _ (ds : List Delta) (w v : World) (left before taken : List Delta) (d : D
     record { fits = subst (FitsBack d) now.1 fits; held = subst (Holds wider) (by ∙ ap (back d) now.1) held },
   )
 
-  pub unfit_next : AllFitBack taken w → (FitsBack d v → ⊥) → IsLastUnfit ds w (length before)
-  unfit_next fit unfit = record { before = before; delta = d; behind = taken; cut = here; number = refl; fit = fit; unfit = λ h. unfit (subst (FitsBack d) (sym now.1) h) }
+  pub unfit_next : AllFitBack taken w → fits_back d v ≡ false → IsLastUnfit ds w (length before)
+  unfit_next fit unfit = record { before = before; delta = d; behind = taken; cut = here; number = refl; fit = fit; unfit = ap (fits_back d) (sym now.1) ∙ unfit }
 
 pub some_taken : (ds : List Delta) (w v : World) (left taken : List Delta) → IsTakenTo ds w left v taken → IsBeforeSome ds w v
 some_taken ds w v left taken now = record { left = left; taken = taken; cut = now.0; before = now.1 }
@@ -83,11 +83,15 @@ all_taken ds w v left taken none now =
 
 -- ---- faults
 
+-- no test passes and fails
+not_both : {b : Bool} → b ≡ true → b ≡ false → ⊥
+not_both passes fails = let wrong : true ≡ false = sym passes ∙ fails in cc
+
 unfit_on : (ds : List Delta) (w : World) (k : ℕ) → IsFirstUnfit ds w k → AllFitOn ds w → ⊥
-unfit_on ds w k u all = u.unfit (may_parts FitsOn fwd u.before (u.delta ∷ u.behind) w (subst (λ es. AllFitOn es w) u.cut all)).1.0
+unfit_on ds w k u all = not_both (may_parts FitsOn fwd u.before (u.delta ∷ u.behind) w (subst (λ es. AllFitOn es w) u.cut all)).1.0 u.unfit
 
 unfit_back : (ds : List Delta) (w : World) (k : ℕ) → IsLastUnfit ds w k → AllFitBack ds w → ⊥
-unfit_back ds w k u all = u.unfit (undo_parts FitsBack back u.before (u.delta ∷ u.behind) w (subst (λ es. AllFitBack es w) u.cut all)).0.1
+unfit_back ds w k u all = not_both (undo_parts FitsBack back u.before (u.delta ∷ u.behind) w (subst (λ es. AllFitBack es w) u.cut all)).0.1 u.unfit
 
 -- a delta that doesn't fit back is the record's fault, where the tick is right
 pub fault_of_delta : (r : Record) (w : World) (refusal : Refusal) → w.tick ≡ r.tick_before + 1 → Names (IsLastUnfit r.deltas w) refusal → Names (IsFaultBack r w) refusal
@@ -107,5 +111,5 @@ fault_of_delta r w refusal right named other =
 pub faults_are_faults : FaultsAreFaults
 faults_are_faults r w k = (
   λ f fits. unfit_on r.deltas _ k (f.delta (fits.tick, fits.low)) fits.deltas,
-  λ f fits. (f.late fits.tick fits.deltas).1 fits.timely,
+  λ f fits. not_both fits.timely (f.late fits.tick fits.deltas).1,
 )

@@ -1,15 +1,16 @@
 -- A spawn that was noted: what its row is told to be, and that it can be taken back.
-use Rattle.std.proofs.Common.{◌≡◌, ℕ, Bool, List, [], ◌∷◌, ap, sym, subst, ◌∙◌, Ok}
+use Rattle.std.proofs.Common.{◌≡◌, ℕ, Bool, true, List, [], ◌∷◌, ap, sym, subst, ◌∙◌, Ok}
 use Rattle.scene_kinds.specs.declared.entity.Entity.{Entity}
 use Rattle.scene_kinds.specs.declared.cell.Cell.{Cell}
 use Rattle.scene_kinds.specs.declared.value.Value.{Value}
 use Rattle.scene_alloc.specs.Slots.{takes_new_slot}
 use Rattle.scene_model.specs.World.{World}
-use Rattle.scene_model.specs.Can.{CanDrop}
+use Rattle.scene_model.specs.Can.{can_drop}
 use Rattle.scene_model.specs.Commands.{new_cells, spawn}
 use Rattle.scene_model.specs.Perform.{Spawn}
 use Rattle.scene_model.specs.Raw.{cells_of, drop_last}
 use Rattle.scene_model.specs.Valid.{IsValid}
+use Rattle.scene_model.proofs.CanParts.{drop, put}
 use Rattle.scene_model.proofs.RowCommands.{spawn_puts}
 use Rattle.scene_model.proofs.SpawnKeeps.{spawn_keeps}
 use Rattle.scene_deltas.specs.declared.delta.Delta.{Delta}
@@ -25,16 +26,16 @@ module _ (w v : World) (given : List (ℕ × Value)) (e : Entity) (valid : IsVal
   abbrev fresh : Bool
   fresh = takes_new_slot w.slots
 
-  can : CanDrop v e new fresh
+  can : can_drop v e new fresh ≡ true
   can =
       let puts = spawn_puts w v given e valid is in
-      subst (λ u. CanDrop u e new fresh) (sym puts.1) ((deltas_come_back (Spawned e new fresh)).0.can_come_back w valid puts.0)
+      subst (λ u. can_drop u e new fresh ≡ true) (sym puts.1) ((deltas_come_back (Spawned e new fresh)).0.can_come_back w valid puts.0)
 
   pub own_cells : cells_of v e ≡ new
-  own_cells = cells_last v e new (spawn_keeps w v given e valid is) can.row
+  own_cells = cells_last v e new (spawn_keeps w v given e valid is) ((drop v e new fresh).0 can).row
 
-  pub can_drop : (b : Bool) → b ≡ fresh → CanDrop v e (cells_of v e) b
-  can_drop b same = subst (CanDrop v e (cells_of v e)) (sym same) (subst (λ cells. CanDrop v e cells fresh) (sym own_cells) can)
+  pub can_leave : (b : Bool) → b ≡ fresh → can_drop v e (cells_of v e) b ≡ true
+  can_leave b same = (λ i. can_drop v e (own_cells i) (same i)) ∙ can
 
   pub dropped_again : (b : Bool) → b ≡ fresh → drop_last v e b ≡ w
   dropped_again b same =
@@ -43,4 +44,4 @@ module _ (w v : World) (given : List (ℕ × Value)) (e : Entity) (valid : IsVal
 
   pub spawn_noted : (b : Bool) (cells : List (ℕ × Cell)) → b ≡ fresh → cells ≡ cells_of v e → ◌≡◌ {A = List Delta} (Spawned e cells b ∷ []) (deltas_of w (Spawn given))
   spawn_noted b cells same own =
-      (λ i. Spawned e ((own ∙ own_cells) i) (same i) ∷ []) ∙ sym (ap (spawned w new) (spawn_puts w v given e valid is).0.next)
+      (λ i. Spawned e ((own ∙ own_cells) i) (same i) ∷ []) ∙ sym (ap (spawned w new) ((put w e new fresh).0 (spawn_puts w v given e valid is).0).next)

@@ -9,7 +9,7 @@ use Rattle.scene_machine.specs.Queue.{Request, known}
 use Rattle.scene_machine.specs.ExampleWords.{ent, cell, int, schema, spawn_int, spawn_tag, local, world, int_row}
 use Rattle.scene_deltas.specs.declared.delta.Delta.{Delta}
 use Rattle.scene_deltas.specs.declared.delta.Delta.TheVariants.{Spawned, Despawned, Linked}
-use Rattle.scene_deltas.specs.Deltas.{FitsOn, FitsBack}
+use Rattle.scene_deltas.specs.Deltas.{fits_on, fits_back}
 use Rattle.scene_journal.specs.Records.{Record, record_of, redone, undone, RecordFitsOn, RecordFitsBack}
 use Rattle.scene_journal.specs.Frames.{frame_record, size}
 
@@ -81,5 +81,5 @@ OthersAreRefused =
     × RecordFitsBack (record_of 0 (spawned_int 5 ∷ [])) with_one
     × (RecordFitsBack (record_of 3 (spawned_int 5 ∷ [])) with_one → ⊥)
     × (RecordFitsOn (record_of 0 []) with_one → ⊥)
-    × (FitsBack (spawned_int 6) with_one → ⊥)
-    × (FitsOn (Linked (ent 0 1) None (Some (ent 0 1, 0))) with_one → ⊥)
+    × (fits_back (spawned_int 6) with_one ≡ false)
+    × (fits_on (Linked (ent 0 1) None (Some (ent 0 1, 0))) with_one ≡ false)

@@ -2,11 +2,8 @@
 -- its relation names.
 use Rattle.std.specs.Prelude.{◌≡◌, ◌↔◌, IsTrue, List, Option, Some, None}
 use Rattle.scene_model.specs.World.{World}
-use Rattle.scene_deltas.specs.declared.delta.Delta.{Delta}
-use Rattle.scene_deltas.specs.Deltas.{FitsOn, FitsBack}
 use Rattle.scene_journal.specs.Faults.{IsFaultOn, IsFaultBack}
 use Rattle.scene_journal.specs.Records.{Record, RecordFitsOn, RecordFitsBack}
-use Rattle.scene_deltas.specs.Fits.{fits_on, fits_back}
 use Rattle.scene_journal.specs.Unfit.{first_unfit_on, first_unfit_back, record_fits_on, record_fits_back}
 use Rattle.scene_journal.specs.FirstFaults.{PastFits, FutureFits, IsPastFault, IsFutureFault, IsFaultOf, past_fault, future_fault, first_fault}
 

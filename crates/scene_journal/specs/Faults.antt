@@ -1,14 +1,14 @@
 -- The first fault that a record has on a world. A fault of the tick has the number of deltas in place of a delta's
 -- number.
-use Rattle.std.specs.Prelude.{◌≡◌, ◌≢◌, ℕ, ◌+◌, ◌<◌, List, ◌∷◌, ◌++◌, length}
+use Rattle.std.specs.Prelude.{◌≡◌, ◌≢◌, ℕ, ◌+◌, ◌<◌, false, List, ◌∷◌, ◌++◌, length}
 use Rattle.scene_kinds.specs.declared.fault.Fault.TheVariants.{BadRecord, NoMemory}
 use Rattle.scene_kinds.specs.declared.refusal.Refusal.{Refusal}
 use Rattle.scene_kinds.specs.Answers.{refusal_of}
 use Rattle.scene_model.specs.World.{World}
 use Rattle.scene_model.specs.Commands.{highest_tick}
-use Rattle.scene_model.specs.Can.{CanSetTick}
+use Rattle.scene_model.specs.Can.{can_set_tick}
 use Rattle.scene_deltas.specs.declared.delta.Delta.{Delta}
-use Rattle.scene_deltas.specs.Deltas.{FitsOn, FitsBack, fwd_all, back_all, AllFitOn, AllFitBack}
+use Rattle.scene_deltas.specs.Deltas.{fits_on, fits_back, fwd_all, back_all, AllFitOn, AllFitBack}
 use Rattle.scene_journal.specs.Records.{Record, raised, RecordFitsOn, RecordFitsBack}
 
 -- the delta of this number is the first, one after another, that doesn't fit at its turn
@@ -19,7 +19,7 @@ pub record IsFirstUnfit (ds : List Delta) (w : World) (k : ℕ) : Type 0 where
   pub cut : ds ≡ before ++ delta ∷ behind
   pub number : k ≡ length before
   pub fit : AllFitOn before w
-  pub unfit : FitsOn delta (fwd_all before w) → ⊥
+  pub unfit : fits_on delta (fwd_all before w) ≡ false
 
 -- it is the first, from the last on, that doesn't fit back at its turn
 pub record IsLastUnfit (ds : List Delta) (w : World) (k : ℕ) : Type 0 where
@@ -29,7 +29,7 @@ pub record IsLastUnfit (ds : List Delta) (w : World) (k : ℕ) : Type 0 where
   pub cut : ds ≡ before ++ delta ∷ behind
   pub number : k ≡ length before
   pub fit : AllFitBack behind w
-  pub unfit : FitsBack delta (back_all behind w) → ⊥
+  pub unfit : fits_back delta (back_all behind w) ≡ false
 
 -- the world's tick is the one before the record, and can be raised
 abbrev pub CanRaiseFor : Record → World → Type 0
@@ -45,7 +45,7 @@ pub record IsFaultOn (r : Record) (w : World) (k : ℕ) : Type 0 where
 pub record IsFaultBack (r : Record) (w : World) (k : ℕ) : Type 0 where
   pub tick : w.tick ≢ r.tick_before + 1 → k ≡ length r.deltas
   pub delta : w.tick ≡ r.tick_before + 1 → (AllFitBack r.deltas w → ⊥) → IsLastUnfit r.deltas w k
-  pub late : w.tick ≡ r.tick_before + 1 → AllFitBack r.deltas w → (k ≡ length r.deltas) × (CanSetTick (back_all r.deltas w) r.tick_before → ⊥)
+  pub late : w.tick ≡ r.tick_before + 1 → AllFitBack r.deltas w → (k ≡ length r.deltas) × (can_set_tick (back_all r.deltas w) r.tick_before ≡ false)
 
 -- no memory was found, or a record is refused by a fault
 abbrev pub Names : (ℕ → Type 0) → Refusal → Type 0

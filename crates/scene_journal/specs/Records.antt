@@ -1,9 +1,9 @@
 -- Records of frames: what redoing and undoing one does to a world, and on which worlds it fits.
-use Rattle.std.specs.Prelude.{◌≡◌, ℕ, ◌+◌, ◌<◌, List}
+use Rattle.std.specs.Prelude.{◌≡◌, ℕ, ◌+◌, ◌<◌, true, List}
 use Rattle.scene_model.specs.World.{World}
 use Rattle.scene_model.specs.Commands.{highest_tick}
 use Rattle.scene_model.specs.Raw.{set_tick}
-use Rattle.scene_model.specs.Can.{CanSetTick}
+use Rattle.scene_model.specs.Can.{can_set_tick}
 use Rattle.scene_deltas.specs.declared.delta.Delta.{Delta}
 use Rattle.scene_deltas.specs.Deltas.{fwd_all, back_all, AllFitOn, AllFitBack}
 
@@ -39,4 +39,4 @@ pub record RecordFitsOn (r : Record) (w : World) : Type 0 where
 pub record RecordFitsBack (r : Record) (w : World) : Type 0 where
   pub tick : w.tick ≡ r.tick_before + 1
   pub deltas : AllFitBack r.deltas w
-  pub timely : CanSetTick (back_all r.deltas w) r.tick_before
+  pub timely : can_set_tick (back_all r.deltas w) r.tick_before ≡ true

@@ -2,12 +2,11 @@
 use Rattle.std.specs.Prelude.{ℕ, suc, ◌+◌, Bool, ◌&&◌, List, [], ◌∷◌, Option, Some, None, if◌then◌else◌, is_none, length, nat_eq, nat_lt, option_map}
 use Rattle.std.specs.Option.{option_or}
 use Rattle.scene_model.specs.World.{World}
+use Rattle.scene_model.specs.Can.{can_set_tick}
 use Rattle.scene_model.specs.Commands.{highest_tick}
 use Rattle.scene_deltas.specs.declared.delta.Delta.{Delta}
-use Rattle.scene_deltas.specs.Deltas.{fwd, back_all}
+use Rattle.scene_deltas.specs.Deltas.{fits_on, fits_back, fwd, back_all}
 use Rattle.scene_journal.specs.Records.{Record, raised}
-use Rattle.scene_deltas.specs.Tests.{can_set_tick}
-use Rattle.scene_deltas.specs.Fits.{fits_on, fits_back}
 
 -- nothing where a test passes, else this number
 abbrev pub unless : Bool → ℕ → Option ℕ

@@ -1,9 +1,9 @@
 //! The cells of a world that were changed in its newest ticks.
-ghost use Rattle.std.specs.Prelude.{◌≡◌, ◌↔◌, ◌+◌, ◌<◌, ◌≤◌, ℕ, List, [], map, length, slice_get, string_bytes};
-ghost use Rattle.std.specs.Prelude.{Some, IfOk, IfNone, IfSome, IsOk, IsTrue, OnOk};
+ghost use Rattle.std.specs.Prelude.{◌≡◌, ◌+◌, ◌<◌, ◌≤◌, ℕ, List, [], map, length, slice_get, string_bytes};
+ghost use Rattle.std.specs.Prelude.{Some, IfOk, IfNone, IfSome, IsOk, OnOk};
 ghost use Rattle.scene_kinds.specs.declared.cells.Row.{Row};
 ghost use Rattle.scene_table.specs.Tables.{EachRow};
-ghost use Rattle.scene_model.specs.Can.{CanSetTick};
+ghost use Rattle.scene_model.specs.Can.{can_set_tick};
 ghost use Rattle.scene_journal.specs.declared.spot.Spot.TheVariants.{Resource};
 ghost use Rattle.scene_journal.specs.Newest.{AreListed, AreRowsListed, Covers, CoversAny, GoesBack, HasAges, KeepsAges};
 ghost use Rattle.scene_journal.specs.Newest.{IsListed, IsNameListed, IsWider, ListsBack};
@@ -81,7 +81,7 @@ impl NewestCells {
     pub fn can_set_tick(&self, world: &World, tick: u64) -> Result<bool, AllocError>
         requires covered { Covers self.now world.now.world }
         requires one_before { world.now.world.tick ≡ tick + 1 }
-        ensures can { IfOk result (λ can. IsTrue can ↔ CanSetTick world.now.world tick) }
+        ensures can { IfOk result (λ can. can ≡ can_set_tick world.now.world tick) }
         ensures kept { (age : ℕ) → world.now.world.tick + age ≡ self.now.opening → age < length self.now.by_age → IsOk result }
     {
         let now = world.tick();

@@ -1,7 +1,7 @@
 //! A world that keeps a record of what is done to it, and can always go back.
-ghost use Rattle.std.specs.Prelude.{◌≡◌, [], Some, OnOk, OnErr};
+ghost use Rattle.std.specs.Prelude.{◌≡◌, [], true, Some, OnOk, OnErr};
 ghost use Rattle.scene_kinds.specs.Answers.{Gives};
-ghost use Rattle.scene_model.specs.Can.{CanSetTick};
+ghost use Rattle.scene_model.specs.Can.{can_set_tick};
 ghost use Rattle.scene_model.specs.Commands.{raise_tick};
 ghost use Rattle.scene_model.specs.Valid.{IsValid};
 ghost use Rattle.scene_world.specs.Room.{Holds, IsWider};
@@ -143,7 +143,7 @@ impl Recorder {
     /// Takes the frame back: its deltas, the last first, and then the tick is the one from before. The record has no
     /// deltas then. It takes no memory, and costs what the deltas changed.
     pub fn cancel(&mut self)
-        requires { CanSetTick (opening_of self.old) self.old.frame.tick_before }
+        requires { can_set_tick (opening_of self.old) self.old.frame.tick_before ≡ true }
         ensures world { self.new.world ≡ undone self.old.frame self.old.world }
         ensures room { self.new.room ≡ self.old.room }
         ensures empty { self.new.frame.deltas ≡ [] }

@@ -13,3 +13,4 @@ pub mod KnownMembers
 pub mod ListsExact
 pub mod ValuesExact
 pub mod FitKinds
+pub mod FoundCells

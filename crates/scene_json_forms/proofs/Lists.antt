@@ -17,7 +17,8 @@ pub joined-none : {A : Type 0} (x : Result (List A) FileFault) → x ≡ joined 
 joined-none (Ok ys) = refl
 joined-none (Err f) = refl
 
-joined-more : {A : Type 0} (xs : List A) (a : A) (rest : Result (List A) FileFault)
+-- one more item, before what the rest is read as
+pub joined-more : {A : Type 0} (xs : List A) (a : A) (rest : Result (List A) FileFault)
     → joined xs (rest >>= λ ys. Ok (a ∷ ys)) ≡ joined (xs ++ a ∷ []) rest
 joined-more xs a (Ok ys) = ap Ok (sym (append_assoc xs (a ∷ []) ys))
 joined-more xs a (Err f) = refl

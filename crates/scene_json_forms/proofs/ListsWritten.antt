@@ -48,6 +48,14 @@ so (Err e) h k = tt
 pub chain : (old a rest s1 s2 : List ℕ) → s1 ≡ old ++ a → s2 ≡ s1 ++ rest → s2 ≡ old ++ (a ++ rest)
 chain old a rest s1 s2 h k = k ∙ ap (λ s. s ++ rest) h ∙ append_assoc old a rest
 
+-- what is written is the text of the whole
+pub as_text : (old bytes text new : List ℕ) → text ≡ bytes → new ≡ old ++ bytes → new ≡ old ++ text
+as_text old bytes text new is h = h ∙ ap (λ t. old ++ t) (sym is)
+
+-- the text of what was found is that of what it is
+pub seen_as : {A : Type 0} {x y : A} (text : A → List ℕ) (old new : List ℕ) → new ≡ old ++ text x → x ≡ y → new ≡ old ++ text y
+seen_as text old new h is = h ∙ ap (λ z. old ++ text z) is
+
 -- five texts that are written one after another
 pub five : (old a b c d e s1 s2 s3 s4 s5 text : List ℕ) → text ≡ a ++ (b ++ (c ++ (d ++ e))) → s1 ≡ old ++ a → s2 ≡ s1 ++ b → s3 ≡ s2 ++ c → s4
     ≡ s3 ++ d → s5 ≡ s4 ++ e

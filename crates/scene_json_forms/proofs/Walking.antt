@@ -1,9 +1,9 @@
 -- What a walk says after one of its steps.
-use Rattle.std.proofs.Common.{◌≡◌, ℕ, true, false, is_some, List, Option, Some, None, option_map, Result, Ok, Err, refl, sym, ap, ◌∙◌}
+use Rattle.std.proofs.Common.{◌≡◌, ℕ, true, false, is_some, List, Option, Some, None, option_map, Result, Ok, Err, IfOk, refl, sym, ap, ◌∙◌}
 use Rattle.serde_json.specs.Data.{Data, Items, null, boolean, number, string, array, object}
 use Rattle.scene_json_forms.specs.declared.fault.FileFault.{FileFault}
 use Rattle.scene_json_forms.specs.declared.fault.FileFault.TheVariants as file
-use Rattle.scene_json_forms.specs.Outcome.{IsTextFault, Means}
+use Rattle.scene_json_forms.specs.Outcome.{IsTextFault, Means, ReadsAs}
 use Rattle.serde_json.specs.Find.{get, get_member, as_array, as_object}
 use Rattle.scene_json_forms.specs.Members.{members_in}
 use Rattle.scene_json_forms.specs.Reading.{◌>>=◌, elements, field, list_at}
@@ -37,6 +37,11 @@ fault_stays (file.BadVersion version) x next h = after _ x next h
 fault_stays file.ReadFault x next h = h
 fault_stays file.WriteFault x next h = h
 fault_stays file.TooLong x next h = h
+
+-- what was read is what was expected
+pub read_is : {X A : Type 0} (seen : X → A) (r : Result X FileFault) (x : Result A FileFault) → ReadsAs seen r x → IfOk r (λ item. x ≡ Ok (seen item))
+read_is seen (Ok item) x h = h
+read_is seen (Err e) x h = tt
 
 -- ---- lists and objects that are opened
 

@@ -6,3 +6,4 @@ pub mod Members
 pub mod Text
 pub mod Walk
 pub mod Printing
+pub mod NamedCells

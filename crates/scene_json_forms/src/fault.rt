@@ -34,6 +34,9 @@ pub enum FileFault {
     TooLong,
 }
 
+/// What is read of a scene text, or why it wasn't read.
+pub type FileResult<T> = Result<T, FileFault>;
+
 impl FileFault {
     /// The fault's number, one for the whole product.
     pub fn number(&self) -> u8

@@ -1,11 +1,11 @@
 //! What the values of a form are read as, and the parts of which forms are made.
-ghost use Rattle.std.specs.Prelude.{◌≡◌, Ok, IfOk, IfErr, map as each};
+ghost use Rattle.std.specs.Prelude.{map as each};
 ghost use Rattle.scene_json.specs.View.{view, views};
-ghost use Rattle.scene_json_forms.specs.Outcome.{IsTextFault};
+ghost use Rattle.scene_json_forms.specs.Outcome.{Reads, ReadsAs};
 ghost use Rattle.scene_json_forms.specs.Paths.{path_bytes};
 ghost use Rattle.scene_json_forms.specs.Reading.{field, if_good, list_at, each_at};
 
-use crate::fault::FileFault;
+use crate::fault::FileResult;
 use crate::path::{Path, bad_field};
 use scene_json::{Part, Parts};
 use std::alloc::Global;
@@ -31,23 +31,16 @@ pub trait Form {
     ghost follows: { Meant → Meant → Bool };
 
     /// The item of the value at a path, or its first fault: `UnknownKey` or `BadField` with its path, or `NoMemory`.
-    fn read(
-        &self,
-        alloc: Global,
-        path: &Path<'_>,
-        value: &Part<'_, '_>,
-    ) -> Result<Self::Item, FileFault>
-        ensures found { IfOk result (λ item. word self.now (path_bytes path.now) (view value.now) ≡ Ok (meant item)) }
-        ensures fault { IfErr result (λ e. IsTextFault e (word self.now (path_bytes path.now) (view value.now))) };
+    fn read(&self, alloc: Global, path: &Path<'_>, value: &Part<'_, '_>) -> FileResult<Self::Item>
+        ensures { ReadsAs meant result (word self.now (path_bytes path.now) (view value.now)) };
 }
 
 /// What is there.
 ///
 /// Refused: `BadField` at the path where nothing is, or `NoMemory` in its place.
 #[tactic(auto, using(crate::proofs::Walking::walking))]
-pub fn field<T>(alloc: Global, path: &Path<'_>, item: Option<T>) -> Result<T, FileFault>
-    ensures found { IfOk result (λ there. field (path_bytes path.now) item ≡ Ok there) }
-    ensures fault { IfErr result (λ e. IsTextFault e (field (path_bytes path.now) item)) }
+pub fn field<T>(alloc: Global, path: &Path<'_>, item: Option<T>) -> FileResult<T>
+    ensures { Reads result (field (path_bytes path.now) item) }
 {
     match item {
         Some(item) => Ok(item),
@@ -59,9 +52,8 @@ pub fn field<T>(alloc: Global, path: &Path<'_>, item: Option<T>) -> Result<T, Fi
 ///
 /// Refused: `BadField` at the path where it isn't, and then it is dropped; or `NoMemory` in its place.
 #[tactic(auto, using(crate::proofs::Walking::walking))]
-pub fn if_good<T: Drop>(alloc: Global, path: &Path<'_>, good: bool, item: T) -> Result<T, FileFault>
-    ensures found { IfOk result (λ there. if_good (path_bytes path.now) good item ≡ Ok there) }
-    ensures fault { IfErr result (λ e. IsTextFault e (if_good (path_bytes path.now) good item)) }
+pub fn if_good<T: Drop>(alloc: Global, path: &Path<'_>, good: bool, item: T) -> FileResult<T>
+    ensures { Reads result (if_good (path_bytes path.now) good item) }
 {
     if good {
         Ok(item)
@@ -78,9 +70,8 @@ pub fn list_at<'t, 'a>(
     alloc: Global,
     path: &Path<'_>,
     value: &Part<'t, 'a>,
-) -> Result<Parts<'t, 'a>, FileFault>
-    ensures found { IfOk result (λ parts. list_at (path_bytes path.now) (view value.now) ≡ Ok (views parts)) }
-    ensures fault { IfErr result (λ e. IsTextFault e (list_at (path_bytes path.now) (view value.now))) }
+) -> FileResult<Parts<'t, 'a>>
+    ensures { ReadsAs views result (list_at (path_bytes path.now) (view value.now)) }
 {
     match value.parts() {
         Some(parts) => Ok(parts),
@@ -97,11 +88,11 @@ pub fn each_at<F: Form>(
     form: &F,
     path: &Path<'_>,
     parts: Parts<'_, '_>,
-) -> Result<Vec<F::Item>, FileFault>
+) -> FileResult<Vec<F::Item>>
 where
     F::Item: Drop,
-    ensures found { IfOk result (λ items. each_at (F.word form.now) (path_bytes path.now) 0 (views parts.entry) ≡ Ok (each F.meant items.items)) }
-    ensures fault { IfErr result (λ e. IsTextFault e (each_at (F.word form.now) (path_bytes path.now) 0 (views parts.entry))) }
+    ensures { ReadsAs (λ items. each F.meant items.items) result
+        (each_at (F.word form.now) (path_bytes path.now) 0 (views parts.entry)) }
 {
     let mut parts = parts;
     let mut items = Vec::new(alloc);
@@ -134,12 +125,7 @@ where
     ghost follows = { λ _ _. true };
 
     #[tactic(auto, using(crate::proofs::Walking::walking))]
-    fn read(
-        &self,
-        alloc: Global,
-        path: &Path<'_>,
-        value: &Part<'_, '_>,
-    ) -> Result<Vec<F::Item>, FileFault> {
+    fn read(&self, alloc: Global, path: &Path<'_>, value: &Part<'_, '_>) -> FileResult<Self::Item> {
         let parts = list_at(alloc, path, value)?;
         each_at(alloc, &self.0, path, parts)
     }

@@ -19,7 +19,7 @@ mod read_values;
 mod rising;
 mod write_values;
 
-pub use fault::FileFault;
+pub use fault::{FileFault, FileResult};
 pub use form::{Form, ListOf, each_at, field, if_good, list_at};
 pub use object::{key_of, object_at};
 pub use path::{Path, bad_field, unknown_key};

@@ -1,12 +1,12 @@
 //! Objects and their members.
-ghost use Rattle.std.specs.Prelude.{◌≡◌, Ok, IfOk, IfErr, OnOk, map as each};
+ghost use Rattle.std.specs.Prelude.{map as each};
 ghost use Rattle.scene_json.specs.View.{view};
 ghost use Rattle.scene_json_forms.specs.Members.{members_in};
-ghost use Rattle.scene_json_forms.specs.Outcome.{IsTextFault};
+ghost use Rattle.scene_json_forms.specs.Outcome.{ReadsAs};
 ghost use Rattle.scene_json_forms.specs.Paths.{path_bytes};
 ghost use Rattle.scene_json_forms.specs.Reading.{key_of, object_at};
 
-use crate::fault::FileFault;
+use crate::fault::FileResult;
 use crate::form::Form;
 use crate::path::{Path, bad_field, unknown_key};
 use scene_json::Part;
@@ -23,9 +23,9 @@ pub fn object_at(
     path: &Path<'_>,
     value: &Part<'_, '_>,
     known: &[&str],
-) -> Result<(), FileFault>
-    ensures found { OnOk result (object_at (each (λ k. k.now) known.now) (path_bytes path.now) (view value.now) ≡ Ok (members_in (view value.now))) }
-    ensures fault { IfErr result (λ e. IsTextFault e (object_at (each (λ k. k.now) known.now) (path_bytes path.now) (view value.now))) }
+) -> FileResult<()>
+    ensures { ReadsAs (λ _. members_in (view value.now)) result
+        (object_at (each (λ k. k.now) known.now) (path_bytes path.now) (view value.now)) }
 {
     if !value.is_object() {
         return Err(bad_field(alloc, path));
@@ -47,9 +47,9 @@ pub fn key_of<F: Form>(
     path: &Path<'_>,
     object: &Part<'_, '_>,
     key: &str,
-) -> Result<F::Item, FileFault>
-    ensures found { IfOk result (λ item. key_of (F.word form.now) (path_bytes path.now) key.now (members_in (view object.now)) ≡ Ok (F.meant item)) }
-    ensures fault { IfErr result (λ e. IsTextFault e (key_of (F.word form.now) (path_bytes path.now) key.now (members_in (view object.now)))) }
+) -> FileResult<F::Item>
+    ensures { ReadsAs F.meant result
+        (key_of (F.word form.now) (path_bytes path.now) key.now (members_in (view object.now))) }
 {
     let at = Path::Key(&*path, &*key);
     match object.get(key) {

@@ -1,11 +1,11 @@
 //! Numbers.
-ghost use Rattle.std.specs.Prelude.{◌≡◌, ◌<◌, Ok, IfOk, IfErr};
+ghost use Rattle.std.specs.Prelude.{◌<◌, IfOk};
 ghost use Rattle.scene_json.specs.View.{view};
-ghost use Rattle.scene_json_forms.specs.Outcome.{IsTextFault};
+ghost use Rattle.scene_json_forms.specs.Outcome.{Reads};
 ghost use Rattle.scene_json_forms.specs.Paths.{path_bytes};
 ghost use Rattle.scene_json_forms.specs.Reading.{below};
 
-use crate::fault::FileFault;
+use crate::fault::FileResult;
 use crate::form::{Form, field, if_good};
 use crate::path::Path;
 use crate::rising::Ordered;
@@ -16,15 +16,9 @@ use std::alloc::Global;
 ///
 /// Refused: `BadField` at the path where it is none, or `NoMemory` in its place.
 #[tactic(auto, using(crate::proofs::Walking::walking))]
-pub fn below(
-    alloc: Global,
-    path: &Path<'_>,
-    value: &Part<'_, '_>,
-    bound: u64,
-) -> Result<u64, FileFault>
-    ensures found { IfOk result (λ number. below bound (path_bytes path.now) (view value.now) ≡ Ok number) }
+pub fn below(alloc: Global, path: &Path<'_>, value: &Part<'_, '_>, bound: u64) -> FileResult<u64>
+    ensures read { Reads result (below bound (path_bytes path.now) (view value.now)) }
     ensures small { IfOk result (λ number. number < bound) }
-    ensures fault { IfErr result (λ e. IsTextFault e (below bound (path_bytes path.now) (view value.now))) }
 {
     let number = field(alloc, path, value.as_u64())?;
     if_good(alloc, path, number < bound, number)
@@ -49,7 +43,7 @@ impl Form for U32Form {
     ghost follows = { λ _ _. true };
 
     #[tactic(auto, using(crate::proofs::Walking::walking))]
-    fn read(&self, alloc: Global, path: &Path<'_>, value: &Part<'_, '_>) -> Result<u32, FileFault> {
+    fn read(&self, alloc: Global, path: &Path<'_>, value: &Part<'_, '_>) -> FileResult<Self::Item> {
         let number = below(alloc, path, value, 1 << 32)?;
         Ok(number as u32)
     }
@@ -73,7 +67,7 @@ impl Form for TickForm {
 
     ghost follows = { λ _ _. true };
 
-    fn read(&self, alloc: Global, path: &Path<'_>, value: &Part<'_, '_>) -> Result<u64, FileFault> {
+    fn read(&self, alloc: Global, path: &Path<'_>, value: &Part<'_, '_>) -> FileResult<Self::Item> {
         field(alloc, path, value.as_u64())
     }
 }
@@ -96,7 +90,7 @@ impl Form for IntForm {
 
     ghost follows = { λ _ _. true };
 
-    fn read(&self, alloc: Global, path: &Path<'_>, value: &Part<'_, '_>) -> Result<i64, FileFault> {
+    fn read(&self, alloc: Global, path: &Path<'_>, value: &Part<'_, '_>) -> FileResult<Self::Item> {
         field(alloc, path, value.as_i64())
     }
 }
@@ -122,7 +116,7 @@ impl Form for KindNumberForm {
     ghost follows = { nat_lt };
 
     #[tactic(auto, using(crate::proofs::Walking::walking))]
-    fn read(&self, alloc: Global, path: &Path<'_>, value: &Part<'_, '_>) -> Result<u8, FileFault> {
+    fn read(&self, alloc: Global, path: &Path<'_>, value: &Part<'_, '_>) -> FileResult<Self::Item> {
         let number = below(alloc, path, value, u64::from(self.count))?;
         Ok(number as u8)
     }

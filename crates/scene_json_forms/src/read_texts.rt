@@ -1,13 +1,13 @@
 //! Texts: names, and the texts of entities and shapes.
-ghost use Rattle.std.specs.Prelude.{◌≡◌, Ok, IfOk, IfErr, string_bytes};
+ghost use Rattle.std.specs.Prelude.{◌≡◌, string_bytes};
 ghost use Rattle.scene_json.specs.View.{view};
 ghost use Rattle.scene_kinds.specs.Shape.{shape_named as named_shape};
 ghost use Rattle.scene_kinds.specs.EntityReading.{entity_in};
-ghost use Rattle.scene_json_forms.specs.Outcome.{IsTextFault};
+ghost use Rattle.scene_json_forms.specs.Outcome.{ReadsAs};
 ghost use Rattle.scene_json_forms.specs.Paths.{path_bytes};
 ghost use Rattle.scene_json_forms.specs.Reading.{string_at};
 
-use crate::fault::FileFault;
+use crate::fault::FileResult;
 use crate::form::{Form, field};
 use crate::path::{Path, bad_field};
 use scene_json::Part;
@@ -18,13 +18,8 @@ use std::alloc::Global;
 ///
 /// Refused: `BadField` at the path where it is none, or `NoMemory` in its place.
 #[tactic(auto, using(crate::proofs::Walking::walking))]
-pub fn string_at<'a>(
-    alloc: Global,
-    path: &Path<'_>,
-    value: &Part<'_, 'a>,
-) -> Result<&'a str, FileFault>
-    ensures found { IfOk result (λ text. string_at (path_bytes path.now) (view value.now) ≡ Ok text.now) }
-    ensures fault { IfErr result (λ e. IsTextFault e (string_at (path_bytes path.now) (view value.now))) }
+pub fn string_at<'a>(alloc: Global, path: &Path<'_>, value: &Part<'_, 'a>) -> FileResult<&'a str>
+    ensures { ReadsAs (λ text. text.now) result (string_at (path_bytes path.now) (view value.now)) }
 {
     match value.as_str() {
         Some(text) => Ok(text),
@@ -58,12 +53,7 @@ impl Form for EntityForm {
 
     ghost follows = { λ _ _. true };
 
-    fn read(
-        &self,
-        alloc: Global,
-        path: &Path<'_>,
-        value: &Part<'_, '_>,
-    ) -> Result<Entity, FileFault> {
+    fn read(&self, alloc: Global, path: &Path<'_>, value: &Part<'_, '_>) -> FileResult<Self::Item> {
         let entity = value.as_str().and_then(entity_in);
         field(alloc, path, entity)
     }
@@ -95,12 +85,7 @@ impl Form for ShapeForm {
 
     ghost follows = { λ _ _. true };
 
-    fn read(
-        &self,
-        alloc: Global,
-        path: &Path<'_>,
-        value: &Part<'_, '_>,
-    ) -> Result<Shape, FileFault> {
+    fn read(&self, alloc: Global, path: &Path<'_>, value: &Part<'_, '_>) -> FileResult<Self::Item> {
         let shape = value.as_str().and_then(shape_named);
         field(alloc, path, shape)
     }
@@ -126,12 +111,7 @@ impl Form for NameForm {
     ghost follows = { λ _ _. true };
 
     #[tactic(auto, using(crate::proofs::Walking::walking))]
-    fn read(
-        &self,
-        alloc: Global,
-        path: &Path<'_>,
-        value: &Part<'_, '_>,
-    ) -> Result<String, FileFault> {
+    fn read(&self, alloc: Global, path: &Path<'_>, value: &Part<'_, '_>) -> FileResult<Self::Item> {
         let name = string_at(alloc, path, value)?;
         if !good_name(name) {
             return Err(bad_field(alloc, path));

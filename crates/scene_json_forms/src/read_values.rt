@@ -1,12 +1,12 @@
 //! Values and cells.
-ghost use Rattle.std.specs.Prelude.{◌≡◌, ◌<◌, [], ◌∷◌, Ok, IfOk, IfErr};
+ghost use Rattle.std.specs.Prelude.{◌<◌, [], ◌∷◌};
 ghost use Rattle.scene_json.specs.View.{view, views};
-ghost use Rattle.scene_json_forms.specs.Outcome.{IsTextFault};
+ghost use Rattle.scene_json_forms.specs.Outcome.{Reads};
 ghost use Rattle.scene_json_forms.specs.Paths.{path_bytes};
 ghost use Rattle.scene_json_forms.specs.Reading.{each_at};
 ghost use Rattle.scene_json_forms.specs.Walk.{cell_from, cell_parts, int_at, resource_cell_parts, three_of};
 
-use crate::fault::FileFault;
+use crate::fault::FileResult;
 use crate::form::{Form, field, if_good, list_at};
 use crate::path::{Path, bad_field};
 use crate::read_numbers::{IntForm, TickForm};
@@ -23,9 +23,8 @@ fn three_from(
     x: &Part<'_, '_>,
     y: &Part<'_, '_>,
     z: &Part<'_, '_>,
-) -> Result<[i64; 3], FileFault>
-    ensures found { IfOk result (λ three. each_at int_at (path_bytes path.now) 0 (view x.now ∷ view y.now ∷ view z.now ∷ []) ≡ Ok three) }
-    ensures fault { IfErr result (λ e. IsTextFault e (each_at int_at (path_bytes path.now) 0 (view x.now ∷ view y.now ∷ view z.now ∷ []))) }
+) -> FileResult<[i64; 3]>
+    ensures { Reads result (each_at int_at (path_bytes path.now) 0 (view x.now ∷ view y.now ∷ view z.now ∷ [])) }
 {
     let x = IntForm.read(alloc, &Path::Item(&*path, 0), x)?;
     let y = IntForm.read(alloc, &Path::Item(&*path, 1), y)?;
@@ -35,9 +34,8 @@ fn three_from(
 
 /// Three whole numbers.
 #[tactic(auto, using(crate::proofs::Walking::walking, crate::proofs::Parted::parted))]
-fn three_of(alloc: Global, path: &Path<'_>, parts: Parts<'_, '_>) -> Result<[i64; 3], FileFault>
-    ensures found { IfOk result (λ three. three_of (path_bytes path.now) (views parts.entry) ≡ Ok three) }
-    ensures fault { IfErr result (λ e. IsTextFault e (three_of (path_bytes path.now) (views parts.entry))) }
+fn three_of(alloc: Global, path: &Path<'_>, parts: Parts<'_, '_>) -> FileResult<[i64; 3]>
+    ensures { Reads result (three_of (path_bytes path.now) (views parts.entry)) }
 {
     match parts.three() {
         Some((x, y, z)) => three_from(alloc, path, &x, &y, &z),
@@ -65,12 +63,7 @@ impl Form for ValueForm {
     ghost follows = { λ _ _. true };
 
     #[tactic(auto, using(crate::proofs::Walking::walking))]
-    fn read(
-        &self,
-        alloc: Global,
-        path: &Path<'_>,
-        value: &Part<'_, '_>,
-    ) -> Result<Value, FileFault> {
+    fn read(&self, alloc: Global, path: &Path<'_>, value: &Part<'_, '_>) -> FileResult<Self::Item> {
         match self.0 {
             Shape::Tag => {
                 let there = field(alloc, path, value.as_bool())?;
@@ -110,11 +103,10 @@ pub fn cell_from(
     value: &Part<'_, '_>,
     added: &Part<'_, '_>,
     changed: &Part<'_, '_>,
-) -> Result<Cell, FileFault>
+) -> FileResult<Cell>
     requires { place < 2 }
-    ensures found { IfOk result (λ cell. cell_from shape (path_bytes path.now) place (view value.now) (view added.now) (view changed.now) ≡ Ok cell) }
-    ensures fault { IfErr result
-        (λ e. IsTextFault e (cell_from shape (path_bytes path.now) place (view value.now) (view added.now) (view changed.now))) }
+    ensures { Reads result
+        (cell_from shape (path_bytes path.now) place (view value.now) (view added.now) (view changed.now)) }
 {
     let value = ValueForm(shape).read(alloc, &Path::Item(&*path, place), value)?;
     let added = TickForm.read(alloc, &Path::Item(&*path, place + 1), added)?;
@@ -133,9 +125,8 @@ fn cell_parts(
     shape: Shape,
     path: &Path<'_>,
     parts: Parts<'_, '_>,
-) -> Result<Cell, FileFault>
-    ensures found { IfOk result (λ cell. cell_parts shape (path_bytes path.now) (views parts.entry) ≡ Ok cell) }
-    ensures fault { IfErr result (λ e. IsTextFault e (cell_parts shape (path_bytes path.now) (views parts.entry))) }
+) -> FileResult<Cell>
+    ensures { Reads result (cell_parts shape (path_bytes path.now) (views parts.entry)) }
 {
     match parts.three() {
         Some((value, added, changed)) => {
@@ -165,12 +156,7 @@ impl Form for CellForm {
     ghost follows = { λ _ _. true };
 
     #[tactic(auto, using(crate::proofs::Walking::walking))]
-    fn read(
-        &self,
-        alloc: Global,
-        path: &Path<'_>,
-        value: &Part<'_, '_>,
-    ) -> Result<Cell, FileFault> {
+    fn read(&self, alloc: Global, path: &Path<'_>, value: &Part<'_, '_>) -> FileResult<Self::Item> {
         let parts = list_at(alloc, path, value)?;
         cell_parts(alloc, self.0, path, parts)
     }
@@ -185,11 +171,9 @@ fn shaped_cell(
     value: &Part<'_, '_>,
     added: &Part<'_, '_>,
     changed: &Part<'_, '_>,
-) -> Result<Cell, FileFault>
-    ensures found { IfOk result
-        (λ cell. resource_cell_parts (path_bytes path.now) (view shape.now ∷ view value.now ∷ view added.now ∷ view changed.now ∷ []) ≡ Ok cell) }
-    ensures fault { IfErr result
-        (λ e. IsTextFault e (resource_cell_parts (path_bytes path.now) (view shape.now ∷ view value.now ∷ view added.now ∷ view changed.now ∷ []))) }
+) -> FileResult<Cell>
+    ensures { Reads result
+        (resource_cell_parts (path_bytes path.now) (view shape.now ∷ view value.now ∷ view added.now ∷ view changed.now ∷ [])) }
 {
     let shape = ShapeForm.read(alloc, &Path::Item(&*path, 0), shape)?;
     cell_from(alloc, shape, path, 1, value, added, changed)
@@ -197,13 +181,8 @@ fn shaped_cell(
 
 /// The cell of a resource, of the parts of its list.
 #[tactic(auto, using(crate::proofs::Walking::walking, crate::proofs::Parted::parted))]
-fn resource_cell_parts(
-    alloc: Global,
-    path: &Path<'_>,
-    parts: Parts<'_, '_>,
-) -> Result<Cell, FileFault>
-    ensures found { IfOk result (λ cell. resource_cell_parts (path_bytes path.now) (views parts.entry) ≡ Ok cell) }
-    ensures fault { IfErr result (λ e. IsTextFault e (resource_cell_parts (path_bytes path.now) (views parts.entry))) }
+fn resource_cell_parts(alloc: Global, path: &Path<'_>, parts: Parts<'_, '_>) -> FileResult<Cell>
+    ensures { Reads result (resource_cell_parts (path_bytes path.now) (views parts.entry)) }
 {
     match parts.four() {
         Some((shape, value, added, changed)) => {
@@ -233,12 +212,7 @@ impl Form for ResourceCellForm {
     ghost follows = { λ _ _. true };
 
     #[tactic(auto, using(crate::proofs::Walking::walking))]
-    fn read(
-        &self,
-        alloc: Global,
-        path: &Path<'_>,
-        value: &Part<'_, '_>,
-    ) -> Result<Cell, FileFault> {
+    fn read(&self, alloc: Global, path: &Path<'_>, value: &Part<'_, '_>) -> FileResult<Self::Item> {
         let parts = list_at(alloc, path, value)?;
         resource_cell_parts(alloc, path, parts)
     }

@@ -1,11 +1,11 @@
 //! Lists whose elements follow one another in an order.
-ghost use Rattle.std.specs.Prelude.{◌≡◌, ◌-◌, Ok, None, IfOk, IfErr, length, slice_get, map as each};
+ghost use Rattle.std.specs.Prelude.{◌≡◌, ◌-◌, None, length, slice_get, map as each};
 ghost use Rattle.scene_json.specs.View.{views};
-ghost use Rattle.scene_json_forms.specs.Outcome.{IsTextFault};
+ghost use Rattle.scene_json_forms.specs.Outcome.{ReadsAs};
 ghost use Rattle.scene_json_forms.specs.Paths.{path_bytes};
 ghost use Rattle.scene_json_forms.specs.Reading.{may_follow, rising_at};
 
-use crate::fault::FileFault;
+use crate::fault::FileResult;
 use crate::form::{Form, list_at};
 use crate::path::{Path, bad_field};
 use scene_json::{Part, Parts};
@@ -37,12 +37,11 @@ fn rising_at<F: Ordered>(
     form: &F,
     path: &Path<'_>,
     parts: Parts<'_, '_>,
-) -> Result<Vec<F::Item>, FileFault>
+) -> FileResult<Vec<F::Item>>
 where
     F::Item: Drop,
-    ensures found { IfOk result
-        (λ items. rising_at (F.word form.now) F.follows (path_bytes path.now) 0 None (views parts.entry) ≡ Ok (each F.meant items.items)) }
-    ensures fault { IfErr result (λ e. IsTextFault e (rising_at (F.word form.now) F.follows (path_bytes path.now) 0 None (views parts.entry))) }
+    ensures { ReadsAs (λ items. each F.meant items.items) result
+        (rising_at (F.word form.now) F.follows (path_bytes path.now) 0 None (views parts.entry)) }
 {
     let mut parts = parts;
     let mut items = Vec::new(alloc);
@@ -79,12 +78,7 @@ where
     ghost follows = { λ _ _. true };
 
     #[tactic(auto, using(crate::proofs::Walking::walking))]
-    fn read(
-        &self,
-        alloc: Global,
-        path: &Path<'_>,
-        value: &Part<'_, '_>,
-    ) -> Result<Vec<F::Item>, FileFault> {
+    fn read(&self, alloc: Global, path: &Path<'_>, value: &Part<'_, '_>) -> FileResult<Self::Item> {
         let parts = list_at(alloc, path, value)?;
         rising_at(alloc, &self.0, path, parts)
     }

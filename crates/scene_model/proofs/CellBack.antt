@@ -16,8 +16,8 @@ use Rattle.scene_model.specs.World.{World, row_of}
 use Rattle.scene_table.specs.Tables.{Tables, rows_at, row_at, with_row_at, row_for}
 use Rattle.scene_model.specs.Valid.{IsValid}
 use Rattle.scene_model.specs.Raw.{listed_cells, set_cell}
-use Rattle.scene_model.specs.Can.{IsGoodCell, CanSetCell}
 use Rattle.scene_model.specs.RawLaws.{CellsComeBack}
+use Rattle.scene_model.proofs.CanParts.{IsGoodCell, CanSetCell, set_cell as cell_decides, tested}
 use Rattle.scene_model.proofs.GoodCells.{found_good, good_cells, good_with}
 use Rattle.scene_model.proofs.MoveKeeps.{with_tables, rewritten_keeps}
 use Rattle.scene_model.proofs.RowOf.{row_there, row_stands, made_by_row, has_cell}
@@ -80,11 +80,11 @@ module _ (w : World) (e : Entity) (h : Home) (row : Row) (kind : ℕ) (before af
       ∙ ap (with_tables w) (row_written_back w.tables h row (row_with_cell row kind after) there.0)
 
 pub cells_come_back : CellsComeBack
-cells_come_back e kind before after = record {
+cells_come_back e kind before after = tested (λ w. cell_decides w e kind before after) (λ w. cell_decides w e kind after before) (record {
   keeps = λ w v can. has_cell (IsValid (set_cell w e kind after)) w e kind before can.now
       (λ h row is now. subst IsValid (sym (set_is w e h row kind before after v is now can.good)) (written_valid w e h row kind before after v is now can.good));
   can_come_back = λ w v can. has_cell (CanSetCell (set_cell w e kind after) e kind after before) w e kind before can.now
       (λ h row is now. subst (λ u. CanSetCell u e kind after before) (sym (set_is w e h row kind before after v is now can.good)) (written_can w e h row kind before after v is now can.good));
   comes_back = λ w v can. has_cell (set_cell (set_cell w e kind after) e kind before ≡ w) w e kind before can.now
       (λ h row is now. ap (λ u. set_cell u e kind before) (set_is w e h row kind before after v is now can.good) ∙ written_reset w e h row kind before after v is now can.good);
-}
+})

@@ -13,8 +13,9 @@ use Rattle.scene_kinds.specs.Cells.{mask_of}
 use Rattle.scene_kinds.specs.Entity.{entity_cmp_total, entity_cmp_exact}
 use Rattle.scene_kinds.proofs.Lists.{list_at_same, list_at_apart}
 use Rattle.scene_alloc.specs.Ends.{front}
-use Rattle.scene_alloc.specs.Slots.{SlotState, CanRelease, CanUnrelease, is_free, release_of, unrelease_of}
+use Rattle.scene_alloc.specs.Slots.{SlotState, is_free, release_of, unrelease_of}
 use Rattle.scene_alloc.proofs.SlotLaws.{SameElsewhere-unrelease, push-last, CanRelease-unrelease, CanUnrelease-release, IsSlots-unrelease, release-unrelease, unrelease-release}
+use Rattle.scene_alloc.proofs.SlotParts.{CanRelease, CanUnrelease}
 use Rattle.scene_links.specs.Forest.{Forest, IsForest, holds, without, put_at, place_among, children_of, parent_of, cut, link_in, with_link}
 use Rattle.scene_links.proofs.LinkLaws.{held_childless, children-cut, cut_none, not_same, parent_holds, link_restored}
 use Rattle.scene_table.specs.Rows.{swap_out}
@@ -25,8 +26,8 @@ use Rattle.scene_table.specs.Tables.{Tables, rows_at, row_at, lives, without_row
 use Rattle.scene_model.specs.Commands.{after_despawn}
 use Rattle.scene_model.specs.Valid.{IsValid, IsSoundRow, is_live_index, is_retired}
 use Rattle.scene_model.specs.Raw.{cut_row, uncut_row}
-use Rattle.scene_model.specs.Can.{IsPlaceIn, CanCut, CanUncut}
 use Rattle.scene_model.specs.RawLaws.{CutRowsComeBack}
+use Rattle.scene_model.proofs.CanParts.{IsPlaceIn, CanCut, CanUncut, cut_out, uncut, each_tested}
 use Rattle.scene_model.proofs.DespawnKeeps.{can_release, childless, gone_valid}
 use Rattle.scene_model.proofs.GivenLinks.{link_given, linked_parent, linked_place, linked_with_link, with_link_forest}
 use Rattle.scene_model.proofs.GoodCells.{good_cells, row_of_good}
@@ -186,7 +187,7 @@ module _ (w : World) (e : Entity) (place : ℕ) (cells : List (ℕ × Cell)) (li
       (ap (with_link (with_link w.children e link) e) (sym linkless) ∙ link_restored w.children e link v.links.forest)
 
 pub cut_rows_come_back : CutRowsComeBack
-cut_rows_come_back e place cells link retired = (
+cut_rows_come_back e place cells link retired = each_tested (λ w. cut_out w e place cells link retired) (λ w. uncut w e place cells link retired) (
   record {
     keeps = λ w v can. subst IsValid (sym (cut_is w e place cells link retired v can)) (cut_keeps w e place cells link retired v can);
     can_come_back = λ w v can. subst (λ u. CanUncut u e place cells link retired) (sym (cut_is w e place cells link retired v can)) (cut_can_come_back w e place cells link retired v can);

@@ -12,8 +12,9 @@ use Rattle.scene_kinds.specs.declared.refusal.Refusal.{Refusal}
 use Rattle.scene_kinds.specs.Answers.{Outcome, Gives, refuse}
 use Rattle.scene_kinds.specs.Lists.{listed}
 use Rattle.scene_kinds.specs.Map as map
-use Rattle.scene_alloc.specs.Slots.{SlotState, IsSlots, CanRelease, is_free, retires, release_of}
+use Rattle.scene_alloc.specs.Slots.{SlotState, IsSlots, is_free, retires, release_of}
 use Rattle.scene_alloc.proofs.SlotLaws.{freed, IsSlots-release}
+use Rattle.scene_alloc.proofs.SlotParts.{CanRelease}
 use Rattle.scene_links.specs.Forest.{Forest, cut, cut_from, children_of, parent_of, unlinked, unlink_of}
 use Rattle.scene_links.proofs.LinkLaws.{cut_forest, cut_part, left_out}
 use Rattle.scene_table.specs.declared.home.Home.{Home}

@@ -16,7 +16,7 @@ use Rattle.scene_model.specs.World.{World}
 use Rattle.scene_model.specs.Valid.{IsRowOf, IsSoundRow, is_timely}
 use Rattle.scene_table.specs.Tables.{row_for}
 use Rattle.scene_model.specs.Raw.{shifted}
-use Rattle.scene_model.specs.Can.{IsGoodCell, AreGoodCells, CanMove}
+use Rattle.scene_model.proofs.CanParts.{IsGoodCell, AreGoodCells, CanMove}
 
 abbrev pub fits_in : World → ℕ × Cell → Bool
 fits_in w c = fits_kind w.schema c.1.value c.0

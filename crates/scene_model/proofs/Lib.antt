@@ -1,4 +1,5 @@
 pub mod Bounds
+pub mod CanParts
 pub mod CellBack
 pub mod Choices
 pub mod CommandKeeps
@@ -26,7 +27,9 @@ pub mod ResourceKeeps
 pub mod RowCommands
 pub mod RowKinds
 pub mod RowOf
+pub mod SameTests
 pub mod ShiftBack
 pub mod ShiftedCells
 pub mod SpawnKeeps
 pub mod TakenSlots
+pub mod TimelyTests

@@ -9,8 +9,8 @@ use Rattle.scene_model.specs.World.{World, is_live}
 use Rattle.scene_model.specs.Commands.{with_children}
 use Rattle.scene_model.specs.Valid.{IsValid}
 use Rattle.scene_model.specs.Raw.{set_link}
-use Rattle.scene_model.specs.Can.{CanHaveLink, CanSetLink}
 use Rattle.scene_model.specs.RawLaws.{LinksComeBack}
+use Rattle.scene_model.proofs.CanParts.{CanHaveLink, CanSetLink, set_link as link_decides, tested}
 use Rattle.scene_model.proofs.LinkKeeps.{links_valid}
 use Rattle.scene_model.proofs.Options.{in_some, if_some}
 use Rattle.scene_model.proofs.GivenLinks.{not_above_parent, still_not_above, parent_kept, link_given, linked_parent, linked_place, with_link_forest, linked_with_link}
@@ -61,8 +61,8 @@ set_link_comes_back w e before after v can =
     ap (with_children w) (ap (with_link (with_link w.children e after) e) (sym can.now) ∙ link_restored w.children e after v.links.forest)
 
 pub links_come_back : LinksComeBack
-links_come_back e before after = record {
+links_come_back e before after = tested (λ w. link_decides w e before after) (λ w. link_decides w e after before) (record {
   keeps = λ w v can. set_link_keeps w e before after v can;
   can_come_back = λ w v can. set_link_can_come_back w e before after v can;
   comes_back = λ w v can. set_link_comes_back w e before after v can;
-}
+})

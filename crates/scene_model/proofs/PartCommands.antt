@@ -8,16 +8,16 @@ use Rattle.scene_kinds.specs.Cells.{put_over}
 use Rattle.scene_kinds.specs.Entity.{is_same}
 use Rattle.scene_kinds.specs.Schema.{is_good_name}
 use Rattle.scene_kinds.proofs.Maps.{ties_itself}
-use Rattle.scene_links.specs.Forest.{Forest, holds, ancestors, children_of, parent_of, cut, cut_from, joined, joined_at, with_children as with_list_of, link_of, unlinked, unlink_of}
+use Rattle.scene_links.specs.Forest.{Forest, holds, ancestors, children_of, parent_of, cut, cut_from, link_in, joined, joined_at, with_children as with_list_of, link_of, unlinked, unlink_of}
 use Rattle.scene_links.proofs.LinkLaws.{none_or, put_at_last}
 use Rattle.scene_resources.specs.Resources.{NamedCells, name_cmp_total, cell_of, restore_of, taken, take_of}
 use Rattle.scene_resources.proofs.ResourceLaws.{restored_cells}
 use Rattle.scene_model.specs.World.{World, is_live}
 use Rattle.scene_model.specs.Commands.{highest_tick, in_world, with_children, with_resources}
-use Rattle.scene_model.specs.CommandRaw.{SetParentSetsLink, RemoveParentSetsLink, PutSetsResource, RemoveSetsResource, RaiseSetsTick}
+use Rattle.scene_model.specs.CommandRaw.{last_link, SetParentSetsLink, RemoveParentSetsLink, PutSetsResource, RemoveSetsResource, RaiseSetsTick}
 use Rattle.scene_model.specs.Valid.{IsValid}
 use Rattle.scene_model.specs.Raw.{set_resource, set_tick}
-use Rattle.scene_model.specs.Can.{CanSetTick}
+use Rattle.scene_model.proofs.CanParts.{CanSetTick, set_link as link_decides, set_resource as resource_decides, set_tick as tick_decides}
 use Rattle.scene_model.proofs.MoveKeeps.{raised_valid}
 use Rattle.scene_model.proofs.Outcomes.{not_ok, same_world}
 use Rattle.scene_model.proofs.Parts.{asked, allowed, lifted_part, done_part}
@@ -37,11 +37,11 @@ set_parent_sets_link w v c p valid is =
     let made = lifted_part (link_of f c p) (with_children w) tt v live.1 in
     let other = asked (is_same c p) _ _ (tt, made.0) made.1.0 in
     let above = asked (holds c (ancestors f p)) _ _ (tt, made.0) other.1 in (
-      record {
+      (link_decides w c (link_in f c) (Some (last_link f c p))).1 (record {
         live = both.0;
         now = refl;
         good = record { room = record { live = both.1; within = omega arith }; other = other.0; not_above = above.0 };
-      },
+      }),
       sym (ap (with_children w) (joined_last (cut f c) c p ∙ (same_world tt tt (joined (cut f c) c p) made.0 above.1).1) ∙ made.1.1),
     )
 
@@ -56,7 +56,7 @@ remove_parent_sets_link w v c valid is =
     let live = allowed (is_live w c) _ _ (tt, v) is in
     let told = done_part (in_world (unlink_of w.children c) (with_children w)) v live.1 in
     let made = lifted_part (unlink_of w.children c) (with_children w) told.0 v told.1 in
-    (record { live = live.0; now = refl; good = tt }, sym (ap (with_children w) (unlinked_is_cut w.children c told.0 made.0 made.1.0) ∙ made.1.1))
+    ((link_decides w c (link_in w.children c) None).1 (record { live = live.0; now = refl; good = tt }), sym (ap (with_children w) (unlinked_is_cut w.children c told.0 made.0 made.1.0) ∙ made.1.1))
 
 -- ---- resources
 
@@ -67,7 +67,7 @@ put_sets_resource w v name value valid held is =
     let there : cell_of (restore_of w.resources name (Some cell)) name ≡ Some cell =
     restored_cells w.resources name (Some cell) name ∙ ap (λ b. cond b (Some cell) (cell_of w.resources name)) (ties_itself name_cmp_total name) in
     let sound = (put_valid w name value valid good.0 held).resources name cell there in (
-      record { named = good.0; now = refl; good = record { in_range = sound.in_range; timely = sound.timely } },
+      (resource_decides w name (cell_of w.resources name) (Some cell)).1 (record { named = good.0; now = refl; good = record { in_range = sound.in_range; timely = sound.timely } }),
       sym (same_world tt tt (set_resource w name (Some cell)) v good.1).1,
     )
 
@@ -81,7 +81,7 @@ remove_sets_resource w v name valid is =
     let told = done_part (in_world (take_of w.resources name) (with_resources w)) v is in
     let made = lifted_part (take_of w.resources name) (with_resources w) told.0 v told.1 in
     let was = taken_was w name told.0 made.0 (cell_of w.resources name) refl valid made.1.0 in
-    (record { named = was.0; now = refl; good = tt }, sym (ap (with_resources w) was.1 ∙ made.1.1))
+    ((resource_decides w name (cell_of w.resources name) None).1 (record { named = was.0; now = refl; good = tt }), sym (ap (with_resources w) was.1 ∙ made.1.1))
 
 -- ---- the tick
 
@@ -96,4 +96,4 @@ can_set_tick w tick v = record {
 pub raise_sets_tick : RaiseSetsTick
 raise_sets_tick w v valid is =
     let low = asked (nat_eq w.tick highest_tick) TickFull (Ok (tt, set_tick w (w.tick + 1))) (tt, v) is in
-    (can_set_tick w (w.tick + 1) (raised_valid w valid low.0), sym (same_world tt tt (set_tick w (w.tick + 1)) v low.1).1)
+    ((tick_decides w (w.tick + 1)).1 (can_set_tick w (w.tick + 1) (raised_valid w valid low.0)), sym (same_world tt tt (set_tick w (w.tick + 1)) v low.1).1)

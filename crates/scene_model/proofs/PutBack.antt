@@ -10,8 +10,9 @@ use Rattle.scene_kinds.specs.declared.cells.Row.{Row}
 use Rattle.scene_kinds.specs.Cells.{mask_of}
 use Rattle.scene_kinds.proofs.Lists.{list_at_same}
 use Rattle.scene_alloc.specs.Ends.{last}
-use Rattle.scene_alloc.specs.Slots.{SlotState, CanUntake, is_free, take_of, untake_of}
+use Rattle.scene_alloc.specs.Slots.{SlotState, is_free, take_of, untake_of}
 use Rattle.scene_alloc.proofs.SlotLaws.{SameElsewhere-untake, last-push, CanUntake-take, IsSlots-untake, fresh_length, takes_new_slot-untake, take-untake, untake-take}
+use Rattle.scene_alloc.proofs.SlotParts.{CanUntake}
 use Rattle.scene_links.specs.Forest.{holds, children_of, parent_of}
 use Rattle.scene_links.proofs.LinkLaws.{nobody, none_holds, none_or, parent_holds}
 use Rattle.scene_table.specs.declared.home.Home.{Home}
@@ -19,8 +20,8 @@ use Rattle.scene_model.specs.World.{World, row_of}
 use Rattle.scene_table.specs.Tables.{rows_at, row_at, lives, with_row, without_row, row_for}
 use Rattle.scene_model.specs.Valid.{IsValid, IsSoundRow, is_live_index, is_retired}
 use Rattle.scene_model.specs.Raw.{taken_entity, taken_slots, put_row, drop_last}
-use Rattle.scene_model.specs.Can.{CanPut, CanDrop}
 use Rattle.scene_model.specs.RawLaws.{RowsComeBack}
+use Rattle.scene_model.proofs.CanParts.{CanPut, CanDrop, put, drop, each_tested}
 use Rattle.scene_model.proofs.GoodCells.{good_cells, row_of_good}
 use Rattle.scene_table.proofs.Homes.{here_live}
 use Rattle.scene_table.proofs.Lives.{lives_removed}
@@ -153,7 +154,7 @@ module _ (w : World) (e : Entity) (cells : List (ℕ × Cell)) (fresh : Bool) (v
   drop_comes_back = parts_back w _ _ _ (ap (taken_slots left.slots) (take-untake w.slots e fresh v.slots drop_untakes)) (last_row_again w.tables (row_for e cells) can.row) refl
 
 pub rows_come_back : RowsComeBack
-rows_come_back e cells fresh = (
+rows_come_back e cells fresh = each_tested (λ w. put w e cells fresh) (λ w. drop w e cells fresh) (
   record {
     keeps = λ w v can. put_keeps w e cells fresh v can;
     can_come_back = λ w v can. put_can_come_back w e cells fresh v can;

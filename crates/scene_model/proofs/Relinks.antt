@@ -8,7 +8,7 @@ use Rattle.scene_links.proofs.LinkLaws.{above-cut, linked-cut, parent_gone, not_
 use Rattle.scene_table.proofs.Homes.{here_live}
 use Rattle.scene_model.specs.World.{World, is_live}
 use Rattle.scene_model.specs.Valid.{IsValid}
-use Rattle.scene_model.specs.Can.{CanHaveLink, CanUncut, IsPlaceIn}
+use Rattle.scene_model.proofs.CanParts.{CanHaveLink, CanUncut, IsPlaceIn}
 use Rattle.scene_model.proofs.LinkKeeps.{live_alone, one_live}
 use Rattle.scene_model.proofs.CutBack.{index_unused, uncut_nowhere, uncut_alone, uncut_other}
 use Rattle.scene_model.proofs.Options.{in_some}

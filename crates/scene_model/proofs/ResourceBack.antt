@@ -8,8 +8,8 @@ use Rattle.scene_model.specs.World.{World}
 use Rattle.scene_model.specs.Commands.{with_resources}
 use Rattle.scene_model.specs.Valid.{IsValid}
 use Rattle.scene_model.specs.Raw.{set_resource, set_tick}
-use Rattle.scene_model.specs.Can.{IsGoodResource, CanSetResource, CanSetTick}
 use Rattle.scene_model.specs.RawLaws.{ResourcesComeBack, TicksComeBack}
+use Rattle.scene_model.proofs.CanParts.{IsGoodResource, CanSetResource, CanSetTick, set_resource as resource_decides, set_tick as tick_decides, tested}
 use Rattle.scene_model.proofs.Options.{in_some, if_some}
 use Rattle.scene_model.proofs.ResourceKeeps.{restored_valid}
 
@@ -34,11 +34,11 @@ set_resource_comes_back w name before after can =
     ap (with_resources w) (ap (restore_of (restore_of w.resources name after) name) (sym can.now) ∙ restore_restores w.resources name after)
 
 pub resources_come_back : ResourcesComeBack
-resources_come_back name before after = record {
+resources_come_back name before after = tested (λ w. resource_decides w name before after) (λ w. resource_decides w name after before) (record {
   keeps = λ w v can. set_resource_keeps w name before after v can;
   can_come_back = λ w v can. set_resource_can_come_back w name before after v can;
   comes_back = λ w v can. set_resource_comes_back w name before after can;
-}
+})
 
 -- ---- the tick
 
@@ -65,7 +65,7 @@ set_tick_can_come_back w tick v = record {
 
 pub ticks_come_back : TicksComeBack
 ticks_come_back before after = record {
-  keeps = λ w v can. set_tick_keeps w after v can.1;
-  can_come_back = λ w v can. (refl, subst (CanSetTick (set_tick w after)) can.0 (set_tick_can_come_back w after v));
+  keeps = λ w v can. set_tick_keeps w after v ((tick_decides w after).0 can.1);
+  can_come_back = λ w v can. (refl, (tick_decides (set_tick w after) before).1 (subst (CanSetTick (set_tick w after)) can.0 (set_tick_can_come_back w after v)));
   comes_back = λ w v can. ap (set_tick w) (sym can.0);
 }

@@ -21,7 +21,8 @@ use Rattle.scene_model.specs.Commands.{new_cells, spawn_fault, after_take, after
 use Rattle.scene_model.specs.CommandRaw.{Inserts, SpawnPuts, DespawnCuts, InsertShiftsOrSets, RemoveShifts}
 use Rattle.scene_model.specs.Valid.{IsValid}
 use Rattle.scene_model.specs.Raw.{listed_cells, cells_of, shifted, taken_entity, taken_slots, cut_row, shift_row}
-use Rattle.scene_model.specs.Can.{HasRow, AreGoodCells, CanCut, CanShift}
+use Rattle.scene_model.specs.Can.{can_cut, can_shift}
+use Rattle.scene_model.proofs.CanParts.{HasRow, AreGoodCells, put, cut_out, shift, set_cell as cell_decides}
 use Rattle.scene_model.proofs.GoodCells.{found_good, good_cells}
 use Rattle.scene_model.proofs.MoveKeeps.{with_tables}
 use Rattle.scene_model.proofs.NewCells.{insert_tests, new_ascending, new_shapes, new_timely, spawn_tests, timely_new, timely_there}
@@ -43,11 +44,11 @@ pub spawn_puts : SpawnPuts
 spawn_puts w v given e valid is =
     let parts = no_fault (spawn_fault w.schema given) (after_take w (new_cells w.tick given) (take_of w.slots)) (e, v) is in
     let made = taken_parts w v (new_cells w.tick given) e (take_of w.slots) parts.1 in (
-      record {
+      (put w e _ _).1 (record {
         next = made.0;
         slot = refl;
         good = record { ascending = new_ascending w.tick given; fit = new_shapes w.schema w.tick given (spawn_tests w.schema given parts.0).2; timely = new_timely w.tick given };
-      },
+      }),
       made.1,
     )
 
@@ -71,16 +72,16 @@ module _ (w : World) (e : Entity) (h : Home) (r : Row) (valid : IsValid w) (at :
 
 pub despawn_cuts : DespawnCuts
 despawn_cuts w v e valid is =
-    with_row_of ((place : ℕ) × (CanCut w e place (cells_of w e) (link_in w.children e) (retires e) × (v ≡ cut_row w e))) w e _ (tt, v) is (λ h r at same made.
+    with_row_of ((place : ℕ) × ((can_cut w e place (cells_of w e) (link_in w.children e) (retires e) ≡ true) × (v ≡ cut_row w e))) w e _ (tt, v) is (λ h r at same made.
     let parts = asked (is_some (map.get w.children e)) _ (Ok (tt, after_despawn w h e)) (tt, v) made in (
       h.place,
       (
-        record {
+        (cut_out w e h.place (cells_of w e) (link_in w.children e) (retires e)).1 (record {
           row = has_row_of w e h r valid at same;
           childless = ap listed (none_of_false (map.get w.children e) parts.0);
           linked = refl;
           retires = refl;
-        },
+        }),
         sym (made_by_row w e h r (λ h row. after_despawn w h e) (stands w e h r valid at same) ∙ (same_world tt tt (after_despawn w h e) v parts.1).1),
       ),
     ))
@@ -93,24 +94,24 @@ inserted : (w v : World) (e : Entity) (h : Home) (r : Row) (kind : ℕ) (value :
 inserted w v e h r kind value valid at same fault None is made = (
   h.place,
   (
-    record {
+    (shift w e h.place kind (new_cell w.tick value) true).1 (record {
       row = has_row_of w e h r valid at same;
       moves = record {
         absent = ap (λ cs. cell_of cs kind) (cells_are w e h r valid at same) ∙ is;
         good = record { fits = (insert_tests w.schema kind value fault).1; timely = timely_new w.tick value };
       };
-    },
+    }),
     sym (made_by_row w e h r (λ h row. with_tables w (after_move w.tables h row (shifted row.cells kind (new_cell w.tick value) true))) (stands w e h r valid at same) ∙ made),
   ),
 )
 inserted w v e h r kind value valid at same fault (Some c) is made = (
-  record {
+  (cell_decides w e kind c (put_over (Some c) value w.tick)).1 (record {
     now = ap (λ cs. cell_of cs kind) (cells_are w e h r valid at same) ∙ is;
     good = record {
       fits = (insert_tests w.schema kind value fault).1;
       timely = timely_there w.tick c value (found_good w r.cells kind c (cells_good w e h r valid at same) is).timely;
     };
-  },
+  }),
   sym (made_by_row w e h r (λ h row. with_tables w (with_row_at w.tables h (row_with_cell row kind (put_over (Some c) value w.tick)))) (stands w e h r valid at same) ∙ made),
 )
 
@@ -130,17 +131,17 @@ remove_finds false (Some c) x y h = (c, refl)
 
 pub remove_shifts : RemoveShifts
 remove_shifts w v e kind valid is =
-    with_row_of ((place : ℕ) × ((cell : Cell) × (CanShift w e place kind cell false × (v ≡ shift_row w e kind cell false)))) w e _ (tt, v) is (λ h r at same made.
+    with_row_of ((place : ℕ) × ((cell : Cell) × ((can_shift w e place kind cell false ≡ true) × (v ≡ shift_row w e kind cell false)))) w e _ (tt, v) is (λ h r at same made.
     let parts = no_fault (remove_fault w.schema r.cells kind) (Ok (tt, with_tables w (after_move w.tables h r (without_cell r.cells kind)))) (tt, v) made in
     let found = remove_finds (is_unknown w.schema kind) (cell_of r.cells kind) _ _ parts.0 in (
       h.place,
       (
         found.0,
         (
-          record {
+          (shift w e h.place kind found.0 false).1 (record {
             row = has_row_of w e h r valid at same;
             moves = ap (λ cs. cell_of cs kind) (cells_are w e h r valid at same) ∙ found.1;
-          },
+          }),
           sym (made_by_row w e h r (λ h row. with_tables w (after_move w.tables h row (shifted row.cells kind found.0 false))) (stands w e h r valid at same)
               ∙ (same_world tt tt (with_tables w (after_move w.tables h r (without_cell r.cells kind))) v parts.1).1),
         ),

@@ -20,8 +20,8 @@ use Rattle.scene_table.specs.Tables.{Tables, rows_at, row_at, lives, with_row, w
 use Rattle.scene_model.specs.Commands.{after_move}
 use Rattle.scene_model.specs.Valid.{IsValid, IsSoundRow}
 use Rattle.scene_model.specs.Raw.{listed_cells, cells_of, shifted, shift_row, unshift_row}
-use Rattle.scene_model.specs.Can.{HasRow, HasLastRow, AreGoodCells, CanMove, CanShift, CanUnshift}
 use Rattle.scene_model.specs.RawLaws.{ShiftedRowsComeBack}
+use Rattle.scene_model.proofs.CanParts.{HasRow, HasLastRow, AreGoodCells, CanMove, CanShift, CanUnshift, shift, unshift, each_tested}
 use Rattle.scene_model.proofs.GoodCells.{found_good, good_cells, good_shifted, row_of_good}
 use Rattle.scene_table.proofs.Homes.{live_here}
 use Rattle.scene_table.proofs.Lives.{lives_removed}
@@ -191,7 +191,7 @@ module _ (w : World) (e : Entity) (place kind : ℕ) (cell : Cell) (inward : Boo
       ∙ last_row_again w.tables (row_for e cells) has)
 
 pub shifted_rows_come_back : ShiftedRowsComeBack
-shifted_rows_come_back e place kind cell inward = (
+shifted_rows_come_back e place kind cell inward = each_tested (λ w. shift w e place kind cell inward) (λ w. unshift w e place kind cell inward) (
   record {
     keeps = λ w v can. subst IsValid (sym (shift_is w e place kind cell inward (cells_of w e) v can.row can.moves)) (shift_keeps w e place kind cell inward (cells_of w e) v can.row can.moves);
     can_come_back = λ w v can. subst (λ u. CanUnshift u e place kind cell inward) (sym (shift_is w e place kind cell inward (cells_of w e) v can.row can.moves)) (shift_can_come_back w e place kind cell inward (cells_of w e) v can.row can.moves);

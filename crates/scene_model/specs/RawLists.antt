@@ -1,6 +1,6 @@
 -- Lists of changes, each told by what was noted of it: they are made one after another, and taken back from the last to
 -- the first.
-use Rattle.std.specs.Prelude.{◌≡◌, ℕ, List, [], ◌∷◌, Bool, Option, Ok, ⊤, map as each}
+use Rattle.std.specs.Prelude.{◌≡◌, ℕ, List, [], ◌∷◌, Bool, true, Option, Ok, ⊤, map as each}
 use Rattle.scene_kinds.specs.declared.entity.Entity.{Entity}
 use Rattle.scene_kinds.specs.declared.cell.Cell.{Cell}
 use Rattle.scene_links.specs.Forest.{post}
@@ -8,7 +8,7 @@ use Rattle.scene_model.specs.World.{World}
 use Rattle.scene_model.specs.Commands.{despawn_recursive}
 use Rattle.scene_model.specs.Valid.{IsValid}
 use Rattle.scene_model.specs.Raw.{cut_row, uncut_row}
-use Rattle.scene_model.specs.Can.{CanCut, CanUncut}
+use Rattle.scene_model.specs.Can.{can_cut, can_uncut}
 use Rattle.scene_model.specs.RawLaws.{TakeEachOtherBack}
 
 module _ {D : Type 0} where
@@ -49,7 +49,7 @@ pub record CutNote : Type 0 where
 
 -- where a row that is noted may be cut
 abbrev pub CanCutNoted : CutNote → World → Type 0
-CanCutNoted n w = CanCut w n.entity n.place n.cells n.link n.retired
+CanCutNoted n w = can_cut w n.entity n.place n.cells n.link n.retired ≡ true
 
 -- the world without it
 abbrev pub cut_noted : CutNote → World → World
@@ -57,7 +57,7 @@ cut_noted n w = cut_row w n.entity
 
 -- where it may come back
 abbrev pub CanUncutNoted : CutNote → World → Type 0
-CanUncutNoted n w = CanUncut w n.entity n.place n.cells n.link n.retired
+CanUncutNoted n w = can_uncut w n.entity n.place n.cells n.link n.retired ≡ true
 
 -- the world with it again
 abbrev pub uncut_noted : CutNote → World → World

@@ -1,4 +1,3 @@
-pub mod JsonFound
 pub mod JsonObjects
 pub mod JsonWritten
 pub mod ResourceLaws

@@ -3,7 +3,6 @@ use Rattle.std.specs.Prelude.{ℕ, List, [], ◌∷◌, ◌++◌, Bool, Option, 
 use Rattle.serde_json.specs.Data.{Data, string}
 use Rattle.serde_json.specs.Written.{compact_text, members_text}
 use Rattle.json.specs.Print.{quoted}
-use Rattle.scene_kinds.specs.declared.cell.Cell.{Cell}
 use Rattle.scene_kinds.specs.declared.cells.Row.{Row}
 use Rattle.scene_kinds.specs.declared.fault.Fault.{Fault}
 use Rattle.scene_kinds.specs.declared.fault.Fault.TheVariants.{Overflow, HistoryFull, Rewound, Conflict, BadRule, BadWorld, BadRecord}
@@ -11,7 +10,6 @@ use Rattle.scene_kinds.specs.declared.refusal.Place.{Place}
 use Rattle.scene_kinds.specs.Schema.{Kinds}
 use Rattle.scene_model.specs.World.{World, kind_sets}
 use Rattle.scene_links.specs.Forest.{parents}
-use Rattle.scene_resources.specs.Resources.{NamedCells, cell_of}
 use Rattle.scene_json_forms.specs.declared.fault.FileFault.{FileFault}
 use Rattle.scene_json_forms.specs.declared.fault.FileFault.TheVariants as file
 use Rattle.scene_json_forms.specs.Text.{count_text, entity_json, list_text, members_of}
@@ -71,16 +69,6 @@ abbrev pub row_text : Kinds → Row → List ℕ
 row_text kinds row =
     codes "\"entity\":" ++ (compact_text (entity_json row.entity)
     ++ (codes ",\"cells\":" ++ compact_text (object_by (cell_member kinds) row.cells)))
-
--- a name with its cell, where it has one
-abbrev pub named : List ℕ → Option Cell → List (List ℕ × Cell)
-named name None = []
-named name (Some cell) = (name, cell) ∷ []
-
--- those of names that have a cell, with it
-abbrev pub named_cells : NamedCells → List (List ℕ) → List (List ℕ × Cell)
-named_cells r [] = []
-named_cells r (n ∷ ns) = named n (cell_of r n) ++ named_cells r ns
 
 -- the members of a world up to its free list
 abbrev pub first_members : World → List ℕ

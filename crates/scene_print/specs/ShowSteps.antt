@@ -1,9 +1,10 @@
 -- What the bodies below `show` find one by one. How a world prints doesn't rest on these words.
-use Rattle.std.specs.Prelude.{ℕ, List, [], ◌∷◌, ◌++◌, Option, Some, None, if◌then◌else◌}
+use Rattle.std.specs.Prelude.{ℕ, List, [], ◌∷◌, Option, Some, None, if◌then◌else◌}
 use Rattle.scene_kinds.specs.declared.cell.Cell.{Cell}
 use Rattle.scene_kinds.specs.KindSet.{KindSet, has_kind}
 use Rattle.scene_kinds.specs.Schema.{Kinds, name_of}
-use Rattle.scene_resources.specs.Resources.{NamedCells, cell_of}
+use Rattle.scene_resources.specs.Resources.{NamedCells}
+use Rattle.scene_json_forms.specs.NamedCells.{by_names}
 use Rattle.scene_print.specs.Shown.{resource_text}
 
 -- the name of a kind that a kind set has
@@ -22,5 +23,4 @@ one_resource name (Some cell) = resource_text name cell
 
 -- the resources of names
 abbrev pub named_text : NamedCells → List (List ℕ) → List ℕ
-named_text resources [] = []
-named_text resources (n ∷ ns) = one_resource n (cell_of resources n) ++ named_text resources ns
+named_text resources names = by_names one_resource resources names

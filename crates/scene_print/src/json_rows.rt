@@ -1,5 +1,5 @@
 //! Rows and tables as JSON.
-ghost use Rattle.std.specs.Prelude.{◌≡◌, ◌<◌, OnOk, Some, length, slice_get};
+ghost use Rattle.std.specs.Prelude.{◌≡◌, ◌<◌, ◌++◌, OnOk, Some, codes, length, slice_get};
 ghost use Rattle.serde_json.specs.Written.{compact_text};
 ghost use Rattle.scene_json.specs.Texts.{Adds};
 ghost use Rattle.scene_kinds.specs.Cells.{shown};
@@ -83,6 +83,24 @@ fn write_members(
     write_cells(alloc, out, schema, table, at)
 }
 
+/// Adds the row at a place of a table, behind the text with which its object begins.
+fn write_row_behind(
+    alloc: Global,
+    out: &mut String,
+    lead: &str,
+    schema: &Schema,
+    table: &Table,
+    at: usize,
+) -> Result<(), AllocError>
+    requires { at < length table.now.rows }
+    ensures { OnOk result ((row : Row) → slice_get table.now.rows at ≡ Some row
+        → Adds out.old out.new (lead.now ++ (row_text schema.now row ++ codes "}"))) }
+{
+    out.push_str(lead)?;
+    write_members(alloc, out, schema, table, at)?;
+    out.push_str("}")
+}
+
 /// Adds the row at a place of a table, from 0, as an answer: its entity, and its cells by the names of their kinds
 /// (docs/SHELL.md, "JSON"). An error only where no memory was found; a part may be added then.
 pub fn write_json_row(
@@ -96,26 +114,7 @@ pub fn write_json_row(
     ensures { OnOk result ((row : Row) → slice_get table.now.rows at ≡ Some row
         → Adds out.old out.new (compact_text (row_answer schema.now row))) }
 {
-    out.push_str("{\"answer\":\"row\",")?;
-    write_members(alloc, out, schema, table, at)?;
-    out.push_str("}")
-}
-
-/// Adds the row at a place of a table.
-fn write_row_alone(
-    alloc: Global,
-    out: &mut String,
-    schema: &Schema,
-    table: &Table,
-    at: usize,
-) -> Result<(), AllocError>
-    requires { at < length table.now.rows }
-    ensures { OnOk result ((row : Row) → slice_get table.now.rows at ≡ Some row
-        → Adds out.old out.new (compact_text (row_json schema.now row))) }
-{
-    out.push_str("{")?;
-    write_members(alloc, out, schema, table, at)?;
-    out.push_str("}")
+    write_row_behind(alloc, out, "{\"answer\":\"row\",", schema, table, at)
 }
 
 /// Adds the list of the rows of a table.
@@ -131,7 +130,7 @@ pub(crate) fn write_rows(
     out.push_str("[")?;
     'rows: for at in 0..table.len() {
         write_comma(out, later)?;
-        write_row_alone(alloc, out, schema, table, at)?;
+        write_row_behind(alloc, out, "{", schema, table, at)?;
         later = true;
     }
     out.push_str("]")

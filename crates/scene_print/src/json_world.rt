@@ -5,10 +5,11 @@ ghost use Rattle.scene_json.specs.Texts.{Adds};
 ghost use Rattle.scene_links.specs.Forest.{parents};
 ghost use Rattle.scene_model.specs.World.{kind_sets};
 ghost use Rattle.scene_table.specs.Tables.{rows_at};
+ghost use Rattle.scene_json_forms.specs.NamedCells.{named_cells};
 ghost use Rattle.scene_json_forms.specs.Text.{list_text};
 ghost use Rattle.scene_print.specs.JsonObjects.{object_by};
 ghost use Rattle.scene_print.specs.JsonShown.{children_member, resource_member, row_json, table_of, world_answer};
-ghost use Rattle.scene_print.specs.JsonSteps.{first_members, last_members, member_text, named_cells};
+ghost use Rattle.scene_print.specs.JsonSteps.{first_members, last_members, member_text};
 
 use crate::json_rows::{write_kinds, write_rows};
 use scene_json::write_json_text;
@@ -147,7 +148,7 @@ fn write_named(
 }
 
 /// Adds the object of all resources, by the bytes of their names.
-#[tactic(auto, using(crate::proofs::JsonFound::named_whole))]
+#[tactic(auto, using(scene_json_forms::proofs::FoundCells::named_whole))]
 fn write_resources(alloc: Global, out: &mut String, resources: &Resources) -> Result<(), AllocError>
     ensures { OnOk result (Adds out.old out.new (compact_text (object_by resource_member resources.now.cells.entries))) }
 {

@@ -1,17 +1,13 @@
--- Editors of one text, and interpreters without a lock.
-use Rattle.std.proofs.Common.{◌≡◌, ℕ, ◌+◌, List, [], ◌∷◌, true, take, Result, Ok, Err, length, refl, sym, ap, ◌∙◌, arith}
+-- Editors of one text.
+use Rattle.std.proofs.Common.{◌≡◌, ℕ, ◌+◌, List, take, Result, Ok, Err, length, sym, ap, ◌∙◌, arith}
 use Rattle.std.proofs.lemmas.List.{take_all}
-use Rattle.std.proofs.lemmas.Bool.{false≢true}
 use Rattle.scene_model.specs.World.{World}
 use Rattle.scene_journal.specs.Records.{Record}
 use Rattle.scene_undo.specs.Editor.{EditorState}
 use Rattle.scene_json_forms.specs.declared.fault.FileFault.{FileFault}
 use Rattle.scene_file.specs.EditorScene.{loaded_again, loaded_editor}
 use Rattle.scene_session.specs.Whole.{Whole, whole_of}
-use Rattle.scene_interpreter.specs.Interpreter.{HasNoEditor, Interpreter, Playing, Setting, owner_of, interpreter_reply}
-use Rattle.scene_interpreter.proofs.LockLaws.{lock_stays}
-use Rattle.scene_shell.specs.Shell.{interpreter_after}
-use Rattle.scene_replay.specs.Compacted.{IsInSetup, unrewound}
+use Rattle.scene_replay.specs.Compacted.{unrewound}
 
 -- what an editor has but its count of undos
 abbrev whole_with : World → (past future : List Record) → ℕ → Whole
@@ -46,16 +42,3 @@ pub same_texts : (scene text : List ℕ) (a b : EditorState) → text ≡ scene 
     → unrewound (whole_of a) ≡ unrewound (whole_of b)
 same_texts scene text a b same deep has_scene has_text =
     same_whole a b deep (λ depth. ap (editor_or a) (sym (has_scene depth) ∙ ap (loaded_editor depth) (sym same) ∙ has_text depth))
-
--- lines take no lock away and give none
-lock_after : (p : Interpreter) (ls : List (List ℕ)) → (owner_of (interpreter_after p ls)).is_alone ≡ (owner_of p).is_alone
-lock_after p [] = refl
-lock_after p (l ∷ ls) = lock_after (interpreter_reply p l).interpreter ls ∙ lock_stays p l
-
-no_editor : (p : Interpreter) → (owner_of p).is_alone ≡ true → HasNoEditor p → IsInSetup p
-no_editor (Setting s) alone none = tt
-no_editor (Playing s) alone none = absurd (false≢true (sym none ∙ alone))
-
--- an interpreter without a lock has no editor only in the setup
-pub only_setup : (p : Interpreter) (ls : List (List ℕ)) → (owner_of p).is_alone ≡ true → HasNoEditor (interpreter_after p ls) → IsInSetup (interpreter_after p ls)
-only_setup p ls alone none = no_editor (interpreter_after p ls) (lock_after p ls ∙ alone) none

@@ -4,7 +4,7 @@ use Rattle.std.specs.Str.Lines.{lines}
 use Rattle.scene_session.specs.Whole.{Whole}
 use Rattle.scene_session.specs.Owner.{whole_at}
 use Rattle.scene_interpreter.specs.Changes.{frame_is_open}
-use Rattle.scene_interpreter.specs.Interpreter.{Interpreter, Setting, Playing, owner_of, interpreter_kinds, systems_of}
+use Rattle.scene_interpreter.specs.Interpreter.{Interpreter, owner_of, interpreter_kinds, systems_of}
 use Rattle.scene_shell.specs.Shell.{interpreter_after}
 use Rattle.scene_replay.specs.Replayed.{NamesFirst, NoneIsBad}
 use Rattle.scene_replay.specs.declared.fault.CompactFault.{CompactFault}
@@ -33,11 +33,6 @@ LeadTo first ls p = NoneIsBad first ls × Agrees p (interpreter_after first ls)
 -- lines may stand in the place of those of a text, which are played from a first interpreter on
 abbrev pub IsCompacted : (first : Interpreter) → List ℕ → (again : Interpreter) → List ℕ → Type 0
 IsCompacted first text again fewer = LeadTo again (lines fewer) (interpreter_after first (lines text))
-
--- the setup isn't over
-abbrev pub IsInSetup : Interpreter → Type 0
-IsInSetup (Setting s) = ⊤
-IsInSetup (Playing s) = ⊥
 
 -- where a fault names a bad line, that is the first one
 abbrev pub IsLineFault : Interpreter → List (List ℕ) → CompactFault → Type 0

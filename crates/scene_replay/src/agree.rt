@@ -11,6 +11,7 @@ use crate::same::are_same;
 use scene_file::{FileFault, save_editor_text};
 use scene_interpreter::Interpreter;
 use scene_schedule::same_schema;
+use scene_session::LoneOwner;
 use scene_undo::Editor;
 use std::alloc::Global;
 
@@ -45,7 +46,7 @@ fn same_editors(
 }
 
 /// Whether two interpreters have the same systems, turn and limit of calls, and no frame is open.
-fn same_besides(one: &Interpreter, other: &Interpreter) -> bool
+fn same_besides(one: &Interpreter<LoneOwner>, other: &Interpreter<LoneOwner>) -> bool
     ensures { IsTrue result → AgreesBesides (interpreter_of one.now) (interpreter_of other.now) }
 {
     !one.has_open_frame()
@@ -59,10 +60,10 @@ fn same_besides(one: &Interpreter, other: &Interpreter) -> bool
 /// Whether two interpreters agree, of which the first has this editor, and the editor this text.
 pub(crate) fn agree(
     alloc: Global,
-    one: &Interpreter,
+    one: &Interpreter<LoneOwner>,
     editor: &Editor,
     scene: &str,
-    other: &Interpreter,
+    other: &Interpreter<LoneOwner>,
 ) -> Result<bool, CompactFault>
     requires editor { whole_of editor.now ≡ whole_at (owner_of (interpreter_of one.now)) }
     requires scene { (depth : ℕ) → loaded_editor depth scene.now ≡ Ok (loaded_again depth editor.now) }

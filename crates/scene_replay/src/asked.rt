@@ -9,14 +9,14 @@ ghost use Rattle.scene_replay.specs.Replayed.{NamesFirst, NoneIsBad};
 use crate::fault::KeptLineFault;
 use crate::play_again::replay;
 use scene_interpreter::{Interpreter, InterpreterSettings};
-use scene_session::ThisThread;
+use scene_session::{LoneOwner, ThisThread};
 use std::alloc::Global;
 
 /// Plays lines, and adds the answer to a question behind them.
 #[tactic(auto, using(crate::proofs::LineFaults::names_first))]
 fn play_and_ask(
     alloc: Global,
-    interpreter: &mut Interpreter,
+    interpreter: &mut Interpreter<LoneOwner>,
     text: &[u8],
     question: &[u8],
     answer: &mut String,

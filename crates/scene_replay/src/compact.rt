@@ -3,24 +3,24 @@ ghost use Rattle.std.specs.Prelude.{◌≡◌, ◌≤◌, ℕ, Ok, length, IfErr
 ghost use Rattle.std.specs.Str.Lines.{lines};
 ghost use Rattle.scene_file.specs.EditorScene.{loaded_again, loaded_editor};
 ghost use Rattle.scene_session.specs.Owner.{whole_at};
-ghost use Rattle.scene_interpreter.specs.Interpreter.{HasNoEditor, owner_of, lone_interpreter, interpreter_of};
+ghost use Rattle.scene_interpreter.specs.Interpreter.{IsSetting, interpreter_of, lone_interpreter, owner_of};
 ghost use Rattle.scene_session.specs.Whole.{whole_of};
 ghost use Rattle.scene_shell.specs.Shell.{interpreter_after};
-ghost use Rattle.scene_replay.specs.Compacted.{IsCompacted, IsInSetup, IsLineFault, IsOfNoLine, LeadTo};
+ghost use Rattle.scene_replay.specs.Compacted.{IsCompacted, IsLineFault, IsOfNoLine, LeadTo};
 
 use crate::agree::{agree, scene_of};
 use crate::fault::{CompactFault, KeptLineFault};
 use crate::play_again::{play_noted, replay};
 use crate::system_lines::SystemLines;
 use scene_interpreter::{Interpreter, InterpreterSettings};
-use scene_session::ThisThread;
+use scene_session::{LoneOwner, ThisThread};
 use scene_undo::Editor;
 use std::alloc::{AllocError, Global};
 
 /// The lines of the limits of an interpreter of this depth, where an interpreter of these settings has others.
 fn push_limits(
     lines: &mut String,
-    interpreter: &Interpreter,
+    interpreter: &Interpreter<LoneOwner>,
     depth: u32,
     again: &InterpreterSettings,
 ) -> Result<(), AllocError> {
@@ -37,7 +37,7 @@ fn push_limits(
 /// The lines that lead to a scene of this text, these systems, and the limits and the turn of an interpreter.
 fn joined(
     alloc: Global,
-    interpreter: &Interpreter,
+    interpreter: &Interpreter<LoneOwner>,
     depth: u32,
     scene: &str,
     systems: &[u8],
@@ -62,10 +62,10 @@ fn joined(
 /// whose text this is.
 fn leads_to_same(
     alloc: Global,
-    interpreter: &Interpreter,
+    interpreter: &Interpreter<LoneOwner>,
     editor: &Editor,
     scene: &str,
-    other: &mut Interpreter,
+    other: &mut Interpreter<LoneOwner>,
     fewer: &[u8],
 ) -> Result<bool, CompactFault>
     requires editor { whole_of editor.now ≡ whole_at (owner_of (interpreter_of interpreter.now)) }
@@ -83,7 +83,7 @@ fn leads_to_same(
 /// The same of a new interpreter.
 fn lead_to_same(
     alloc: Global,
-    interpreter: &Interpreter,
+    interpreter: &Interpreter<LoneOwner>,
     editor: &Editor,
     scene: &str,
     again: InterpreterSettings,
@@ -105,7 +105,7 @@ fn lead_to_same(
 /// played too.
 fn lines_to(
     alloc: Global,
-    interpreter: &Interpreter,
+    interpreter: &Interpreter<LoneOwner>,
     editor: &Editor,
     systems: &[u8],
     again: InterpreterSettings,
@@ -148,7 +148,7 @@ fn lines_to(
 #[tactic(auto, using(crate::proofs::LineFaults::names_first, crate::proofs::LineFaults::no_line_fault))]
 fn compacted_in(
     alloc: Global,
-    interpreter: &mut Interpreter,
+    interpreter: &mut Interpreter<LoneOwner>,
     text: &[u8],
     again: InterpreterSettings,
     most: usize,
@@ -156,7 +156,7 @@ fn compacted_in(
     ensures lead { IfOk result (λ fewer. IfSome fewer (λ l. LeadTo (lone_interpreter again.depth again.calls) (lines l.items)
         (interpreter_after (interpreter_of interpreter.old) (lines text.now)))) }
     ensures few { IfOk result (λ fewer. IfSome fewer (λ l. length l.items ≤ most)) }
-    ensures setup { IfOk result (λ fewer. IfNone fewer (HasNoEditor (interpreter_after (interpreter_of interpreter.old) (lines text.now)))) }
+    ensures setup { IfOk result (λ fewer. IfNone fewer (IsSetting (interpreter_after (interpreter_of interpreter.old) (lines text.now)))) }
     ensures bad { IfErr result (IsLineFault (interpreter_of interpreter.old) (lines text.now)) }
 {
     let mut systems = SystemLines::new(alloc);
@@ -190,7 +190,6 @@ fn compacted_in(
 /// lines; `TooLong` where the text of the scene would have more than 67,108,864 bytes; `OverMost` where there would be
 /// more than `most` bytes; `NoMemory`; and `Differs` where a limit of the interpreter can't be said by a line, as that
 /// of more than 1,048,576 calls.
-#[tactic(auto, using(crate::proofs::Agreement::only_setup))]
 pub fn compacted(
     alloc: Global,
     settings: InterpreterSettings,
@@ -202,7 +201,7 @@ pub fn compacted(
         (lone_interpreter again.depth again.calls) l.items)) }
     ensures few { IfOk result (λ fewer. IfSome fewer (λ l. length l.items ≤ most)) }
     ensures setup { IfOk result (λ fewer. IfNone fewer
-        (IsInSetup (interpreter_after (lone_interpreter settings.depth settings.calls) (lines text.now)))) }
+        (IsSetting (interpreter_after (lone_interpreter settings.depth settings.calls) (lines text.now)))) }
     ensures bad { IfErr result (IsLineFault (lone_interpreter settings.depth settings.calls) (lines text.now)) }
 {
     let mut interpreter = Interpreter::alone(alloc, settings);

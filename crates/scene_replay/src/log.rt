@@ -2,7 +2,7 @@
 use crate::fault::KeptLineFault;
 use scene_interpreter::{Halt, Interpreter, InterpreterSettings, LineAnswer};
 use scene_script::{Line, SessionNumber, first_line, read_line};
-use scene_session::{Reply, ThisThread};
+use scene_session::{LoneOwner, Reply, ThisThread};
 use std::alloc::{AllocError, Global};
 use std::fmt;
 use std::io::Write;
@@ -94,7 +94,7 @@ impl Log {
     }
 
     /// Plays a line, counts its answer, and puts it in the place of the one before.
-    fn play(&mut self, interpreter: &mut Interpreter, line: &[u8]) -> Result<(), Halt> {
+    fn play(&mut self, interpreter: &mut Interpreter<LoneOwner>, line: &[u8]) -> Result<(), Halt> {
         self.answer.clear();
         let answer = interpreter.play(&ThisThread, line)?;
         self.counts.count(&answer);
@@ -132,7 +132,7 @@ impl Log {
     /// Plays a line, and says what it came to.
     fn line(
         &mut self,
-        interpreter: &mut Interpreter,
+        interpreter: &mut Interpreter<LoneOwner>,
         number: u64,
         line: &[u8],
     ) -> Result<(), KeptLineFault> {
@@ -151,7 +151,7 @@ impl Log {
     /// Plays a line, and writes what it came to.
     fn write_line<W: Write>(
         &mut self,
-        interpreter: &mut Interpreter,
+        interpreter: &mut Interpreter<LoneOwner>,
         number: u64,
         line: &[u8],
         writer: &mut W,
@@ -167,7 +167,7 @@ impl Log {
 /// Plays the lines of a text, and writes what they came to. It gives how many calls came to what.
 fn write_lines<W: Write>(
     alloc: Global,
-    interpreter: &mut Interpreter,
+    interpreter: &mut Interpreter<LoneOwner>,
     text: &[u8],
     writer: &mut W,
 ) -> Result<LogCounts, KeptLineFault> {

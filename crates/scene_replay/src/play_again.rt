@@ -9,7 +9,7 @@ use crate::fault::KeptLineFault;
 use scene_interpreter::{Halt, Interpreter};
 use scene_kinds::Schema;
 use scene_script::first_line;
-use scene_session::Performer;
+use scene_session::{LoneOwner, Performer};
 use std::alloc::{AllocError, Global};
 
 /// What is told of each line before it is played.
@@ -29,10 +29,10 @@ impl Note for Unnoted {
 }
 
 /// Notes a line, plays it, and puts its answer in the place of the one before.
-fn play_kept_line<P: Performer, N: Note>(
+fn play_kept_line<P: Performer<LoneOwner>, N: Note>(
     performer: &P,
     alloc: Global,
-    interpreter: &mut Interpreter,
+    interpreter: &mut Interpreter<LoneOwner>,
     notes: &mut N,
     number: u64,
     line: &[u8],
@@ -52,10 +52,10 @@ fn play_kept_line<P: Performer, N: Note>(
 }
 
 /// Notes each line of a text, and plays it. It gives how many lines there were.
-pub(crate) fn play_noted<P: Performer, N: Note>(
+pub(crate) fn play_noted<P: Performer<LoneOwner>, N: Note>(
     performer: &P,
     alloc: Global,
-    interpreter: &mut Interpreter,
+    interpreter: &mut Interpreter<LoneOwner>,
     notes: &mut N,
     text: &[u8],
 ) -> Result<u64, KeptLineFault>
@@ -92,10 +92,10 @@ pub(crate) fn play_noted<P: Performer, N: Note>(
 ///
 /// Refused: `Bad` at the first line that is bad, which is played, and changes nothing; and `Halted` for want of memory,
 /// as the line itself says it. The lines before are played then, and none of them is bad.
-pub fn replay<P: Performer>(
+pub fn replay<P: Performer<LoneOwner>>(
     performer: &P,
     alloc: Global,
-    interpreter: &mut Interpreter,
+    interpreter: &mut Interpreter<LoneOwner>,
     text: &[u8],
 ) -> Result<u64, KeptLineFault>
     ensures played { OnOk result (interpreter_of interpreter.new ≡ interpreter_after (interpreter_of interpreter.old) (lines text.now)) }

@@ -9,7 +9,7 @@ use crate::fault::KeptLineFault;
 use crate::opening::{Opening, OpeningLimits, tell_opening};
 use crate::play_again::replay;
 use scene_interpreter::{Interpreter, InterpreterSettings};
-use scene_session::Performer;
+use scene_session::{LoneOwner, Performer};
 use scene_shell::{AnswerStyle, KeptFault, StoreWriter, run_kept_shell};
 use scene_streams::{Keep, KeptLines, KeptText};
 use std::alloc::Global;
@@ -50,10 +50,17 @@ pub enum StoreShellFault<F: Drop> {
 }
 
 /// Plays lines that were kept, says how long the opening took, and answers each line of a reader behind them.
-fn play_on<P: Performer, R: Read, W: Write + Drop, E: Write, S: KeptLines + Drop, C: Clock>(
+fn play_on<
+    P: Performer<LoneOwner>,
+    R: Read,
+    W: Write + Drop,
+    E: Write,
+    S: KeptLines + Drop,
+    C: Clock,
+>(
     performer: &P,
     alloc: Global,
-    interpreter: &mut Interpreter,
+    interpreter: &mut Interpreter<LoneOwner>,
     style: AnswerStyle,
     text: Vec<u8>,
     both: &mut StoreWriter<S, W>,
@@ -84,7 +91,7 @@ fn play_on<P: Performer, R: Read, W: Write + Drop, E: Write, S: KeptLines + Drop
 }
 
 /// The interpreter before the first line that was kept, which takes so many calls.
-fn interpreter_before(alloc: Global, calls: u64) -> Interpreter
+fn interpreter_before(alloc: Global, calls: u64) -> Interpreter<LoneOwner>
     ensures { interpreter_of result ≡ kept_interpreter calls }
 {
     let InterpreterSettings { depth, .. } = InterpreterSettings::unlimited();
@@ -92,7 +99,14 @@ fn interpreter_before(alloc: Global, calls: u64) -> Interpreter
 }
 
 /// Reads the lines of a store that is open, and goes on behind them.
-fn go_on<P: Performer, R: Read, W: Write + Drop, E: Write, S: KeptLines + Drop, C: Clock>(
+fn go_on<
+    P: Performer<LoneOwner>,
+    R: Read,
+    W: Write + Drop,
+    E: Write,
+    S: KeptLines + Drop,
+    C: Clock,
+>(
     performer: &P,
     alloc: Global,
     style: AnswerStyle,
@@ -144,7 +158,14 @@ fn go_on<P: Performer, R: Read, W: Write + Drop, E: Write, S: KeptLines + Drop, 
 /// It costs what the lines cost in a script, and then what the shell costs. Refused: `Unopened`, and `Lines` as
 /// `replay` is refused, where nothing is read or written; `Shell` as `run_kept_shell` is; and `Unclosed` behind the
 /// input's end.
-pub fn run_store_shell<P: Performer, R: Read, W: Write + Drop, E: Write, S: StorePlace, C: Clock>(
+pub fn run_store_shell<
+    P: Performer<LoneOwner>,
+    R: Read,
+    W: Write + Drop,
+    E: Write,
+    S: StorePlace,
+    C: Clock,
+>(
     performer: &P,
     alloc: Global,
     style: AnswerStyle,

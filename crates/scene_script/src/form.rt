@@ -1,5 +1,6 @@
 //! The forms of lines.
 ghost use Rattle.std.specs.Prelude.{◌≡◌};
+ghost use Rattle.scene_script.specs.Forms as the;
 ghost use Rattle.scene_script.specs.Forms.{form_named};
 
 use std::fmt;
@@ -48,42 +49,78 @@ impl LineForm {
     pub fn named(word: &str) -> Option<LineForm>
         ensures { result ≡ form_named word.now }
     {
-        match word {
-            "spawn" => Some(LineForm::Spawn),
-            "insert" => Some(LineForm::Insert),
-            "despawn" => Some(LineForm::Despawn),
-            "undo" => Some(LineForm::Undo),
-            "redo" => Some(LineForm::Redo),
-            "parent" => Some(LineForm::Parent),
-            "remove" => Some(LineForm::Remove),
-            "unparent" => Some(LineForm::Unparent),
-            "despawnall" => Some(LineForm::DespawnAll),
-            "despawnifalive" => Some(LineForm::DespawnIfAlive),
-            "put" => Some(LineForm::Put),
-            "drop" => Some(LineForm::Drop),
-            "begin" => Some(LineForm::Begin),
-            "queue" => Some(LineForm::Queue),
-            "commit" => Some(LineForm::Commit),
-            "get" => Some(LineForm::Get),
-            "mark" => Some(LineForm::Mark),
-            "changed" => Some(LineForm::Changed),
-            "added" => Some(LineForm::Added),
-            "show" => Some(LineForm::Show),
-            "advance" => Some(LineForm::Advance),
-            "as" => Some(LineForm::As),
-            "history" => Some(LineForm::History),
-            "load" => Some(LineForm::Load),
-            "dump" => Some(LineForm::Dump),
-            "dumpall" => Some(LineForm::DumpAll),
-            "phase" => Some(LineForm::Phase),
-            "system" => Some(LineForm::System),
-            "clear" => Some(LineForm::Clear),
-            "kind" => Some(LineForm::Kind),
-            "slots" => Some(LineForm::Slots),
-            "calls" => Some(LineForm::Calls),
-            "depth" => Some(LineForm::Depth),
-            _ => None,
-        }
+        command_named(word).or_else(|| frame_named(word).or_else(|| question_named(word).or_else(
+            || setup_named(word),
+        )))
+    }
+}
+
+/// The form of a command that a first word names.
+fn command_named(word: &str) -> Option<LineForm>
+    ensures { result ≡ the.command_named word.now }
+{
+    match word {
+        "spawn" => Some(LineForm::Spawn),
+        "insert" => Some(LineForm::Insert),
+        "despawn" => Some(LineForm::Despawn),
+        "parent" => Some(LineForm::Parent),
+        "remove" => Some(LineForm::Remove),
+        "unparent" => Some(LineForm::Unparent),
+        "despawnall" => Some(LineForm::DespawnAll),
+        "despawnifalive" => Some(LineForm::DespawnIfAlive),
+        "put" => Some(LineForm::Put),
+        "drop" => Some(LineForm::Drop),
+        _ => None,
+    }
+}
+
+/// The form of a line that begins, ends, or takes back frames.
+fn frame_named(word: &str) -> Option<LineForm>
+    ensures { result ≡ the.frame_named word.now }
+{
+    match word {
+        "undo" => Some(LineForm::Undo),
+        "redo" => Some(LineForm::Redo),
+        "begin" => Some(LineForm::Begin),
+        "queue" => Some(LineForm::Queue),
+        "commit" => Some(LineForm::Commit),
+        "as" => Some(LineForm::As),
+        "advance" => Some(LineForm::Advance),
+        _ => None,
+    }
+}
+
+/// The form of a question.
+fn question_named(word: &str) -> Option<LineForm>
+    ensures { result ≡ the.question_named word.now }
+{
+    match word {
+        "get" => Some(LineForm::Get),
+        "mark" => Some(LineForm::Mark),
+        "changed" => Some(LineForm::Changed),
+        "added" => Some(LineForm::Added),
+        "show" => Some(LineForm::Show),
+        "history" => Some(LineForm::History),
+        "dump" => Some(LineForm::Dump),
+        "dumpall" => Some(LineForm::DumpAll),
+        _ => None,
+    }
+}
+
+/// The form of a line of the setup, or of systems.
+fn setup_named(word: &str) -> Option<LineForm>
+    ensures { result ≡ the.setup_named word.now }
+{
+    match word {
+        "phase" => Some(LineForm::Phase),
+        "system" => Some(LineForm::System),
+        "clear" => Some(LineForm::Clear),
+        "kind" => Some(LineForm::Kind),
+        "slots" => Some(LineForm::Slots),
+        "load" => Some(LineForm::Load),
+        "calls" => Some(LineForm::Calls),
+        "depth" => Some(LineForm::Depth),
+        _ => None,
     }
 }
 

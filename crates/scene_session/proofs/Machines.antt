@@ -58,7 +58,6 @@ module _ (o : Beginning) (h : List Entry) (n : ℕ) where
       ap (performed_by H (asked c)) (lt-ltb (length (map made h)) o.limit few)
       ∙ (λ i. (
         record {
-          is_alone = false;
           opening = H.opening;
           limit = o.limit;
           session = n;
@@ -66,7 +65,7 @@ module _ (o : Beginning) (h : List Entry) (n : ℕ) where
         },
         given i,
       ))
-      ∙ (λ i. (record { is_alone = false; opening = H.opening; limit = o.limit; session = n; history = sym all i }, told r))
+      ∙ (λ i. (record { opening = H.opening; limit = o.limit; session = n; history = sym all i }, told r))
 
   -- a call that found memory and was stopped all the same, was refused since the history is full
   pub performed_full : (x : Refusal) (a : Asked) → x ≡ stopping_at o.limit (length h) → x ≢ refusal_of NoMemory → performed H a ≡ (H, Refused x)

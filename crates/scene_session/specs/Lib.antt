@@ -4,7 +4,6 @@ pub mod Codes
 pub mod History
 pub mod Owner
 pub mod OwnerCodes
-pub mod Ownership
 pub mod Passes
 pub mod Performed
 pub mod Queries

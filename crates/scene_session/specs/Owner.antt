@@ -1,6 +1,6 @@
 -- What contracts see of an owner: the machine that its state began as, with its records, and the calls since, each with
 -- its answer.
-use Rattle.std.specs.Prelude.{◌++◌, ◌∷◌, [], Bool, ℕ, List, false, length, map, nat_lt, if◌then◌else◌}
+use Rattle.std.specs.Prelude.{◌++◌, ◌∷◌, [], ℕ, List, length, map, nat_lt, if◌then◌else◌}
 use Rattle.scene_kinds.specs.declared.fault.Fault.TheVariants.{HistoryFull}
 use Rattle.scene_kinds.specs.Answers.{refusal_of}
 use Rattle.scene_model.specs.World.{World}
@@ -17,10 +17,9 @@ pub record MadeCall : Type 0 where
   pub call : Asked
   pub answer : Answer
 
--- whether it has no lock, the machine at first with its records, how many calls there may be, the calls so far, the
--- oldest first, and whose turn it is
+-- the machine at first with its records, how many calls there may be, the calls so far, the oldest first, and whose turn
+-- it is
 pub record OwnerState : Type 0 where
-  pub is_alone : Bool
   pub opening : Whole
   pub limit : ℕ
   pub history : List MadeCall
@@ -39,8 +38,8 @@ abbrev pub machine_at : OwnerState → Machine World
 machine_at h = (whole_at h).machine
 
 -- with no calls yet, it is the turn of session 0
-abbrev pub opening_owner : Whole → ℕ → Bool → OwnerState
-opening_owner w limit is_alone = record { is_alone = is_alone; opening = w; limit = limit; history = []; session = 0 }
+abbrev pub opening_owner : Whole → ℕ → OwnerState
+opening_owner w limit = record { opening = w; limit = limit; history = []; session = 0 }
 
 -- the turn of another session
 abbrev pub with_session : OwnerState → ℕ → OwnerState
@@ -63,4 +62,4 @@ made e = record { session = e.session; call = asked e.call; answer = told e.repl
 -- the owner over a lock with this state, where it is the turn of this session
 abbrev pub owner_of : StateView → ℕ → OwnerState
 owner_of s session =
-    record { is_alone = false; opening = whole_of s.opening.editor; limit = s.opening.limit; history = map made s.history; session = session }
+    record { opening = whole_of s.opening.editor; limit = s.opening.limit; history = map made s.history; session = session }

@@ -1,8 +1,8 @@
 -- How the values of an owner are told apart.
-use Rattle.std.specs.Prelude.{◌≡◌, ◌⊎◌, Bool, ℕ, List, refl}
+use Rattle.std.specs.Prelude.{◌≡◌, ◌⊎◌, ℕ, List, refl}
 use mathlib.Core.Logic.{inl, inr}
 use base.Stored.{coded_unit}
-use Rattle.std.specs.Coded.{Coded, code_by, coded×, coded⊎, coded_bool, coded_list, coded_ℕ}
+use Rattle.std.specs.Coded.{Coded, code_by, coded×, coded⊎, coded_list, coded_ℕ}
 use Rattle.scene_kinds.specs.declared.entity.Entity.{Entity}
 use Rattle.scene_kinds.specs.declared.refusal.Refusal.{Refusal as Reason}
 use Rattle.scene_kinds.specs.contracts.entity.Entity as entity
@@ -77,7 +77,7 @@ made_code = code_by (ℕ × (Asked × Answer)) (coded× coded_ℕ (coded× asked
 
 -- an owner by its parts
 abbrev pub owner_code : Coded OwnerState
-owner_code = code_by (Bool × (Whole × (ℕ × (List MadeCall × ℕ))))
-    (coded× coded_bool (coded× whole_code (coded× coded_ℕ (coded× (coded_list made_code) coded_ℕ))))
-    (λ h. (h.is_alone, (h.opening, (h.limit, (h.history, h.session)))))
-    (λ p. record { is_alone = p.0; opening = p.1.0; limit = p.1.1.0; history = p.1.1.1.0; session = p.1.1.1.1 }) (λ _. refl)
+owner_code = code_by (Whole × (ℕ × (List MadeCall × ℕ)))
+    (coded× whole_code (coded× coded_ℕ (coded× (coded_list made_code) coded_ℕ)))
+    (λ h. (h.opening, (h.limit, (h.history, h.session))))
+    (λ p. record { opening = p.0; limit = p.1.0; history = p.1.1.0; session = p.1.1.1 }) (λ _. refl)

@@ -6,22 +6,23 @@
 //! `EditorQuery` about an editor. A `Session` works through one pass of a `WordLock` over the state, beside those of
 //! other threads.
 //!
-//! A `SessionOwner` has all eight passes, or an editor without a lock, so that no other call comes between its own. A
-//! `Performer` does its calls: `OnThreads` may start threads and wait, `ThisThread` may not (docs/SESSIONS.md).
+//! A `SessionOwner` has all sessions of a state, so that no other call comes between its own: a `SharedOwner` the lock
+//! with its eight passes, a `LoneOwner` an editor without a lock. A `Performer` does its calls: `OnThreads` may start
+//! threads and wait, `ThisThread` may not and is for a `LoneOwner` (docs/SESSIONS.md).
 #![tactic(auto)]
 
 mod all_passes;
-mod alone;
 mod call;
 mod entry;
 mod given;
 mod job;
 mod log;
+mod lone_owner;
 mod owner;
 mod performer;
 mod query;
 mod session;
-mod shared;
+mod shared_owner;
 mod state;
 mod step;
 
@@ -29,10 +30,12 @@ pub use all_passes::{ask_with_all, perform_with_all};
 pub use call::{Call, Reply, Stopped};
 pub use entry::Entry;
 pub use given::{AddedSince, ChangedSince, CursorNow, RowsOf};
+pub use lone_owner::LoneOwner;
 pub use owner::SessionOwner;
 pub use performer::{OnThreads, Performer, ThisThread};
 pub use query::{EditorQuery, Query};
 pub use scene_undo::Cursor;
 pub use session::Session;
+pub use shared_owner::SharedOwner;
 pub use state::{Beginning, State};
 pub use step::{call_editor, call_editor_with};

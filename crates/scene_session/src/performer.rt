@@ -1,31 +1,25 @@
 //! Who performs the calls of an owner, and asks its queries.
-ghost use Rattle.std.specs.Prelude.{◌≡◌, ◌≢◌, ◌≤◌, ◌<◌, length, IfErr, IfNone, IfOk, IfSome, false};
+ghost use Rattle.std.specs.Prelude.{◌≡◌, ◌≢◌, ◌≤◌, ◌<◌, length, IfErr, IfOk};
 ghost use Rattle.std.specs.Thread.{IsSync};
-ghost use Rattle.scene_kinds.specs.Answers.{refusal_of};
-ghost use Rattle.scene_kinds.specs.declared.fault.Fault.TheVariants.{NoMemory};
-ghost use Rattle.scene_session.specs.Calls.{Refused, asked, queue_count, told};
-ghost use Rattle.scene_session.specs.Owner.{OwnerState, performed, whole_at};
+ghost use Rattle.scene_session.specs.Calls.{asked, queue_count, told};
+ghost use Rattle.scene_session.specs.Owner.{performed, whole_at};
 ghost use Rattle.scene_session.specs.Performed.{Came};
 
 use crate::call::{Call, Reply, Stopped};
-use crate::owner::{Ownership, SessionOwner};
+use crate::lone_owner::LoneOwner;
+use crate::owner::SessionOwner;
 use crate::query::EditorQuery;
+use crate::shared_owner::SharedOwner;
 use scene_kinds::Fault;
 use std::alloc::Global;
 use std::sync::Wait;
 use std::thread::Threads;
 
-/// Who performs calls: one that has threads to start, or the thread that asks for it alone. What a call comes to
-/// doesn't depend on it (docs/SESSIONS.md, "One owner").
-///
-/// The meaning that contracts use: `misses` says of which owners it can't reach the editor.
-pub trait Performer {
+/// Who performs the calls of an owner: one that has threads to start, or the thread that asks for it alone. What a call
+/// comes to doesn't depend on it (docs/SESSIONS.md, "One owner").
+pub trait Performer<O: SessionOwner> {
     /// By what it starts threads, if it does.
     type Runtime: Sync;
-
-    ghost use Rattle.scene_session.specs.Owner.{OwnerState};
-
-    ghost misses: { OwnerState → Type 0 };
 
     /// Performs a call of the session whose turn it is. What the editor refuses is entered with the reply `Refused`,
     /// and leaves the editor as it was; where there are as many calls as may be, the reply is `Refused` with
@@ -34,26 +28,19 @@ pub trait Performer {
     ///
     /// Where no memory is found, nothing is entered and the call is handed back. It comes back only where there was
     /// room for it.
-    fn perform(&self, alloc: Global, owner: &mut SessionOwner, call: Call) -> Result<Reply, Call>
+    fn perform(&self, alloc: Global, owner: &mut O, call: Call) -> Result<Reply, Call>
         requires few { queue_count call ≤ 4294967295 }
         requires sync { IsSync Self.Runtime.row }
-        ensures done { IfOk result (λ reply. performed owner.old (asked call) ≡ (owner.new, told reply)) }
-        ensures back { IfErr result (λ back. (back ≡ call) × (owner.new ≡ owner.old) × (length owner.old.history < owner.old.limit)) };
+        ensures done { IfOk result (λ reply. performed (O.state owner.old) (asked call) ≡ (O.state owner.new, told reply)) }
+        ensures back { IfErr result (λ back. (back ≡ call) × (owner.new ≡ owner.old)
+            × (length (O.state owner.old).history < (O.state owner.old).limit)) };
 
     /// Asks a question of the editor, for the session whose turn it is: what is found is of the editor after just these
     /// calls. It costs what the question costs, and over a lock some thirty loads of a word; it takes no memory but
     /// what the question takes.
-    ///
-    /// `None` only where it can't reach the editor.
-    fn ask<Q: EditorQuery>(
-        &self,
-        alloc: Global,
-        owner: &mut SessionOwner,
-        query: &Q,
-    ) -> Option<Q::Found>
+    fn ask<Q: EditorQuery>(&self, alloc: Global, owner: &mut O, query: &Q) -> Q::Found
         ensures same { owner.new ≡ owner.old }
-        ensures answer { IfSome result (λ a. Q.finds query.now (whole_at owner.old) a) }
-        ensures missed { IfNone result (Self.misses owner.old) };
+        ensures answer { Q.finds query.now (whole_at (O.state owner.old)) result };
 }
 
 /// Performs calls on this thread, and the systems of an advance on as many threads as there are workers, 1 to 16. A
@@ -73,8 +60,7 @@ impl<R: Threads + Sync> OnThreads<R> {
     }
 }
 
-/// Performs the calls of an owner without a lock on this thread, and starts none. An owner over a lock it can't reach,
-/// and answers as if no memory were found.
+/// Performs the calls of an owner without a lock on this thread, and starts none.
 #[derive(Clone, Copy)]
 pub struct ThisThread;
 
@@ -91,61 +77,38 @@ fn entered(done: Result<Reply, Stopped>) -> Result<Reply, Call>
     }
 }
 
-// It reaches each.
-impl<R: Threads + Wait + Sync> Performer for OnThreads<R> {
+impl<R: Threads + Wait + Sync> Performer<SharedOwner> for OnThreads<R> {
     type Runtime = R;
 
-    ghost misses = { λ _. ⊥ };
-
-    fn perform(&self, alloc: Global, owner: &mut SessionOwner, call: Call) -> Result<Reply, Call> {
-        let done = match &mut owner.ownership {
-            Ownership::Shared(shared) => shared.perform(&self.rt, alloc, call, self.workers),
-            Ownership::Alone(alone) => alone.perform_with(&self.rt, call, self.workers),
-        };
-        entered(done)
+    fn perform(&self, alloc: Global, owner: &mut SharedOwner, call: Call) -> Result<Reply, Call> {
+        entered(owner.perform(&self.rt, alloc, call, self.workers))
     }
 
-    fn ask<Q: EditorQuery>(
-        &self,
-        alloc: Global,
-        owner: &mut SessionOwner,
-        query: &Q,
-    ) -> Option<Q::Found> {
-        match &mut owner.ownership {
-            Ownership::Shared(shared) => Some(shared.ask(&self.rt, alloc, query)),
-            Ownership::Alone(alone) => Some(alone.ask(alloc, query)),
-        }
+    fn ask<Q: EditorQuery>(&self, alloc: Global, owner: &mut SharedOwner, query: &Q) -> Q::Found {
+        owner.ask(&self.rt, alloc, query)
     }
 }
 
-// It can't reach one over a lock.
-impl Performer for ThisThread {
-    type Runtime = ();
+impl<R: Threads + Sync> Performer<LoneOwner> for OnThreads<R> {
+    type Runtime = R;
 
-    ghost use Rattle.std.specs.Prelude.{◌≡◌, false};
-
-    ghost misses = { λ owner. owner.is_alone ≡ false };
-
-    fn perform(&self, _alloc: Global, owner: &mut SessionOwner, call: Call) -> Result<Reply, Call> {
-        let done = match &mut owner.ownership {
-            Ownership::Shared(shared) => Err(shared.turn_away(call)),
-            Ownership::Alone(alone) => alone.perform(call),
-        };
-        entered(done)
+    fn perform(&self, _alloc: Global, owner: &mut LoneOwner, call: Call) -> Result<Reply, Call> {
+        entered(owner.perform_with(&self.rt, call, self.workers))
     }
 
-    fn ask<Q: EditorQuery>(
-        &self,
-        alloc: Global,
-        owner: &mut SessionOwner,
-        query: &Q,
-    ) -> Option<Q::Found> {
-        match &owner.ownership {
-            Ownership::Shared(shared) => {
-                shared.has_lock();
-                None
-            }
-            Ownership::Alone(alone) => Some(alone.ask(alloc, query)),
-        }
+    fn ask<Q: EditorQuery>(&self, alloc: Global, owner: &mut LoneOwner, query: &Q) -> Q::Found {
+        owner.ask(alloc, query)
+    }
+}
+
+impl Performer<LoneOwner> for ThisThread {
+    type Runtime = ();
+
+    fn perform(&self, _alloc: Global, owner: &mut LoneOwner, call: Call) -> Result<Reply, Call> {
+        entered(owner.perform(call))
+    }
+
+    fn ask<Q: EditorQuery>(&self, alloc: Global, owner: &mut LoneOwner, query: &Q) -> Q::Found {
+        owner.ask(alloc, query)
     }
 }

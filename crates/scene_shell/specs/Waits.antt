@@ -3,8 +3,7 @@ use Rattle.std.specs.Prelude.{Result, Ok, Err, ◌≡◌, is_some, ℕ, ◌+◌,
 use Rattle.std.specs.Io.{StopsAt}
 use Rattle.std.specs.Io.KnownBytes.{Appends, Keeps}
 use Rattle.std.specs.Str.Lines.{lines}
-use Rattle.scene_interpreter.specs.Interpreter.{Interpreter, interpreter_of, interpreter_reply}
-use Rattle.scene_interpreter.specs.declared.interpreter.Interpreter.{Interpreter as Code}
+use Rattle.scene_interpreter.specs.Interpreter.{Interpreter, LoneCode, interpreter_of, interpreter_reply}
 use Rattle.scene_shell.specs.declared.fault.AppFault.{AppFault}
 use Rattle.scene_shell.specs.declared.fault.AppFault.TheVariants.{NoMemory, ReadFault, WriteFault, TooLong}
 use Rattle.scene_shell.specs.declared.kept_fault.KeptFault.{KeptFault}
@@ -19,7 +18,7 @@ abbrev pub waiting_of : Interpreter → Waiting → Keeping
 waiting_of p w = record { interpreter = p; due = w.due.items; held = w.held.items }
 
 -- that of the code
-abbrev pub keeping_of : Code → Waiting → Keeping
+abbrev pub keeping_of : LoneCode → Waiting → Keeping
 keeping_of p w = waiting_of (interpreter_of p) w
 
 -- What waits: lines with the interpreter that they led to, and answers

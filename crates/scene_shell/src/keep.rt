@@ -2,6 +2,7 @@
 use crate::fault::AppFault;
 use crate::style::AnswerStyle;
 use scene_interpreter::Interpreter;
+use scene_session::LoneOwner;
 use std::alloc::Global;
 
 /// What keeps the lines of a shell for good and writes its answers: those of lines that are kept alone (docs/SHELL.md,
@@ -25,7 +26,7 @@ pub trait KeptWriter {
     ghost meaning: { Meaning Self };
 
     /// A shell begins, which answers by this interpreter in this style.
-    fn begin(&mut self, interpreter: &Interpreter, style: AnswerStyle)
+    fn begin(&mut self, interpreter: &Interpreter<LoneOwner>, style: AnswerStyle)
         ensures begun { meaning.begun self.new self.new (interpreter_of interpreter.now) style }
         ensures kept { StaysKept meaning.keeps self.old self.new }
         ensures written { meaning.contents self.new ≡ meaning.contents self.old };

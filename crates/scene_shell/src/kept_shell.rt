@@ -12,16 +12,16 @@ use crate::streams::read_line;
 use crate::style::AnswerStyle;
 use crate::waiting::Waiting;
 use scene_interpreter::Interpreter;
-use scene_session::Performer;
+use scene_session::{LoneOwner, Performer};
 use std::alloc::Global;
 use std::io::{BufReader, Read, Write};
 
 /// Plays each line of a reader. Where no further line waits in the buffer, what is due is kept and the answers are
 /// sent. It gives how many lines were bad, or what stopped it before the reader's end, while something may wait.
-fn play_lines<P: Performer, R: Read, E: Write, K: KeptWriter>(
+fn play_lines<P: Performer<LoneOwner>, R: Read, E: Write, K: KeptWriter>(
     performer: &P,
     alloc: Global,
-    interpreter: &mut Interpreter,
+    interpreter: &mut Interpreter<LoneOwner>,
     style: AnswerStyle,
     waiting: &mut Waiting,
     keeper: &mut K,
@@ -63,10 +63,10 @@ fn play_lines<P: Performer, R: Read, E: Write, K: KeptWriter>(
 }
 
 /// The same, and what still waits behind the last line that was played is kept and sent.
-fn play_settled<P: Performer, R: Read, E: Write, K: KeptWriter>(
+fn play_settled<P: Performer<LoneOwner>, R: Read, E: Write, K: KeptWriter>(
     performer: &P,
     alloc: Global,
-    interpreter: &mut Interpreter,
+    interpreter: &mut Interpreter<LoneOwner>,
     style: AnswerStyle,
     keeper: &mut K,
     reader: &mut BufReader<R>,
@@ -109,10 +109,10 @@ fn play_settled<P: Performer, R: Read, E: Write, K: KeptWriter>(
 ///
 /// Refused: `Ended` as `run_shell` is refused, where all lines before the one that was read are answered and kept, but
 /// for `WriteFault`, where they are kept; and `Keep` where lines weren't kept, whose answers aren't written.
-pub fn run_kept_shell<P: Performer, R: Read, E: Write, K: KeptWriter>(
+pub fn run_kept_shell<P: Performer<LoneOwner>, R: Read, E: Write, K: KeptWriter>(
     performer: &P,
     alloc: Global,
-    interpreter: &mut Interpreter,
+    interpreter: &mut Interpreter<LoneOwner>,
     style: AnswerStyle,
     keeper: &mut K,
     reader: &mut BufReader<R>,

@@ -9,7 +9,7 @@ use crate::kept_shell::run_kept_shell;
 use crate::style::AnswerStyle;
 use crate::unkept::Unkept;
 use scene_interpreter::{Interpreter, InterpreterSettings};
-use scene_session::Performer;
+use scene_session::{LoneOwner, Performer};
 use std::alloc::Global;
 use std::io::{BufReader, Read, Write};
 
@@ -24,10 +24,10 @@ pub struct ShellSettings {
 
 /// Answers each line of a reader by an interpreter, as `run_shell` does.
 #[tactic(auto, using(crate::proofs::KeptLaws::ends_answered, crate::proofs::KeptLaws::ends_unanswered))]
-fn run_unkept<P: Performer, R: Read, W: Write + Drop, E: Write>(
+fn run_unkept<P: Performer<LoneOwner>, R: Read, W: Write + Drop, E: Write>(
     performer: &P,
     alloc: Global,
-    interpreter: &mut Interpreter,
+    interpreter: &mut Interpreter<LoneOwner>,
     style: AnswerStyle,
     reader: &mut BufReader<R>,
     writer: &mut Unkept<W>,
@@ -57,7 +57,7 @@ fn run_unkept<P: Performer, R: Read, W: Write + Drop, E: Write>(
 /// `WriteFault`, all lines before are answered, each whole. `TooLong` only behind 18,446,744,073,709,551,614 lines. A
 /// line costs what `scene run` costs for it, and where none waits behind it a call of the writer; the memory is the
 /// interpreter's, a line's and 64 KiB of answers.
-pub fn run_shell<P: Performer, R: Read, W: Write + Drop, E: Write>(
+pub fn run_shell<P: Performer<LoneOwner>, R: Read, W: Write + Drop, E: Write>(
     performer: &P,
     alloc: Global,
     settings: ShellSettings,

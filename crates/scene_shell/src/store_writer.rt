@@ -4,6 +4,7 @@ use crate::keep::KeptWriter;
 use crate::streams::send;
 use crate::style::AnswerStyle;
 use scene_interpreter::Interpreter;
+use scene_session::LoneOwner;
 use scene_streams::Keep;
 use std::io::Write;
 
@@ -23,7 +24,7 @@ impl<K: Keep + Drop, W: Write + Drop> KeptWriter for StoreWriter<K, W> {
 
     ghost meaning = { both_mean K.keeps W.contents };
 
-    fn begin(&mut self, _interpreter: &Interpreter, _style: AnswerStyle) {}
+    fn begin(&mut self, _interpreter: &Interpreter<LoneOwner>, _style: AnswerStyle) {}
 
     fn keep(&mut self, lines: &[u8]) -> Result<(), K::Fault> {
         self.store.keep(lines)

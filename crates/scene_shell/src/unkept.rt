@@ -4,6 +4,7 @@ use crate::keep::KeptWriter;
 use crate::streams::send;
 use crate::style::AnswerStyle;
 use scene_interpreter::Interpreter;
+use scene_session::LoneOwner;
 use std::convert::Infallible;
 use std::io::Write;
 
@@ -21,7 +22,7 @@ impl<W: Write + Drop> KeptWriter for Unkept<W> {
 
     ghost meaning = { record { keeps = λ _ _. ⊤; contents = λ s. W.contents s.writer; begun = λ _ _ _ _. ⊤ } };
 
-    fn begin(&mut self, _interpreter: &Interpreter, _style: AnswerStyle) {}
+    fn begin(&mut self, _interpreter: &Interpreter<LoneOwner>, _style: AnswerStyle) {}
 
     fn keep(&mut self, _lines: &[u8]) -> Result<(), Infallible> {
         Ok(())

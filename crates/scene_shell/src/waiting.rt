@@ -16,7 +16,7 @@ use crate::streams::{tell_bad, tell_halt};
 use crate::style::AnswerStyle;
 use scene_interpreter::{Halt, Interpreter};
 use scene_script::{BadLine, first_line};
-use scene_session::Performer;
+use scene_session::{LoneOwner, Performer};
 use std::alloc::{AllocError, Global};
 use std::io::Write;
 
@@ -38,9 +38,9 @@ pub(crate) struct Waiting {
 
 /// Plays a line, and puts its answer in the place of the one before. It gives why the line is bad, where it is.
 #[tactic(auto, using(crate::proofs::SaidLaws::is_json_answer))]
-fn answer_alone<P: Performer>(
+fn answer_alone<P: Performer<LoneOwner>>(
     performer: &P,
-    interpreter: &mut Interpreter,
+    interpreter: &mut Interpreter<LoneOwner>,
     is_json: bool,
     line: &[u8],
     answer: &mut String,
@@ -58,9 +58,9 @@ fn answer_alone<P: Performer>(
 }
 
 /// The same, as the answer is sent.
-fn answer_line<P: Performer>(
+fn answer_line<P: Performer<LoneOwner>>(
     performer: &P,
-    interpreter: &mut Interpreter,
+    interpreter: &mut Interpreter<LoneOwner>,
     style: AnswerStyle,
     line: &[u8],
     answer: &mut String,
@@ -129,10 +129,10 @@ impl Waiting {
 
     /// Plays a line, which is given without its line break, and notes it and its answer.
     #[tactic(auto, using(crate::proofs::KeptLaws::noted_line))]
-    fn play_line<P: Performer>(
+    fn play_line<P: Performer<LoneOwner>>(
         &mut self,
         performer: &P,
-        interpreter: &mut Interpreter,
+        interpreter: &mut Interpreter<LoneOwner>,
         style: AnswerStyle,
         line: &[u8],
     ) -> Result<Option<BadLine>, Halt>
@@ -167,10 +167,10 @@ impl Waiting {
 
     /// Plays a line, and notes it and its answer. It tells why the line is bad, and gives 1 for a bad line, 0 for any
     /// other.
-    pub(crate) fn play<P: Performer, E: Write>(
+    pub(crate) fn play<P: Performer<LoneOwner>, E: Write>(
         &mut self,
         performer: &P,
-        interpreter: &mut Interpreter,
+        interpreter: &mut Interpreter<LoneOwner>,
         style: AnswerStyle,
         number: u64,
         line: &[u8],

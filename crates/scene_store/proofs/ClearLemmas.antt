@@ -126,25 +126,3 @@ clears old new batches count has rows h =
     let w = runs_as clear_text [] old new store_schema has (Delete 0 program) clear_is clear_plain count h in
     let made = does_clear old.step_limit (mode_of old) old.now batches has rows [] w.tally new.now w.changed in
     (made.0, subst (IsPermutation []) (sym made.1) (IsPermutation-refl []))
-
--- DELETE and the two rows that are put in: the head, and the lines
-pub three_steps : (start cleared headed last : State) (lines : List ℕ) (batches : List (List ℕ)) (counts : ℕ × ℕ × ℕ) → start.now.schema ≡ store_schema → HasBatches start.now.trees batches
-    → Executes clear_text [] start cleared (Ok counts.0) → Executes add_text (Blob head_line ∷ []) cleared headed (Ok counts.1) → Executes add_text (Blob lines ∷ []) headed last (Ok counts.2)
-    → (last.now.schema ≡ store_schema) × HasBatches last.now.trees (head_line ∷ lines ∷ [])
-three_steps start cleared headed last lines batches counts has rows one two three =
-    let none = clears start cleared batches counts.0 has rows one in
-    let head = adds_inside cleared headed [] head_line counts.1 none.0 none.1 two in
-    adds_inside headed last (head_line ∷ []) lines counts.2 head.0 head.1 three
-
--- CREATE TABLE and the first row
-pub two_steps : (start made last : State) (head : List ℕ) (counts : ℕ × ℕ) → start.now.schema ≡ no_schema → Executes table_text [] start made (Ok counts.0)
-    → Executes add_text (Blob head ∷ []) made last (Ok counts.1) → (last.now.schema ≡ store_schema) × HasBatches last.now.trees (head ∷ [])
-two_steps start made last head counts has one two = let table = creates_inside start made counts.0 has one in adds_inside made last [] head counts.1 table.0 table.1 two
-
--- and a second row
-pub fill_steps : (start made headed last : State) (head lines : List ℕ) (counts : ℕ × ℕ × ℕ) → start.now.schema ≡ no_schema → Executes table_text [] start made (Ok counts.0)
-    → Executes add_text (Blob head ∷ []) made headed (Ok counts.1) → Executes add_text (Blob lines ∷ []) headed last (Ok counts.2)
-    → (last.now.schema ≡ store_schema) × HasBatches last.now.trees (head ∷ lines ∷ [])
-fill_steps start made headed last head lines counts has one two three =
-    let first = two_steps start made headed head (counts.0, counts.1) has one two in
-    adds_inside headed last (head ∷ []) lines counts.2 first.0 first.1 three

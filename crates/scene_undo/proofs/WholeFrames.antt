@@ -1,11 +1,11 @@
 -- A frame that a recorder accepted, as a record: the deltas that it noted, and the way back.
-use Rattle.std.proofs.Common.{◌≡◌, ℕ, ◌+◌, List, [], ◌∷◌, ◌++◌, take, refl, ap, sym, subst, ◌∙◌, Option, Some, None, Ok}
+use Rattle.std.proofs.Common.{◌≡◌, ℕ, ◌+◌, true, List, [], ◌∷◌, ◌++◌, take, refl, ap, sym, subst, ◌∙◌, Option, Some, None, Ok}
 use Rattle.std.specs.Prelude.{Result, Err, IfOk, OnOk}
 use Rattle.scene_kinds.specs.declared.entity.Entity.{Entity}
 use Rattle.scene_kinds.specs.declared.refusal.Refusal.{Refusal}
 use Rattle.scene_kinds.specs.Answers.{Outcome}
 use Rattle.scene_model.specs.World.{World}
-use Rattle.scene_model.specs.Can.{CanSetTick}
+use Rattle.scene_model.specs.Can.{can_set_tick}
 use Rattle.scene_model.specs.Commands.{and_then, raise_tick}
 use Rattle.scene_machine.specs.Frame.{all_or_refused, framed, queues_from}
 use Rattle.scene_machine.specs.Queue.{Request, play}
@@ -57,12 +57,12 @@ module _ (w u : World) (valid : IsValid w) (raises : raise_tick w ≡ Ok (tt, u)
   is_raised : u ≡ raised w
   is_raised = (raise_sets_tick w u valid raises).1
 
-  can : (w.tick ≡ w.tick) × CanSetTick w (w.tick + 1)
+  can : (w.tick ≡ w.tick) × (can_set_tick w (w.tick + 1) ≡ true)
   can = (refl, (raise_sets_tick w u valid raises).0)
 
   -- the tick can be set back, which gives the world from before
-  pub lowers : CanSetTick u w.tick
-  lowers = subst (λ x. CanSetTick x w.tick) (sym is_raised) ((ticks_come_back w.tick (w.tick + 1)).can_come_back w valid can).1
+  pub lowers : can_set_tick u w.tick ≡ true
+  lowers = subst (λ x. can_set_tick x w.tick ≡ true) (sym is_raised) ((ticks_come_back w.tick (w.tick + 1)).can_come_back w valid can).1
 
   pub lowered : set_tick u w.tick ≡ w
   lowered = ap (λ x. set_tick x w.tick) is_raised ∙ (ticks_come_back w.tick (w.tick + 1)).comes_back w valid can
@@ -81,7 +81,7 @@ module _ (w u : World) (valid : IsValid w) (raises : raise_tick w ≡ Ok (tt, u)
       fits = record {
         tick = sym (back_all_keeps_tick ds v) ∙ ap (λ (x : World). x.tick) (back ∙ is_raised);
         deltas = ready_fits_back room ds v ready;
-        timely = subst (λ x. CanSetTick x w.tick) (sym back) lowers;
+        timely = subst (λ x. can_set_tick x w.tick ≡ true) (sym back) lowers;
       };
       ready = ready;
     }
@@ -99,8 +99,8 @@ module _ (w : World) (u v : Recording) (valid : IsValid w) (raises : raise_tick 
   whole = λ i. record_of (ticks i) v.frame.deltas
 
   -- it can be taken back, which gives the world from before
-  pub cancels : CanSetTick (opening_of v) v.frame.tick_before
-  cancels = subst (CanSetTick (opening_of v)) (sym ticks) (subst (λ x. CanSetTick x w.tick) (sym starts) (lowers w u.world valid raises))
+  pub cancels : can_set_tick (opening_of v) v.frame.tick_before ≡ true
+  cancels = (λ i. can_set_tick (starts i) (ticks i)) ∙ lowers w u.world valid raises
 
   cancelled : undone v.frame v.world ≡ w
   cancelled = ap (λ x. set_tick x v.frame.tick_before) starts ∙ ap (set_tick u.world) ticks ∙ lowered w u.world valid raises

@@ -33,7 +33,7 @@ use Rattle.scene_resources.specs.Resources.{NamedCells, Holds as HoldsNames, nam
 use Rattle.scene_resources.proofs.ResourceLaws.{is_name, restored_cells}
 use Rattle.scene_model.specs.World.{World}
 use Rattle.scene_model.specs.Raw.{put_row, uncut_row, taken_entity, taken_slots}
-use Rattle.scene_model.specs.Can.{CanPut}
+use Rattle.scene_model.proofs.CanParts.{CanPut}
 use Rattle.scene_model.proofs.PutBack.{took}
 use Rattle.scene_world.specs.Room.{Housed, Room, Holds, IsWider, stored_rows}
 

@@ -1,5 +1,5 @@
 -- The laws of room.
-use Rattle.std.proofs.Common.{◌≡◌, ◌≤◌, ap, sym, subst, arith}
+use Rattle.std.proofs.Common.{◌≡◌, ◌≤◌, Bool, true, Decides, ap, sym, subst, arith}
 use Rattle.scene_model.specs.World.{World}
 use Rattle.scene_archetypes.specs.Archetypes.{ArchetypesState}
 use Rattle.scene_links.proofs.LinkLaws.{holds_wider as links_wider, wider_self as links_self, wider_more as links_more}
@@ -20,6 +20,10 @@ seen_room e = ap (λ (h : Housed). h.room) e
 -- a fact of what contracts see, of the inside
 pub inside : {a b : Housed} → a ≡ b → (P : World → Type 0) → P b.world → P a.world
 inside e P h = subst P (sym (seen_world e)) h
+
+-- what a test of what contracts see decides, of the inside
+pub inside_tested : {a b : Housed} {p : World → Bool} {P : World → Type 0} → a ≡ b → ((w : World) → Decides (p w) (P w)) → p b.world ≡ true → P a.world
+inside_tested {b = b} {P = P} e decides h = inside e P ((decides b.world).0 h)
 
 -- what is held after a change, as the inside has it
 pub held_inside : {a b : Housed} → a ≡ b → (f : World → World) → Holds b.room (f b.world) → Holds a.room (f a.world)

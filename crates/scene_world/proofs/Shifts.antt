@@ -16,8 +16,8 @@ use Rattle.scene_archetypes.specs.Archetypes.{HasRoomOf}
 use Rattle.scene_model.specs.World.{World, IsHomeOf, is_live}
 use Rattle.scene_model.specs.Commands.{after_move}
 use Rattle.scene_model.specs.Raw.{listed_cells, cells_of, shifted, shift_row, unshift_row}
-use Rattle.scene_model.specs.Can.{CanMove, CanUnshift, HasRow, HasLastRow}
 use Rattle.scene_model.specs.Valid.{IsValid, IsRowOf}
+use Rattle.scene_model.proofs.CanParts.{CanMove, CanUnshift, HasRow, HasLastRow, shift, unshift}
 use Rattle.scene_model.proofs.LastRows.{last_home, last_row_there}
 use Rattle.scene_model.proofs.MoveKeeps.{with_tables}
 use Rattle.scene_model.proofs.RowKinds.{row_kinds_low}
@@ -96,7 +96,7 @@ module _ (w : World) (e : Entity) (h : Home) (kind : ℕ) (cell : Cell) (inward 
       (home.found ∙ (λ i. Some (record { mask = sym fits.kinds.kinds i; place = h.place }, record { entity = home.same i; cells = home.row.cells })))
 
   pub shift_valid : IsValid (shift_row w e kind cell inward)
-  shift_valid = (shifted_rows_come_back e h.place kind cell inward).0.keeps w v (record { row = has_row; moves = can })
+  shift_valid = (shifted_rows_come_back e h.place kind cell inward).0.keeps w v ((shift w e h.place kind cell inward).1 (record { row = has_row; moves = can }))
 
 -- ---- and back, to a place of the table from which it came
 
@@ -120,7 +120,7 @@ module _ (w : World) (e : Entity) (h : Home) (place kind : ℕ) (cell : Cell) (i
   may_return rooms count room r at = may_move w e h kind cell (not inward) v home low can.moves rooms count place back_within room r at
 
   pub unshift_valid : IsValid (unshift_row w e place kind cell inward)
-  unshift_valid = (shifted_rows_come_back e place kind cell inward).1.keeps w v can
+  unshift_valid = (shifted_rows_come_back e place kind cell inward).1.keeps w v ((unshift w e place kind cell inward).1 can)
 
   pub unshift_made : unshift_row w e place kind cell inward ≡ with_tables w (with_row_back (without_row w.tables h) place back_row)
   unshift_made = made_by_row w e h home.row (λ g r. with_tables w (with_row_back (without_row w.tables g) place (row_for r.entity (shifted r.cells kind cell (not inward))))) home.found

@@ -6,7 +6,7 @@ ghost use Rattle.scene_links.specs.Forest.{children_of, link_in};
 ghost use Rattle.scene_resources.specs.Resources.{cell_of as cell_at_name};
 ghost use Rattle.scene_model.specs.World.{is_live};
 ghost use Rattle.scene_model.specs.Raw.{cells_of, put_row, drop_last, cut_row, uncut_row, shift_row, unshift_row, set_cell, set_link, set_resource, set_tick};
-ghost use Rattle.scene_model.specs.Can.{CanPut, CanDrop, CanUncut, CanMove, CanUnshift, IsGoodCell, CanSetLink, CanSetResource, CanSetTick};
+ghost use Rattle.scene_model.specs.Can.{can_put, can_drop, can_uncut, can_move, can_unshift, is_good_cell, can_set_link, can_set_resource, can_set_tick};
 ghost use Rattle.scene_world.specs.Room.{Housed, Holds, IsWider};
 
 use scene_kinds::{Cell, Cells, Entity};
@@ -25,7 +25,7 @@ pub trait RawChanges {
     /// (docs/MODEL.md, "Raw changes"). It takes no memory, since the room must hold the world after it. `fresh` says
     /// that the slot is a new one.
     fn put_row_reserved(&mut self, entity: Entity, cells: Cells, fresh: bool)
-        requires can { CanPut (whole self.old).world entity cells fresh }
+        requires can { can_put (whole self.old).world entity cells fresh ≡ true }
         requires room { Holds (whole self.old).room (put_row (whole self.old).world entity cells) }
         ensures world { (whole self.new).world ≡ put_row (whole self.old).world entity cells }
         ensures room { (whole self.new).room ≡ (whole self.old).room };
@@ -33,7 +33,7 @@ pub trait RawChanges {
     /// Drops the last row of a table, which is an entity's, and gives its slot back: a fresh one goes, another is the
     /// last free one again (docs/MODEL.md, "Raw changes"). It takes no memory.
     fn drop_last(&mut self, entity: Entity, fresh: bool)
-        requires { CanDrop (whole self.old).world entity (cells_of (whole self.old).world entity) fresh }
+        requires { can_drop (whole self.old).world entity (cells_of (whole self.old).world entity) fresh ≡ true }
         ensures world { (whole self.new).world ≡ drop_last (whole self.old).world entity fresh }
         ensures room { (whole self.new).room ≡ (whole self.old).room };
 
@@ -42,7 +42,7 @@ pub trait RawChanges {
     /// It fails only where that room isn't there and no memory was found: then the world is as it was, and the cells
     /// are dropped.
     fn put_row(&mut self, entity: Entity, cells: Cells, fresh: bool) -> Result<(), AllocError>
-        requires { CanPut (whole self.old).world entity cells fresh }
+        requires { can_put (whole self.old).world entity cells fresh ≡ true }
         ensures done { OnOk result ((whole self.new).world ≡ put_row (whole self.old).world entity cells) }
         ensures full { OnErr result ((whole self.new).world ≡ (whole self.old).world) }
         ensures there { Holds (whole self.old).room (put_row (whole self.old).world entity cells) → IsOk result }
@@ -67,7 +67,7 @@ pub trait RawChanges {
         link: Option<(Entity, usize)>,
         retired: bool,
     )
-        requires can { CanUncut (whole self.old).world entity place cells link retired }
+        requires can { can_uncut (whole self.old).world entity place cells link retired ≡ true }
         requires room { Holds (whole self.old).room (uncut_row (whole self.old).world entity place cells link retired) }
         ensures world { (whole self.new).world ≡ uncut_row (whole self.old).world entity place cells link retired }
         ensures room { (whole self.new).room ≡ (whole self.old).room };
@@ -84,7 +84,7 @@ pub trait RawChanges {
         link: Option<(Entity, usize)>,
         retired: bool,
     ) -> Result<(), AllocError>
-        requires { CanUncut (whole self.old).world entity place cells link retired }
+        requires { can_uncut (whole self.old).world entity place cells link retired ≡ true }
         ensures done { OnOk result ((whole self.new).world ≡ uncut_row (whole self.old).world entity place cells link retired) }
         ensures full { OnErr result ((whole self.new).world ≡ (whole self.old).world) }
         ensures there { Holds (whole self.old).room (uncut_row (whole self.old).world entity place cells link retired) → IsOk result }
@@ -96,7 +96,7 @@ pub trait RawChanges {
     fn shift_row_reserved(&mut self, entity: Entity, kind: u8, cell: Cell, inward: bool)
         requires live { is_live (whole self.old).world entity ≡ true }
         requires low { kind < 64 }
-        requires moves { CanMove (whole self.old).world (cells_of (whole self.old).world entity) kind cell inward }
+        requires moves { can_move (whole self.old).world (cells_of (whole self.old).world entity) kind cell inward ≡ true }
         requires room { Holds (whole self.old).room (shift_row (whole self.old).world entity kind cell inward) }
         ensures world { (whole self.new).world ≡ shift_row (whole self.old).world entity kind cell inward }
         ensures room { (whole self.new).room ≡ (whole self.old).room };
@@ -112,7 +112,7 @@ pub trait RawChanges {
         cell: Cell,
         inward: bool,
     )
-        requires can { CanUnshift (whole self.old).world entity place kind cell inward }
+        requires can { can_unshift (whole self.old).world entity place kind cell inward ≡ true }
         requires low { kind < 64 }
         requires room { Holds (whole self.old).room (unshift_row (whole self.old).world entity place kind cell inward) }
         ensures world { (whole self.new).world ≡ unshift_row (whole self.old).world entity place kind cell inward }
@@ -131,7 +131,7 @@ pub trait RawChanges {
     ) -> Result<(), AllocError>
         requires live { is_live (whole self.old).world entity ≡ true }
         requires low { kind < 64 }
-        requires moves { CanMove (whole self.old).world (cells_of (whole self.old).world entity) kind cell inward }
+        requires moves { can_move (whole self.old).world (cells_of (whole self.old).world entity) kind cell inward ≡ true }
         ensures done { OnOk result ((whole self.new).world ≡ shift_row (whole self.old).world entity kind cell inward) }
         ensures full { OnErr result ((whole self.new).world ≡ (whole self.old).world) }
         ensures there { Holds (whole self.old).room (shift_row (whole self.old).world entity kind cell inward) → IsOk result }
@@ -149,7 +149,7 @@ pub trait RawChanges {
         cell: Cell,
         inward: bool,
     ) -> Result<(), AllocError>
-        requires can { CanUnshift (whole self.old).world entity place kind cell inward }
+        requires can { can_unshift (whole self.old).world entity place kind cell inward ≡ true }
         requires low { kind < 64 }
         ensures done { OnOk result ((whole self.new).world ≡ unshift_row (whole self.old).world entity place kind cell inward) }
         ensures full { OnErr result ((whole self.new).world ≡ (whole self.old).world) }
@@ -160,7 +160,7 @@ pub trait RawChanges {
     /// (docs/MODEL.md, "Raw changes"). It takes no memory.
     fn set_cell(&mut self, entity: Entity, kind: u8, cell: Cell) -> Cell
         requires there { IsSome (cell_of (cells_of (whole self.old).world entity) kind) }
-        requires good { IsGoodCell (whole self.old).world kind cell }
+        requires good { is_good_cell (whole self.old).world kind cell ≡ true }
         ensures old { cell_of (cells_of (whole self.old).world entity) kind ≡ Some result }
         ensures world { (whole self.new).world ≡ set_cell (whole self.old).world entity kind cell }
         ensures room { (whole self.new).room ≡ (whole self.old).room };
@@ -169,7 +169,7 @@ pub trait RawChanges {
     /// leaves it without a parent (docs/MODEL.md, "Raw changes"). The place is that in the list without the entity. It
     /// takes no memory, since the room must hold the world after it.
     fn set_link_reserved(&mut self, entity: Entity, link: Option<(Entity, usize)>)
-        requires can { CanSetLink (whole self.old).world entity (link_in (whole self.old).world.children entity) link }
+        requires can { can_set_link (whole self.old).world entity (link_in (whole self.old).world.children entity) link ≡ true }
         requires room { Holds (whole self.old).room (set_link (whole self.old).world entity link) }
         ensures world { (whole self.new).world ≡ set_link (whole self.old).world entity link }
         ensures room { (whole self.new).room ≡ (whole self.old).room };
@@ -178,7 +178,7 @@ pub trait RawChanges {
     ///
     /// It fails only where that room isn't there and no memory was found: then the world is as it was.
     fn set_link(&mut self, entity: Entity, link: Option<(Entity, usize)>) -> Result<(), AllocError>
-        requires { CanSetLink (whole self.old).world entity (link_in (whole self.old).world.children entity) link }
+        requires { can_set_link (whole self.old).world entity (link_in (whole self.old).world.children entity) link ≡ true }
         ensures done { OnOk result ((whole self.new).world ≡ set_link (whole self.old).world entity link) }
         ensures full { OnErr result ((whole self.new).world ≡ (whole self.old).world) }
         ensures there { Holds (whole self.old).room (set_link (whole self.old).world entity link) → IsOk result }
@@ -187,7 +187,7 @@ pub trait RawChanges {
     /// Gives a name this cell, with its ticks, or none, and gives the one that it had (docs/MODEL.md, "Raw changes").
     /// It takes no memory, since the room must hold the world after it.
     fn set_resource_reserved(&mut self, name: &str, cell: Option<Cell>) -> Option<Cell>
-        requires can { CanSetResource (whole self.old).world name.now (cell_at_name (whole self.old).world.resources name.now) cell }
+        requires can { can_set_resource (whole self.old).world name.now (cell_at_name (whole self.old).world.resources name.now) cell ≡ true }
         requires room { Holds (whole self.old).room (set_resource (whole self.old).world name.now cell) }
         ensures old { result ≡ cell_at_name (whole self.old).world.resources name.now }
         ensures world { (whole self.new).world ≡ set_resource (whole self.old).world name.now cell }
@@ -199,7 +199,7 @@ pub trait RawChanges {
     /// It fails only where that room isn't there and no memory was found: then the world is as it was, and the cell is
     /// dropped.
     fn set_resource(&mut self, name: &str, cell: Option<Cell>) -> Result<Option<Cell>, AllocError>
-        requires { CanSetResource (whole self.old).world name.now (cell_at_name (whole self.old).world.resources name.now) cell }
+        requires { can_set_resource (whole self.old).world name.now (cell_at_name (whole self.old).world.resources name.now) cell ≡ true }
         ensures old { IfOk result (λ old. old ≡ cell_at_name (whole self.old).world.resources name.now) }
         ensures done { OnOk result ((whole self.new).world ≡ set_resource (whole self.old).world name.now cell) }
         ensures full { OnErr result ((whole self.new).world ≡ (whole self.old).world) }
@@ -209,7 +209,7 @@ pub trait RawChanges {
     /// Sets the tick, as taking a frame back does. No cell may have been changed later than it (docs/MODEL.md, "Raw
     /// changes"). It takes no memory.
     fn set_tick(&mut self, tick: u64)
-        requires { CanSetTick (whole self.old).world tick }
+        requires { can_set_tick (whole self.old).world tick ≡ true }
         ensures world { (whole self.new).world ≡ set_tick (whole self.old).world tick }
         ensures room { (whole self.new).room ≡ (whole self.old).room };
 
@@ -227,7 +227,7 @@ pub trait RawChanges {
         cells: &Cells,
         fresh: bool,
     ) -> Result<(), AllocError>
-        requires { CanPut (whole self.old).world entity cells.now fresh }
+        requires { can_put (whole self.old).world entity cells.now fresh ≡ true }
         ensures world { (whole self.new).world ≡ (whole self.old).world }
         ensures room { OnOk result (Holds (whole self.new).room (put_row (whole self.old).world entity cells.now)) }
         ensures there { Holds (whole self.old).room (put_row (whole self.old).world entity cells.now) → IsOk result }
@@ -242,7 +242,7 @@ pub trait RawChanges {
         link: Option<(Entity, usize)>,
         retired: bool,
     ) -> Result<(), AllocError>
-        requires { CanUncut (whole self.old).world entity place cells.now link retired }
+        requires { can_uncut (whole self.old).world entity place cells.now link retired ≡ true }
         ensures world { (whole self.new).world ≡ (whole self.old).world }
         ensures room { OnOk result (Holds (whole self.new).room (uncut_row (whole self.old).world entity place cells.now link retired)) }
         ensures there { Holds (whole self.old).room (uncut_row (whole self.old).world entity place cells.now link retired) → IsOk result }
@@ -258,7 +258,7 @@ pub trait RawChanges {
     ) -> Result<(), AllocError>
         requires live { is_live (whole self.old).world entity ≡ true }
         requires low { kind < 64 }
-        requires moves { CanMove (whole self.old).world (cells_of (whole self.old).world entity) kind cell.now inward }
+        requires moves { can_move (whole self.old).world (cells_of (whole self.old).world entity) kind cell.now inward ≡ true }
         ensures world { (whole self.new).world ≡ (whole self.old).world }
         ensures room { OnOk result (Holds (whole self.new).room (shift_row (whole self.old).world entity kind cell.now inward)) }
         ensures there { Holds (whole self.old).room (shift_row (whole self.old).world entity kind cell.now inward) → IsOk result }
@@ -273,7 +273,7 @@ pub trait RawChanges {
         cell: &Cell,
         inward: bool,
     ) -> Result<(), AllocError>
-        requires can { CanUnshift (whole self.old).world entity place kind cell.now inward }
+        requires can { can_unshift (whole self.old).world entity place kind cell.now inward ≡ true }
         requires low { kind < 64 }
         ensures world { (whole self.new).world ≡ (whole self.old).world }
         ensures room { OnOk result (Holds (whole self.new).room (unshift_row (whole self.old).world entity place kind cell.now inward)) }
@@ -286,7 +286,7 @@ pub trait RawChanges {
         entity: Entity,
         link: Option<(Entity, usize)>,
     ) -> Result<(), AllocError>
-        requires { CanSetLink (whole self.old).world entity (link_in (whole self.old).world.children entity) link }
+        requires { can_set_link (whole self.old).world entity (link_in (whole self.old).world.children entity) link ≡ true }
         ensures world { (whole self.new).world ≡ (whole self.old).world }
         ensures room { OnOk result (Holds (whole self.new).room (set_link (whole self.old).world entity link)) }
         ensures there { Holds (whole self.old).room (set_link (whole self.old).world entity link) → IsOk result }

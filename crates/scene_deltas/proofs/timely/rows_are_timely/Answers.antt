@@ -1,5 +1,5 @@
 use Rattle.std.proofs.Common.{arith, sym, ◌∙◌}
-use Rattle.scene_deltas.specs.Timely.{row_is_timely}
+use Rattle.scene_model.specs.Timely.{row_is_timely}
 use Rattle.scene_deltas.proofs.TimelyCells.{there, one_passes, one_fails}
 use Rattle.scene_deltas.proofs.timely.rows_are_timely.Goals as goal
 

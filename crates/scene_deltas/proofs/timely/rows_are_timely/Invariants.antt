@@ -1,5 +1,5 @@
 use Rattle.std.proofs.Common.{◌≡◌, drop}
-use Rattle.scene_deltas.specs.Timely.{rows_are_timely}
+use Rattle.scene_model.specs.Timely.{rows_are_timely}
 use Rattle.scene_deltas.proofs.timely.rows_are_timely.Given as goal
 
 abbrev pub invariant-loop-at : goal.invariant-loop-at

@@ -2,7 +2,7 @@ use Rattle.std.proofs.Common.{◌≡◌, ◌++◌, drop, string_bytes}
 use Rattle.std.specs.Prelude.{false, map as each}
 use Rattle.scene_json_forms.specs.Printing.{rest_text}
 use Rattle.scene_file.specs.Text.{resource_text}
-use Rattle.scene_file.specs.Printing.{named_cells}
+use Rattle.scene_json_forms.specs.NamedCells.{named_cells}
 use Rattle.scene_file.proofs.write_world.write_named.Given as goal
 
 abbrev pub invariant-names : goal.invariant-names

@@ -3,8 +3,13 @@ use Rattle.scene_world.specs.Room.{Holds}
 use Rattle.scene_deltas.specs.Notes.{listed_delta}
 use Rattle.scene_deltas.specs.Ready.{AreReady}
 use Rattle.scene_deltas.specs.Deltas.{back_all}
-use Rattle.scene_journal.proofs.CutRows.{all_cut, next_cut}
+use Rattle.scene_journal.proofs.CutRows.{all_cut, childless_next, next_cut}
 use Rattle.scene_journal.proofs.cuts.cut_each.Goals as goal
+
+pub cut_row-requires-clause-childless : goal.cut_row-requires-clause-childless
+cut_row-requires-clause-childless c =
+    childless_next c.args.world.now.room c.args.world.now.world c.args.order.now c.loop-entity.entity-index c.loop-entity.world.world c.loop-entity.deltas.items
+    (record { index = 0; generation = 0 }) c.loop-entity-test.true c.loop-entity.invariant.0
 
 pub loop-entity-preserved : goal.loop-entity-preserved
 loop-entity-preserved c = (

@@ -1,4 +1,4 @@
-use Rattle.std.proofs.Common.{◌≡◌, true, false, rules, sym, take, ◌∙◌}
+use Rattle.std.proofs.Common.{rules, sym, take, ◌∙◌}
 use Rattle.scene_world.proofs.Room.{wider_wider}
 use Rattle.scene_journal.proofs.SomeDeltas.{made_next, ready_next, some_made, unfit_here}
 use Rattle.scene_deltas.proofs.Turns.{ready_fits_on}
@@ -11,7 +11,7 @@ returns-then-not-fits_on-clause-refused c = λ other. (
     c.bad_record.ensures,
     unfit_here c.args.deltas.now c.args.draft.now.world c.loop-number.draft.world c.loop-number.number c.index-deltas-number.result c.loop-number-test.true c.index-deltas-number.is c.loop-number.invariant.1.0
         (ready_fits_on c.loop-number.draft.room (take c.loop-number.number c.args.deltas.now) c.args.draft.now.world c.loop-number.invariant.0)
-        (λ fits. absurd (let both : false ≡ true = sym c.if-not-fits_on.true ∙ c.fits_on.ensures.1 fits in cc)),
+        (sym c.fits_on.ensures ∙ c.if-not-fits_on.true),
   ),
 )
 
@@ -29,7 +29,7 @@ loop-number-preserved c =
     let next = c.redo_delta.new.world in
     let ds = c.args.deltas.now in (
       ready_next ds c.args.draft.now.world now.world c.loop-number.number c.index-deltas-number.result c.loop-number-test.true c.index-deltas-number.is
-          c.loop-number.invariant.1.0 now.room next.room next.world c.in_ok-redo_delta.ensures.done (c.fits_on.ensures.0 c.if-not-fits_on.false)
+          c.loop-number.invariant.1.0 now.room next.room next.world c.in_ok-redo_delta.ensures.done (sym c.fits_on.ensures ∙ c.if-not-fits_on.false)
           c.room_holds.ensures c.redo_delta.ensures.wide c.loop-number.invariant.0,
       (
         made_next ds c.args.draft.now.world now.world c.loop-number.number c.index-deltas-number.result c.loop-number-test.true c.index-deltas-number.is

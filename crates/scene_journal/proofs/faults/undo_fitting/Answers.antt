@@ -1,4 +1,4 @@
-use Rattle.std.proofs.Common.{◌≡◌, ◌∷◌, ◌∙◌, false, true, length, sym}
+use Rattle.std.proofs.Common.{◌∷◌, ◌∙◌, length, sym}
 use Rattle.scene_world.proofs.Room.{wider_wider}
 use Rattle.scene_journal.proofs.SomeDeltas.{ready_taken, taken_next, unfit_next}
 use Rattle.scene_deltas.proofs.Turns.{ready_fits_back}
@@ -12,7 +12,7 @@ returns-then-not-fits_back-clause-refused c = λ other.
         c.bad_record.ensures,
         unfit_next c.args.deltas.now c.args.draft.now.world c.loop-delta.draft.world c.loop-delta.left.now c.in-Some.before.now now.0 c.in-Some.delta.now
             c.in-Some.ensures.cases.0 now.1.0 (ready_fits_back c.loop-delta.draft.room now.0 c.args.draft.now.world now.1.1)
-            (λ fits. absurd (let both : false ≡ true = sym c.if-not-fits_back.true ∙ c.fits_back.ensures.1 fits in cc)),
+            (sym c.fits_back.ensures ∙ c.if-not-fits_back.true),
       ),
     )
 
@@ -29,7 +29,7 @@ loop-delta-preserved c =
           taken_next c.args.deltas.now w v.world c.loop-delta.left.now c.in-Some.before.now now.0 d c.in-Some.ensures.cases.0 now.1.0 next.world
               c.in_ok-undo_delta.ensures.done,
           ready_taken c.args.deltas.now w v.world c.loop-delta.left.now c.in-Some.before.now now.0 d c.in-Some.ensures.cases.0 now.1.0 v.room next.room next.world
-              c.in_ok-undo_delta.ensures.done (c.fits_back.ensures.0 c.if-not-fits_back.false) c.room_holds.ensures c.undo_delta.ensures.wide now.1.1,
+              c.in_ok-undo_delta.ensures.done (sym c.fits_back.ensures ∙ c.if-not-fits_back.false) c.room_holds.ensures c.undo_delta.ensures.wide now.1.1,
         ),
       ),
       wider_wider c.args.draft.now.room v.room next.room c.loop-delta.invariant.1 c.undo_delta.ensures.wide,

@@ -16,7 +16,7 @@ parts-preserved g c =
     let count : c.len.result ≡ length items = search rules in
     let read : g.F.Form.word c.args.form.now (place_in (path_bytes c.args.path.now) (length items)) (view part) ≡ Ok (g.F.Form.meant c.in_ok-item.item) =
     ap (λ n. g.F.Form.word c.args.form.now (place_in (path_bytes c.args.path.now) n) (view part)) (sym count)
-    ∙ ap (λ p. g.F.Form.word c.args.form.now p (view part)) (sym (path-Item _ c.len.result)) ∙ c.in_ok-item.ensures.found in
+    ∙ ap (λ p. g.F.Form.word c.args.form.now p (view part)) (sym (path-Item _ c.len.result)) ∙ c.in_ok-item.ensures in
     risen_on (g.F.Form.word c.args.form.now) (path_bytes c.args.path.now) g.F.Form.follows g.F.Form.meant
     (rising_at (g.F.Form.word c.args.form.now) g.F.Form.follows (path_bytes c.args.path.now) 0 None (views c.args.parts))
     items c.push.new.self.items c.in_ok-item.item (view part) (views c.parts.parts) (views c.next.new.self)

@@ -1,18 +1,8 @@
-use Rattle.std.proofs.Common.{ap, sym, ◌∙◌, ◌++◌, string_bytes}
-use Rattle.std.specs.Prelude.{codes}
-use Rattle.scene_json_forms.proofs.ListsWritten.{accepted, chain}
-use Rattle.scene_print.specs.JsonSteps.{row_text}
+use Rattle.std.proofs.Common.{string_bytes}
+use Rattle.scene_json_forms.proofs.ListsWritten.{as_text, so}
 use Rattle.scene_print.proofs.JsonObjects.{row_answer_is}
 use Rattle.scene_print.proofs.json_rows.write_json_row.Goals as goal
 
 pub returns : goal.returns
-returns c =
-    let kinds = c.args.schema.now in
-    let old = string_bytes c.args.out.now in
-    let s1 = string_bytes c.push_str.new.self in
-    let s2 = string_bytes c.write_members.new.out in
-    let end = string_bytes c.push_str-2.new.self in
-    accepted c.push_str-2.result _ _ _ c.push_str-2.ensures.bytes (λ last row there.
-    chain old (codes "{\"answer\":\"row\",") _ s1 end c.in_ok-push_str.ensures.bytes
-    (chain s1 (row_text kinds row) (codes "}") s2 end (c.in_ok-write_members.ensures row there) last)
-    ∙ ap (λ t. old ++ t) (sym (row_answer_is kinds row)))
+returns c = so c.write_row_behind.result c.write_row_behind.ensures (λ h row there.
+    as_text (string_bytes c.args.out.now) _ _ _ (row_answer_is c.args.schema.now row) (h row there))

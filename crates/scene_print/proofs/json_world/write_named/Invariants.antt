@@ -1,7 +1,8 @@
 use Rattle.std.proofs.Common.{◌≡◌, ◌++◌, drop, string_bytes}
 use Rattle.std.specs.Prelude.{false, map as each}
 use Rattle.scene_print.specs.JsonShown.{resource_member}
-use Rattle.scene_print.specs.JsonSteps.{left_text, named_cells}
+use Rattle.scene_json_forms.specs.NamedCells.{named_cells}
+use Rattle.scene_print.specs.JsonSteps.{left_text}
 use Rattle.scene_print.proofs.json_world.write_named.Given as goal
 
 abbrev pub invariant-names : goal.invariant-names

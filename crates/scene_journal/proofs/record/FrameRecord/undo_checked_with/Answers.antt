@@ -1,7 +1,7 @@
-use Rattle.std.proofs.Common.{◌≡◌, ◌+◌, ◌∙◌, ap, arith, rules, subst, sym}
+use Rattle.std.proofs.Common.{◌≡◌, ◌+◌, ◌∙◌, true, ap, arith, rules, subst, sym}
 use Rattle.std.proofs.lemmas.Bool.Decides.{nat_tests}
 use Rattle.scene_model.specs.World.{World}
-use Rattle.scene_model.specs.Can.{CanSetTick}
+use Rattle.scene_model.specs.Can.{can_set_tick}
 use Rattle.scene_deltas.specs.Ready.{AreReady}
 use Rattle.scene_deltas.specs.Deltas.{back_all}
 use Rattle.scene_deltas.proofs.Deltas.{back_all_keeps_tick}
@@ -60,5 +60,5 @@ returns-clause-fits c =
     let tick : w.tick ≡ r.tick_before + 1 = grind (arith, nat_tests) in
     let ready = subst (λ ds. AreReady v.room ds w) c.deltas-2.ensures c.in_ok-undo_fitting.ensures.ready in
     let done : v.world ≡ back_all r.deltas w = c.in_ok-undo_fitting.ensures.done ∙ ap (λ ds. back_all ds w) c.deltas-2.ensures in
-    let can : CanSetTick v.world r.tick_before = subst (CanSetTick v.world) before (c.in_ok-can_set_tick.ensures.can.0 c.if-not-branch.false) in
-    record { tick = tick; deltas = ready_fits_back v.room r.deltas w ready; timely = subst (λ u. CanSetTick u r.tick_before) done can }
+    let can : can_set_tick v.world r.tick_before ≡ true = ap (can_set_tick v.world) (sym before) ∙ sym c.in_ok-can_set_tick.ensures.can ∙ c.if-not-branch.false in
+    record { tick = tick; deltas = ready_fits_back v.room r.deltas w ready; timely = subst (λ u. can_set_tick u r.tick_before ≡ true) done can }

@@ -2,7 +2,8 @@ use Rattle.std.proofs.Common.{◌≡◌, ◌∙◌, ap, sym, subst, false, List,
 use Rattle.std.specs.Prelude.{is_some, ◌==◌}
 use Rattle.scene_kinds.specs.Map as map
 use Rattle.scene_kinds.specs.declared.entity.Entity.{Entity}
-use Rattle.scene_alloc.specs.Slots.{SlotState, CanRelease}
+use Rattle.scene_alloc.specs.Slots.{SlotState}
+use Rattle.scene_alloc.proofs.SlotParts.{CanRelease, release}
 use Rattle.scene_model.specs.World.{World, IsHomeOf}
 use Rattle.scene_model.specs.Commands.{after_despawn}
 use Rattle.scene_world.specs.Stored.{world_of}
@@ -23,7 +24,7 @@ release-retired-requires c =
     let w = c.self.inside in
     let old : World = world_of w.schema w.slots w.tick w.tables.tables w.links.forest w.resources in
     let home : IsHomeOf old c.args.entity c.in-Some.home = subst (λ (v : World). IsHomeOf v c.args.entity c.in-Some.home) (sym (seen_world c.self.view_is)) c.in-Some.ensures.row in
-    subst (CanRelease w.slots.state) home.same (can_release old c.in-Some.home home.row c.self.invariant.valid home.there)
+    (release w.slots.state c.args.entity).1 (subst (CanRelease w.slots.state) home.same (can_release old c.in-Some.home home.row c.self.invariant.valid home.there))
 
 pub invariant_of-self : goal.invariant_of-self
 invariant_of-self c =

@@ -2,7 +2,8 @@ use Rattle.std.proofs.Common.{◌≡◌, ◌∙◌, ap, sym, subst, false, List,
 use Rattle.std.specs.Prelude.{is_some, ◌==◌}
 use Rattle.scene_kinds.specs.Map as map
 use Rattle.scene_kinds.specs.declared.entity.Entity.{Entity}
-use Rattle.scene_alloc.specs.Slots.{SlotState, CanRelease}
+use Rattle.scene_alloc.specs.Slots.{SlotState}
+use Rattle.scene_alloc.proofs.SlotParts.{CanRelease, release}
 use Rattle.scene_links.specs.Forest.{children_of}
 use Rattle.scene_model.specs.World.{World, IsHomeOf}
 use Rattle.scene_model.specs.Commands.{after_despawn}
@@ -28,7 +29,7 @@ release-retired-requires c =
     let old : World = world_of w.schema w.slots w.tick w.tables.tables w.links.forest w.resources in
     let h = c.home_of_live-home.result in
     let home : IsHomeOf old c.args.entity h = subst (λ (v : World). IsHomeOf v c.args.entity h) (sym (seen_world c.self.view_is)) c.home_of_live-home.ensures.row in
-    subst (CanRelease w.slots.state) home.same (can_release old h home.row c.self.invariant.valid home.there)
+    (release w.slots.state c.args.entity).1 (subst (CanRelease w.slots.state) home.same (can_release old h home.row c.self.invariant.valid home.there))
 
 pub invariant_of-self : goal.invariant_of-self
 invariant_of-self c =

@@ -11,7 +11,7 @@ use Rattle.scene_table.proofs.Standing.{added_there}
 use Rattle.scene_archetypes.specs.Archetypes.{HasRoomOf}
 use Rattle.scene_model.specs.World.{World}
 use Rattle.scene_model.specs.Raw.{put_row, taken_slots}
-use Rattle.scene_model.specs.Can.{CanPut}
+use Rattle.scene_model.proofs.CanParts.{put}
 use Rattle.scene_model.specs.Valid.{IsValid}
 use Rattle.scene_model.proofs.GoodCells.{row_of_good}
 use Rattle.scene_model.proofs.LastRows.{next_home}
@@ -20,7 +20,7 @@ use Rattle.scene_model.proofs.RowKinds.{row_kinds_low}
 use Rattle.scene_model.proofs.SpawnKeeps.{taken_unused}
 use Rattle.scene_model.proofs.TakenSlots.{taken}
 use Rattle.scene_world.specs.Stored.{world_of}
-use Rattle.scene_world.proofs.Room.{seen_world, held_inside}
+use Rattle.scene_world.proofs.Room.{seen_world, inside_tested, held_inside}
 use Rattle.scene_world.proofs.SlotHomes.{home_of_taken}
 use Rattle.scene_world.proofs.world.raw.WorldRawChanges.put_row_reserved.Goals as goal
 
@@ -28,7 +28,7 @@ pub mask-mask-requires-clause-below : goal.mask-mask-requires-clause-below
 mask-mask-requires-clause-below c =
     let w = c.self.inside in
     let old : World = world_of w.schema w.slots w.tick w.tables.tables w.links.forest w.resources in
-    let can = subst (λ (v : World). CanPut v c.args.entity c.args.cells c.args.fresh) (sym (seen_world c.self.view_is)) c.requires.can in
+    let can = inside_tested c.self.view_is (λ v. put v c.args.entity c.args.cells c.args.fresh) c.requires.can in
     row_kinds_low w.schema (mask_of c.args.cells) (row_for c.args.entity c.args.cells) (row_of_good old c.args.entity c.args.cells can.good) c.self.invariant.valid.schema.few
 
 pub put_back-requires-clause-room : goal.put_back-requires-clause-room
@@ -48,7 +48,7 @@ pub put_back-requires-clause-absent : goal.put_back-requires-clause-absent
 put_back-requires-clause-absent c =
     let w = c.self.inside in
     let old : World = world_of w.schema w.slots w.tick w.tables.tables w.links.forest w.resources in
-    let can = subst (λ (v : World). CanPut v c.args.entity c.args.cells c.args.fresh) (sym (seen_world c.self.view_is)) c.requires.can in
+    let can = inside_tested c.self.view_is (λ v. put v c.args.entity c.args.cells c.args.fresh) c.requires.can in
     let took = took w.slots.state c.args.entity can.next in
     taken_unused old (taken_slots w.slots.state (take_of w.slots.state)) c.args.entity c.self.invariant.valid (taken w.slots.state (taken_slots w.slots.state (take_of w.slots.state)) c.args.entity c.self.invariant.valid.slots took)
 
@@ -56,7 +56,7 @@ pub invariant_of-self : goal.invariant_of-self
 invariant_of-self c =
     let w = c.self.inside in
     let old : World = world_of w.schema w.slots w.tick w.tables.tables w.links.forest w.resources in
-    let can = subst (λ (v : World). CanPut v c.args.entity c.args.cells c.args.fresh) (sym (seen_world c.self.view_is)) c.requires.can in
+    let can = inside_tested c.self.view_is (λ v. put v c.args.entity c.args.cells c.args.fresh) c.requires.can in
     let took = took w.slots.state c.args.entity can.next in
     let row = row_for c.args.entity c.args.cells in
     let answer : ◌≡◌ {A = Outcome Entity SlotState} (Ok (c.args.entity, taken_slots w.slots.state (take_of w.slots.state))) (Ok (c.take_reserved-entity.result, c.take_reserved-entity.new.self.state)) = sym took ∙ c.take_reserved-entity.ensures.answer in
@@ -66,7 +66,7 @@ invariant_of-self c =
     λ i. record { schema = w.schema; slots = slots i; tick = w.tick; tables = sym tables i; children = w.links.forest; resources = w.resources.cells } in
     let home = (held_inside c.self.view_is (λ v. put_row v c.args.entity c.args.cells) c.requires.room).rows.homes (next_home w.tables.tables row) row (added_there w.tables.tables row) in
     record {
-      valid = subst IsValid is ((rows_come_back c.args.entity c.args.cells c.args.fresh).0.keeps old c.self.invariant.valid can);
+      valid = subst IsValid is ((rows_come_back c.args.entity c.args.cells c.args.fresh).0.keeps old c.self.invariant.valid ((put old c.args.entity c.args.cells c.args.fresh).1 can));
       homes = subst (λ (s : SlotState). length s.generations ≤ c.put_back.new.self.homes) slots (home_of_taken w.slots.state c.args.entity (taken_slots w.slots.state (take_of w.slots.state)) c.put_back.new.self.homes took (omega (arith, c.put_back.ensures.homes, c.self.invariant.homes)) (omega (arith, c.put_back.ensures.homes, home)));
     }
 
@@ -74,7 +74,7 @@ pub returns-clause-world : goal.returns-clause-world
 returns-clause-world c =
     let w = c.self.inside in
     let old : World = world_of w.schema w.slots w.tick w.tables.tables w.links.forest w.resources in
-    let can = subst (λ (v : World). CanPut v c.args.entity c.args.cells c.args.fresh) (sym (seen_world c.self.view_is)) c.requires.can in
+    let can = inside_tested c.self.view_is (λ v. put v c.args.entity c.args.cells c.args.fresh) c.requires.can in
     let took = took w.slots.state c.args.entity can.next in
     let row = row_for c.args.entity c.args.cells in
     let answer : ◌≡◌ {A = Outcome Entity SlotState} (Ok (c.args.entity, taken_slots w.slots.state (take_of w.slots.state))) (Ok (c.take_reserved-entity.result, c.take_reserved-entity.new.self.state)) = sym took ∙ c.take_reserved-entity.ensures.answer in

@@ -1,9 +1,10 @@
 use Rattle.std.proofs.Common.{subst}
 use Rattle.std.specs.Prelude.{IfSome}
 use Rattle.std.proofs.lemmas.Result.{on_ok_weaker}
+use Rattle.scene_links.specs.Forest.{link_in}
 use Rattle.scene_links.specs.Room.{HasRoom as HasRoomForChild}
 use Rattle.scene_model.specs.World.{World}
-use Rattle.scene_model.specs.Can.{CanHaveLink}
+use Rattle.scene_model.proofs.CanParts.{CanHaveLink, set_link as link_decides}
 use Rattle.scene_model.proofs.LinkKeeps.{live_alone}
 use Rattle.scene_model.proofs.Options.{in_some}
 use Rattle.scene_world.proofs.Room.{holds_wider}
@@ -28,6 +29,7 @@ pub returns-clause-there : goal.returns-clause-there
 returns-clause-there c = λ held.
     let w = c.args.self.now.world in
     let valid = c.laws_hold.ensures.valid in
+    let can = (link_decides w c.args.entity (link_in w.children c.args.entity) c.args.link).0 c.requires in
     c.reserve_link.ensures.there
     (link_ready c.args.self.now.room.lists w.children c.args.entity c.args.link valid.links.forest
-    (λ l is. live_alone w c.args.entity l.0 valid c.requires.live (in_some (CanHaveLink w c.args.entity) c.args.link l c.requires.good is).room.live) held.links)
+    (λ l is. live_alone w c.args.entity l.0 valid can.live (in_some (CanHaveLink w c.args.entity) c.args.link l can.good is).room.live) held.links)

@@ -1,4 +1,4 @@
-use Rattle.std.proofs.Common.{◌∙◌, ap, cond, sym, subst, Option}
+use Rattle.std.proofs.Common.{◌≡◌, ◌∙◌, true, ap, cond, sym, subst, Option}
 use Rattle.std.specs.Option.{IsSome}
 use Rattle.scene_kinds.specs.declared.cell.Cell.{Cell}
 use Rattle.scene_kinds.proofs.Maps.{ties_itself}
@@ -7,7 +7,7 @@ use Rattle.scene_resources.proofs.ResourceLaws.{restored_cells}
 use Rattle.scene_model.specs.World.{World}
 use Rattle.scene_model.specs.Commands.{with_resources}
 use Rattle.scene_model.specs.Raw.{set_resource}
-use Rattle.scene_model.specs.Can.{CanSetResource}
+use Rattle.scene_model.specs.Can.{can_set_resource}
 use Rattle.scene_model.specs.Valid.{IsValid}
 use Rattle.scene_model.proofs.ResourceBack.{resources_come_back}
 use Rattle.scene_world.specs.Stored.{world_of}
@@ -25,7 +25,7 @@ pub invariant_of-self : goal.invariant_of-self
 invariant_of-self c =
     let w = c.self.inside in
     let old : World = world_of w.schema w.slots w.tick w.tables.tables w.links.forest w.resources in
-    let can = subst (λ (v : World). CanSetResource v c.args.name.now (cell_of v.resources c.args.name.now) c.args.cell) (sym (seen_world c.self.view_is)) c.requires.can in
+    let can = subst (λ (v : World). can_set_resource v c.args.name.now (cell_of v.resources c.args.name.now) c.args.cell ≡ true) (sym (seen_world c.self.view_is)) c.requires.can in
     record {
       valid = subst (λ (r : NamedCells). IsValid (with_resources old r)) (sym c.restore_reserved.ensures.done)
           ((resources_come_back c.args.name.now (cell_of w.resources.cells c.args.name.now) c.args.cell).keeps old c.self.invariant.valid can);

@@ -2,12 +2,12 @@ use Rattle.std.proofs.Common.{◌≡◌, ◌∙◌, length, ap, sym, subst, arit
 use Rattle.scene_table.specs.Tables.{rows_at, without_row, with_row_back}
 use Rattle.scene_model.specs.World.{World, IsHomeOf}
 use Rattle.scene_model.specs.Raw.{cells_of, shift_row}
-use Rattle.scene_model.specs.Can.{CanMove}
+use Rattle.scene_model.proofs.CanParts.{move}
 use Rattle.scene_model.specs.Valid.{IsValid}
 use Rattle.scene_model.proofs.MoveKeeps.{with_tables}
 use Rattle.scene_world.specs.Room.{room_of}
 use Rattle.scene_world.specs.Stored.{world_of}
-use Rattle.scene_world.proofs.Room.{seen_world, inside, held_inside}
+use Rattle.scene_world.proofs.Room.{seen_world, inside, inside_tested, held_inside}
 use Rattle.scene_world.proofs.Shifts.{last_place, moved_row, moved_target, may_move, room_of_shift, shift_made, shift_valid}
 use Rattle.scene_world.proofs.world.raw.WorldRawChanges.shift_row_reserved.Goals as goal
 
@@ -17,7 +17,7 @@ move_row-requires-clause-moves c = λ r at.
     let old : World = world_of w.schema w.slots w.tick w.tables.tables w.links.forest w.resources in
     let h = c.home_of_live-home.result in
     let home = inside c.self.view_is (λ v. IsHomeOf v c.args.entity h) c.home_of_live-home.ensures.row in
-    let can = inside c.self.view_is (λ v. CanMove v (cells_of v c.args.entity) c.args.kind c.args.cell c.args.inward) c.requires.moves in
+    let can = inside_tested c.self.view_is (λ v. move v (cells_of v c.args.entity) c.args.kind c.args.cell c.args.inward) c.requires.moves in
     let held = held_inside c.self.view_is (λ v. shift_row v c.args.entity c.args.kind c.args.cell c.args.inward) c.requires.room in
     let room = room_of_shift old c.args.entity h c.args.kind c.args.cell c.args.inward c.self.invariant.valid home c.requires.low can (room_of w.slots w.tables w.links w.resources) held in
     let target = moved_target old c.args.entity h c.args.kind c.args.cell c.args.inward c.self.invariant.valid home c.requires.low can in
@@ -34,7 +34,7 @@ after c =
     let old : World = world_of w.schema w.slots w.tick w.tables.tables w.links.forest w.resources in
     let h = c.home_of_live-home.result in
     let home = inside c.self.view_is (λ v. IsHomeOf v c.args.entity h) c.home_of_live-home.ensures.row in
-    let can = inside c.self.view_is (λ v. CanMove v (cells_of v c.args.entity) c.args.kind c.args.cell c.args.inward) c.requires.moves in
+    let can = inside_tested c.self.view_is (λ v. move v (cells_of v c.args.entity) c.args.kind c.args.cell c.args.inward) c.requires.moves in
     let row = moved_row old c.args.entity h c.args.kind c.args.cell c.args.inward c.self.invariant.valid home c.requires.low can in
     let target = moved_target old c.args.entity h c.args.kind c.args.cell c.args.inward c.self.invariant.valid home c.requires.low can in
     let last = c.len-last.ensures ∙ ap (λ m. length (rows_at w.tables.tables m)) (c.moved_mask.ensures ∙ target) in
@@ -47,7 +47,7 @@ invariant_of-self c =
     let old : World = world_of w.schema w.slots w.tick w.tables.tables w.links.forest w.resources in
     let h = c.home_of_live-home.result in
     let home = inside c.self.view_is (λ v. IsHomeOf v c.args.entity h) c.home_of_live-home.ensures.row in
-    let can = inside c.self.view_is (λ v. CanMove v (cells_of v c.args.entity) c.args.kind c.args.cell c.args.inward) c.requires.moves in
+    let can = inside_tested c.self.view_is (λ v. move v (cells_of v c.args.entity) c.args.kind c.args.cell c.args.inward) c.requires.moves in
     record {
       valid = subst IsValid (after c) (shift_valid old c.args.entity h c.args.kind c.args.cell c.args.inward c.self.invariant.valid home c.requires.low can);
       homes = omega (arith, c.move_row.ensures.homes, c.self.invariant.homes);

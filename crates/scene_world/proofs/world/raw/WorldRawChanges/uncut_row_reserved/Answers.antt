@@ -13,14 +13,14 @@ use Rattle.scene_table.proofs.Swaps.{length-put_back}
 use Rattle.scene_archetypes.specs.Archetypes.{HasRoomOf}
 use Rattle.scene_model.specs.World.{World}
 use Rattle.scene_model.specs.Raw.{uncut_row}
-use Rattle.scene_model.specs.Can.{CanUncut}
+use Rattle.scene_model.proofs.CanParts.{uncut}
 use Rattle.scene_model.specs.Valid.{IsValid}
 use Rattle.scene_model.proofs.CutBack.{index_unused, uncut_nowhere, uncut_alone, cut_rows_come_back}
 use Rattle.scene_model.proofs.GoodCells.{row_of_good}
 use Rattle.scene_model.proofs.Relinks.{back_relinks}
 use Rattle.scene_model.proofs.RowKinds.{row_kinds_low}
 use Rattle.scene_world.specs.Stored.{world_of}
-use Rattle.scene_world.proofs.Room.{seen_world, held_inside}
+use Rattle.scene_world.proofs.Room.{seen_world, inside_tested, held_inside}
 use Rattle.scene_world.proofs.SlotHomes.{no_more_unreleased}
 use Rattle.scene_world.proofs.world.raw.WorldRawChanges.uncut_row_reserved.Goals as goal
 
@@ -28,14 +28,14 @@ pub mask-mask-requires-clause-below : goal.mask-mask-requires-clause-below
 mask-mask-requires-clause-below c =
     let w = c.self.inside in
     let old : World = world_of w.schema w.slots w.tick w.tables.tables w.links.forest w.resources in
-    let can = subst (λ (v : World). CanUncut v c.args.entity c.args.place c.args.cells c.args.link c.args.retired) (sym (seen_world c.self.view_is)) c.requires.can in
+    let can = inside_tested c.self.view_is (λ v. uncut v c.args.entity c.args.place c.args.cells c.args.link c.args.retired) c.requires.can in
     row_kinds_low w.schema (mask_of c.args.cells) (row_for c.args.entity c.args.cells) (row_of_good old c.args.entity c.args.cells can.good) c.self.invariant.valid.schema.few
 
 pub put_back-requires-clause-room : goal.put_back-requires-clause-room
 put_back-requires-clause-room c =
     let w = c.self.inside in
     let old : World = world_of w.schema w.slots w.tick w.tables.tables w.links.forest w.resources in
-    let can = subst (λ (v : World). CanUncut v c.args.entity c.args.place c.args.cells c.args.link c.args.retired) (sym (seen_world c.self.view_is)) c.requires.can in
+    let can = inside_tested c.self.view_is (λ v. uncut v c.args.entity c.args.place c.args.cells c.args.link c.args.retired) c.requires.can in
     let held = held_inside c.self.view_is (λ v. uncut_row v c.args.entity c.args.place c.args.cells c.args.link c.args.retired) c.requires.room in
     let row = row_for c.args.entity c.args.cells in
     let m = mask_of c.args.cells in
@@ -49,21 +49,21 @@ pub put_back-requires-clause-absent : goal.put_back-requires-clause-absent
 put_back-requires-clause-absent c =
     let w = c.self.inside in
     let old : World = world_of w.schema w.slots w.tick w.tables.tables w.links.forest w.resources in
-    let can = subst (λ (v : World). CanUncut v c.args.entity c.args.place c.args.cells c.args.link c.args.retired) (sym (seen_world c.self.view_is)) c.requires.can in
+    let can = inside_tested c.self.view_is (λ v. uncut v c.args.entity c.args.place c.args.cells c.args.link c.args.retired) c.requires.can in
     index_unused old c.args.entity c.args.retired c.self.invariant.valid (uncut_nowhere old c.args.entity c.args.place c.args.cells c.args.link c.args.retired c.self.invariant.valid can) can.slot
 
 pub relink_reserved-requires-clause-can : goal.relink_reserved-requires-clause-can
 relink_reserved-requires-clause-can c =
     let w = c.self.inside in
     let old : World = world_of w.schema w.slots w.tick w.tables.tables w.links.forest w.resources in
-    let can = subst (λ (v : World). CanUncut v c.args.entity c.args.place c.args.cells c.args.link c.args.retired) (sym (seen_world c.self.view_is)) c.requires.can in
+    let can = inside_tested c.self.view_is (λ v. uncut v c.args.entity c.args.place c.args.cells c.args.link c.args.retired) c.requires.can in
     back_relinks old c.args.entity c.args.place c.args.cells c.args.link c.args.retired (c.in-Some.parent, c.in-Some.at) c.self.invariant.valid can c.in-Some.is
 
 pub relink_reserved-requires-clause-room : goal.relink_reserved-requires-clause-room
 relink_reserved-requires-clause-room c =
     let w = c.self.inside in
     let old : World = world_of w.schema w.slots w.tick w.tables.tables w.links.forest w.resources in
-    let can = subst (λ (v : World). CanUncut v c.args.entity c.args.place c.args.cells c.args.link c.args.retired) (sym (seen_world c.self.view_is)) c.requires.can in
+    let can = inside_tested c.self.view_is (λ v. uncut v c.args.entity c.args.place c.args.cells c.args.link c.args.retired) c.requires.can in
     let held = held_inside c.self.view_is (λ v. uncut_row v c.args.entity c.args.place c.args.cells c.args.link c.args.retired) c.requires.room in
     let none = (uncut_alone old c.args.entity c.args.place c.args.cells c.args.link c.args.retired c.self.invariant.valid can).0 in
     let joined = subst (λ l. HoldsLinks w.links.room (with_link w.links.forest c.args.entity l)) c.in-Some.is held.links in
@@ -74,7 +74,7 @@ pub invariant_of-self : goal.invariant_of-self
 invariant_of-self c =
     let w = c.self.inside in
     let old : World = world_of w.schema w.slots w.tick w.tables.tables w.links.forest w.resources in
-    let can = subst (λ (v : World). CanUncut v c.args.entity c.args.place c.args.cells c.args.link c.args.retired) (sym (seen_world c.self.view_is)) c.requires.can in
+    let can = inside_tested c.self.view_is (λ v. uncut v c.args.entity c.args.place c.args.cells c.args.link c.args.retired) c.requires.can in
     let row = row_for c.args.entity c.args.cells in
     let tables = c.put_back.ensures.tables in
     let none = (uncut_alone old c.args.entity c.args.place c.args.cells c.args.link c.args.retired c.self.invariant.valid can).0 in
@@ -83,7 +83,7 @@ invariant_of-self c =
     let is : uncut_row old c.args.entity c.args.place c.args.cells c.args.link c.args.retired ≡ world_of w.schema c.unrelease.new.self w.tick c.put_back.new.self.tables c.relink_reserved.new.self.forest w.resources =
     λ i. record { schema = w.schema; slots = sym c.unrelease.ensures.state i; tick = w.tick; tables = sym tables i; children = links i; resources = w.resources.cells } in
     record {
-      valid = subst IsValid is ((cut_rows_come_back c.args.entity c.args.place c.args.cells c.args.link c.args.retired).1.keeps old c.self.invariant.valid can);
+      valid = subst IsValid is ((cut_rows_come_back c.args.entity c.args.place c.args.cells c.args.link c.args.retired).1.keeps old c.self.invariant.valid ((uncut old c.args.entity c.args.place c.args.cells c.args.link c.args.retired).1 can));
       homes = omega (arith, no_more_unreleased w.slots.state c.args.entity c.args.retired, ap (λ (s : SlotState). length s.generations) c.unrelease.ensures.state, c.put_back.ensures.homes, c.self.invariant.homes);
     }
 
@@ -91,7 +91,7 @@ pub returns-in-Some-clause-world : goal.returns-in-Some-clause-world
 returns-in-Some-clause-world c =
     let w = c.self.inside in
     let old : World = world_of w.schema w.slots w.tick w.tables.tables w.links.forest w.resources in
-    let can = subst (λ (v : World). CanUncut v c.args.entity c.args.place c.args.cells c.args.link c.args.retired) (sym (seen_world c.self.view_is)) c.requires.can in
+    let can = inside_tested c.self.view_is (λ v. uncut v c.args.entity c.args.place c.args.cells c.args.link c.args.retired) c.requires.can in
     let row = row_for c.args.entity c.args.cells in
     let tables = c.put_back.ensures.tables in
     let none = (uncut_alone old c.args.entity c.args.place c.args.cells c.args.link c.args.retired c.self.invariant.valid can).0 in
@@ -105,7 +105,7 @@ pub invariant_of-self-in-None : goal.invariant_of-self-in-None
 invariant_of-self-in-None c =
     let w = c.self.inside in
     let old : World = world_of w.schema w.slots w.tick w.tables.tables w.links.forest w.resources in
-    let can = subst (λ (v : World). CanUncut v c.args.entity c.args.place c.args.cells c.args.link c.args.retired) (sym (seen_world c.self.view_is)) c.requires.can in
+    let can = inside_tested c.self.view_is (λ v. uncut v c.args.entity c.args.place c.args.cells c.args.link c.args.retired) c.requires.can in
     let row = row_for c.args.entity c.args.cells in
     let tables = c.put_back.ensures.tables in
     let none = (uncut_alone old c.args.entity c.args.place c.args.cells c.args.link c.args.retired c.self.invariant.valid can).0 in
@@ -113,7 +113,7 @@ invariant_of-self-in-None c =
     let is : uncut_row old c.args.entity c.args.place c.args.cells c.args.link c.args.retired ≡ world_of w.schema c.unrelease.new.self w.tick c.put_back.new.self.tables w.links.forest w.resources =
     λ i. record { schema = w.schema; slots = sym c.unrelease.ensures.state i; tick = w.tick; tables = sym tables i; children = links i; resources = w.resources.cells } in
     record {
-      valid = subst IsValid is ((cut_rows_come_back c.args.entity c.args.place c.args.cells c.args.link c.args.retired).1.keeps old c.self.invariant.valid can);
+      valid = subst IsValid is ((cut_rows_come_back c.args.entity c.args.place c.args.cells c.args.link c.args.retired).1.keeps old c.self.invariant.valid ((uncut old c.args.entity c.args.place c.args.cells c.args.link c.args.retired).1 can));
       homes = omega (arith, no_more_unreleased w.slots.state c.args.entity c.args.retired, ap (λ (s : SlotState). length s.generations) c.unrelease.ensures.state, c.put_back.ensures.homes, c.self.invariant.homes);
     }
 
@@ -121,7 +121,7 @@ pub returns-in-None-clause-world : goal.returns-in-None-clause-world
 returns-in-None-clause-world c =
     let w = c.self.inside in
     let old : World = world_of w.schema w.slots w.tick w.tables.tables w.links.forest w.resources in
-    let can = subst (λ (v : World). CanUncut v c.args.entity c.args.place c.args.cells c.args.link c.args.retired) (sym (seen_world c.self.view_is)) c.requires.can in
+    let can = inside_tested c.self.view_is (λ v. uncut v c.args.entity c.args.place c.args.cells c.args.link c.args.retired) c.requires.can in
     let row = row_for c.args.entity c.args.cells in
     let tables = c.put_back.ensures.tables in
     let none = (uncut_alone old c.args.entity c.args.place c.args.cells c.args.link c.args.retired c.self.invariant.valid can).0 in

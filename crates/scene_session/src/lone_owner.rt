@@ -1,0 +1,191 @@
+//! An owner without a lock: an editor that no other thread can reach.
+ghost use Rattle.std.specs.Prelude.{◌≡◌, ◌≢◌, ◌≤◌, ◌<◌, ◌+◌, ◌++◌, ◌∷◌, [], length, IfOk, IfErr, MatchResult, Some, None};
+ghost use Rattle.scene_kinds.specs.Answers.{refusal_of};
+ghost use Rattle.scene_kinds.specs.declared.fault.Fault.TheVariants.{HistoryFull, NoMemory};
+ghost use Rattle.scene_session.specs.Calls.{Refused, asked, queue_count, told};
+ghost use Rattle.scene_session.specs.State.{stopping_at};
+ghost use Rattle.scene_session.specs.Whole.{whole_of};
+ghost use Rattle.scene_session.specs.Owner.{opening_owner, performed, whole_at};
+
+use crate::call::{Call, Reply, Stopped};
+use crate::entry::Entry;
+use crate::log::Log;
+use crate::owner::SessionOwner;
+use crate::query::EditorQuery;
+use crate::step::{call_editor, call_editor_with};
+use scene_kinds::{Fault, Refusal};
+use scene_undo::Editor;
+use std::alloc::Global;
+use std::marker::Model;
+use std::snapshot::Snapshot;
+use std::thread::Threads;
+
+/// Eight sessions of an editor that has no lock, which no other thread can reach (docs/SESSIONS.md, "One owner").
+/// Nobody can read its calls, so it keeps none and counts them: clauses alone see them, and what the editor was before
+/// them.
+///
+/// Contracts see what those of each `SessionOwner` see.
+#[derive(Drop)]
+pub struct LoneOwner {
+    opening: Snapshot<Editor>,
+    log: Log,
+    editor: Editor,
+    /// Whose turn it is.
+    session: u32,
+    /// How many calls there may be, and for how many more there is room.
+    limit: u64,
+    room: u64,
+}
+
+impl Model for LoneOwner {
+    ghost use Rattle.std.specs.Prelude.{◌≡◌, ◌+◌, length};
+    ghost use Rattle.scene_session.specs.History.{replay};
+    ghost use Rattle.scene_session.specs.Whole.{whole_of};
+    ghost use Rattle.scene_session.specs.OwnerCodes.{owner_code};
+    ghost use Rattle.scene_session.specs.Owner.{OwnerState, next};
+
+    ghost Value = { OwnerState };
+
+    ghost coded = { owner_code };
+
+    ghost view = { λ h. record { opening = whole_of h.opening.value; limit = h.limit; history = h.log.calls; session = h.session } };
+
+    ghost invariant = { λ h. (whole_of h.editor ≡ replay next (whole_of h.opening.value) h.log.calls)
+        × (h.room + length h.log.calls ≡ h.limit) };
+}
+
+/// Enters a call with its reply, which it gives. Where there is none, no memory was found: the call is handed back.
+fn enter(
+    log: &mut Log,
+    room: &mut u64,
+    session: u32,
+    call: Call,
+    reply: Option<Reply>,
+) -> Result<Reply, Stopped>
+    requires { 1 ≤ room.old }
+    ensures entered { IfOk result (λ r. (reply ≡ Some r)
+        × (log.new.calls ≡ log.old.calls ++ record { session = session; call = asked call; answer = told r } ∷ [])) }
+    ensures stopped { IfErr result (λ x. (reply ≡ None) × (log.new.calls ≡ log.old.calls) × (x.call ≡ call)
+        × (x.refusal ≡ refusal_of NoMemory)) }
+    ensures room { MatchResult result (λ _. room.new + 1 ≡ room.old) (λ _. room.new ≡ room.old) }
+{
+    match reply {
+        Some(reply) => {
+            let entry = Entry {
+                session,
+                call,
+                reply,
+            };
+            *log = log.and(&entry);
+            *room -= 1;
+            let Entry { reply, .. } = entry;
+            Ok(reply)
+        }
+        None => {
+            let refusal = Refusal::from(Fault::NoMemory);
+            Err(Stopped { refusal, call })
+        }
+    }
+}
+
+/// Hands back a call for which there is no room.
+fn turned_back(limit: u64, call: Call) -> Stopped
+    ensures { (result.call ≡ call) × (result.refusal ≡ refusal_of (HistoryFull limit)) }
+{
+    Stopped {
+        refusal: Refusal::from(Fault::HistoryFull(limit)),
+        call,
+    }
+}
+
+impl LoneOwner {
+    /// An owner of the sessions 0 to 7 of this editor, with no calls yet; it is the turn of session 0. It takes no
+    /// memory, and its calls take none but what the editor takes. So there may be as many as a counter holds:
+    /// `u64::MAX` is no limit but the counter's.
+    pub fn new(editor: Editor, limit: u64) -> LoneOwner
+        requires { 1 ≤ limit }
+        ensures { result ≡ opening_owner (whole_of editor) limit }
+    {
+        LoneOwner {
+            opening: Snapshot::of(&editor),
+            log: Log::new(),
+            editor,
+            session: 0,
+            limit,
+            room: limit,
+        }
+    }
+
+    /// Performs a call of the session whose turn it is, on this thread.
+    pub(crate) fn perform(&mut self, call: Call) -> Result<Reply, Stopped>
+        requires { queue_count call ≤ 4294967295 }
+        ensures done { IfOk result (λ reply. performed self.old (asked call) ≡ (self.new, told reply)) }
+        ensures full { IfErr result (λ x. x.refusal ≢ refusal_of NoMemory → performed self.old (asked call) ≡ (self.new, Refused x.refusal)) }
+        ensures stopped { IfErr result (λ x. (self.new ≡ self.old) × (x.call ≡ call)
+            × (x.refusal ≡ stopping_at self.old.limit (length self.old.history))) }
+        ensures room { IfErr result (λ x. x.refusal.fault ≡ NoMemory → length self.old.history < self.old.limit) }
+    {
+        if self.room == 0 {
+            return Err(turned_back(self.limit, call));
+        }
+        let reply = call_editor(&mut self.editor, &call);
+        enter(&mut self.log, &mut self.room, self.session, call, reply)
+    }
+
+    /// The same, with the systems of an advance on as many threads as there are workers.
+    pub(crate) fn perform_with<R: Threads + Sync>(
+        &mut self,
+        rt: &R,
+        call: Call,
+        workers: usize,
+    ) -> Result<Reply, Stopped>
+        requires { queue_count call ≤ 4294967295 }
+        ensures done { IfOk result (λ reply. performed self.old (asked call) ≡ (self.new, told reply)) }
+        ensures full { IfErr result (λ x. x.refusal ≢ refusal_of NoMemory → performed self.old (asked call) ≡ (self.new, Refused x.refusal)) }
+        ensures stopped { IfErr result (λ x. (self.new ≡ self.old) × (x.call ≡ call)
+            × (x.refusal ≡ stopping_at self.old.limit (length self.old.history))) }
+        ensures room { IfErr result (λ x. x.refusal.fault ≡ NoMemory → length self.old.history < self.old.limit) }
+    {
+        if self.room == 0 {
+            return Err(turned_back(self.limit, call));
+        }
+        let reply = call_editor_with(rt, &mut self.editor, &call, workers);
+        enter(&mut self.log, &mut self.room, self.session, call, reply)
+    }
+
+    /// Asks a question of the editor.
+    pub(crate) fn ask<Q: EditorQuery>(&self, alloc: Global, query: &Q) -> Q::Found
+        ensures { Q.finds query.now (whole_at self.now) result }
+    {
+        query.find(alloc, &self.editor)
+    }
+
+    /// The editor as it is after these calls. It takes no memory.
+    pub fn editor(&self) -> &Editor
+        ensures { whole_of result.now ≡ whole_at self.now }
+    {
+        &self.editor
+    }
+}
+
+impl SessionOwner for LoneOwner {
+    ghost state = { λ owner. owner };
+
+    fn turn_to(&mut self, session: u32) {
+        self.session = session;
+    }
+
+    fn session(&self) -> u32 {
+        self.session
+    }
+
+    fn limit(&self) -> u64 {
+        self.limit
+    }
+
+    fn call_count(&self) -> u64 {
+        self.limit - self.room
+    }
+
+    fn close(self) {}
+}
