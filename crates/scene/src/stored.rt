@@ -3,7 +3,8 @@ use crate::ending::Ending;
 use crate::store_looks::{settings_of, told_store};
 use scene_app::AppFault;
 use scene_replay::{CompactFault, compacted};
-use scene_store::{FileLines, StoreFault, StoredLines, Unknown, Version};
+use scene_store::{Alter, FileLines, Store, StoreFault, StoredLines, Unknown, Version};
+use std::alloc::Global;
 
 /// Why a store wasn't compacted.
 enum Uncompacted {
@@ -25,17 +26,17 @@ fn line_count(lines: &[u8]) -> usize {
 }
 
 /// Puts fewer lines in the place of those of a store that is open. It gives how many lines there were and are.
-fn compact_over(
-    rt: &HostRuntime,
-    store: &mut FileLines<Unknown>,
+fn compact_over<S: Alter + Drop>(
+    alloc: Global,
+    store: &mut Store<S>,
 ) -> Result<(usize, usize), Uncompacted> {
-    let StoredLines { version, text } = match store.lines(rt.alloc()) {
+    let StoredLines { version, text } = match store.lines(alloc) {
         Ok(lines) => lines,
         Err(fault) => return Err(Uncompacted::Store(fault)),
     };
     let before = line_count(text.as_slice());
     let (settings, again) = (settings_of(version), settings_of(Version::NEWEST));
-    match compacted(rt.alloc(), settings, text.as_slice(), again, usize::MAX) {
+    match compacted(alloc, settings, text.as_slice(), again, usize::MAX) {
         Ok(Some(fewer)) => match store.replace(fewer.as_slice()) {
             // The head, which each store has, is a line too.
             Ok(()) => Ok((before, line_count(fewer.as_slice()).saturating_add(1))),
@@ -79,7 +80,7 @@ pub fn compact_store(rt: &HostRuntime, path: &str) -> Ending {
         Ok(store) => store,
         Err(fault) => return told_store(rt, path, fault),
     };
-    let counts = compact_over(rt, &mut store);
+    let counts = compact_over(rt.alloc(), &mut store);
     let ending = tell_compacted(rt, path, counts);
     closed(rt, path, store, ending)
 }

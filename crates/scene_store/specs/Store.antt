@@ -144,6 +144,10 @@ module _ {S : Type 0} (g : Ghosts S) where
   abbrev pub Keeps : Store S → List ℕ → Type 0
   Keeps store text = HasCleanDisk (within store) → (batches : List (List ℕ)) × Holds (within store) batches × (concat batches ≡ text)
 
+  -- The disk always returns what was written.
+  abbrev pub IsAlwaysClean : Type 0
+  IsAlwaysClean = (store : Store S) → HasCleanDisk (within store)
+
   -- What the one kept the other keeps.
   abbrev pub KeepsOn : Store S → Store S → Type 0
   KeepsOn old new = (text : List ℕ) → Keeps old text → Keeps new text

@@ -1,10 +1,10 @@
 //! A copy of a store.
 use crate::fault::{OpenFault, StoreFault};
-use crate::file_lines::{FileLines, open_fault};
+use crate::file_lines::{FileLines, connection};
 use crate::look::{beside, look, stands, unopened};
 use crate::rows::StoredLines;
 use crate::store::Store;
-use sqlite::{Connection, Unknown};
+use sqlite::Unknown;
 use std::fs::{self, OpenOptions};
 use std::os::unix::fs::{OpenOptionsExt, PermissionsExt};
 
@@ -38,10 +38,7 @@ fn make_empty(rt: &HostRuntime, path: &str, mode: u32) -> Result<(), StoreFault>
 
 /// Writes the text of a store into an empty file, as a store of its own.
 fn write_copy(rt: &HostRuntime, path: &str, text: &[u8]) -> Result<(), StoreFault> {
-    let conn = match Connection::open_from(rt, path, true, Unknown) {
-        Ok(conn) => conn,
-        Err((error, _)) => return Err(open_fault(rt, path, error)),
-    };
+    let conn = connection(rt, path, Unknown)?;
     let copy: FileLines<Unknown> = Store::filled(conn, text)?;
     copy.close(rt, path)
 }

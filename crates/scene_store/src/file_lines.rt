@@ -1,6 +1,8 @@
 //! A store in a file.
 ghost use Rattle.std.specs.Prelude.{◌≡◌, IfOk};
-ghost use Rattle.sqlite.specs.Files.{over_files};
+ghost use Rattle.sqlite.specs.Files.{IsOpened, file_state, over_files};
+ghost use Rattle.sqlite.specs.Start.{FindsIn};
+ghost use Rattle.sqlite.specs.State.{HasCleanDisk};
 ghost use Rattle.sqlite.specs.WalFiles.{image_at};
 ghost use Rattle.scene_store.specs.Files.{LeavesAlone, OpensOn};
 ghost use Rattle.scene_store.specs.Store.{IsStore};
@@ -9,7 +11,7 @@ use crate::fault::{OpenFault, StoreFault};
 use crate::look::{beside, found, look, why_unopened};
 use crate::rows::StoredLines;
 use crate::store::Store;
-use sqlite::{Connection, Error as SqlError, FileFrom, FileStore, Files, Start};
+use sqlite::{Connection, FileFrom, FileStore, Files, Start};
 use sqlite_disk::Disk;
 use std::fs;
 
@@ -46,9 +48,19 @@ pub fn lines_at(rt: &HostRuntime, path: &str) -> Result<StoredLines, StoreFault>
     look(rt, path)?.lines(rt.alloc())
 }
 
-/// The database's fault at an open of the file at a path.
-pub(crate) fn open_fault(rt: &HostRuntime, path: &str, error: SqlError) -> StoreFault {
-    StoreFault::of_open(error, why_unopened(rt, path))
+/// A connection to the database in the file at a path, which is made where there is none.
+pub(crate) fn connection<S: Start>(
+    rt: &HostRuntime,
+    path: &str,
+    start: S,
+) -> Result<Connection<FileStore<FileFrom<S>>>, StoreFault>
+    ensures opened { IfOk result (λ conn. HasCleanDisk (file_state conn) → IsOpened conn) }
+    ensures found { IfOk result (λ conn. HasCleanDisk (file_state conn) → FindsIn (image_at S.Start) (file_state conn)) }
+{
+    match Connection::open_from(rt, path, true, start) {
+        Ok(conn) => Ok(conn),
+        Err((error, _)) => Err(StoreFault::of_open(error, why_unopened(rt, path))),
+    }
 }
 
 impl<S: Start> FileLines<S> {
@@ -71,9 +83,9 @@ impl<S: Start> FileLines<S> {
             Ok(()) => {}
             Err(fault) => return Err(fault),
         }
-        match Connection::open_from(rt, path, true, start) {
+        match connection(rt, path, start) {
             Ok(conn) => Store::over(conn),
-            Err((error, _)) => Err(open_fault(rt, path, error)),
+            Err(fault) => Err(fault),
         }
     }
 
@@ -87,9 +99,9 @@ impl<S: Start> FileLines<S> {
             Ok(_) => {}
             Err(fault) => return Err(fault),
         }
-        match Connection::open_from(rt, path, true, start) {
+        match connection(rt, path, start) {
             Ok(conn) => Store::over_store(conn),
-            Err((error, _)) => Err(open_fault(rt, path, error)),
+            Err(fault) => Err(fault),
         }
     }
 

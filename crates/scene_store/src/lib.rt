@@ -19,6 +19,6 @@ pub use fault::{OpenFault, StoreFault, StoreFileFault};
 pub use file_lines::{FileLines, lines_at};
 pub use rows::StoredLines;
 pub use snapshot::Snapshot;
-pub use sqlite::Unknown;
+pub use sqlite::{Alter, Unknown};
 pub use store::Store;
 pub use version::Version;

@@ -9,7 +9,6 @@ ghost use Rattle.scene_store.specs.Head.{head_of, Begins};
 
 use crate::fault::{OpenFault, StoreFault};
 use crate::rows::StoredLines;
-use crate::schema::is_blank;
 use crate::store::Store;
 use sqlite::{Connection, FileStore, Files, Options};
 use sqlite_disk::{Disk, Memory};
@@ -71,17 +70,11 @@ impl Snapshot {
         ensures head { IfOk result (λ found. Begins found.text.items (head_of found.version)) }
     {
         let conn = connected(alloc, self)?;
-        let mut store = Store::over_store(conn)?;
-        store.lines(alloc)
+        Store::lines_over(conn, alloc)
     }
 
     /// The same, or nothing where the bytes hold a database that has nothing in it, or none yet.
     pub(crate) fn lines_if_any(&self, alloc: Global) -> Result<Option<StoredLines>, StoreFault> {
-        let conn = connected(alloc, self)?;
-        if is_blank(conn.schema()) {
-            return Ok(None);
-        }
-        let mut store = Store::over_store(conn)?;
-        Ok(Some(store.lines(alloc)?))
+        Store::lines_over_any(connected(alloc, self)?, alloc)
     }
 }

@@ -3,7 +3,7 @@ ghost use Rattle.std.specs.Prelude.{◌≡◌, ◌≢◌, ◌⊎◌, List, ℕ, 
 ghost use Rattle.sqlite.specs.Held.{state};
 ghost use Rattle.sqlite.specs.State.{HasCleanDisk, Survives};
 ghost use Rattle.scene_store.specs.Head.{head_line, head_of, Begins, MayRefuse};
-ghost use Rattle.scene_store.specs.Store.{no_schema, store_schema, IsStore, StartsIdle, within};
+ghost use Rattle.scene_store.specs.Store.{no_schema, store_schema, IsAlwaysClean, IsStore, StartsIdle, within};
 ghost use Rattle.scene_store.specs.Store.{Keeps, KeepsOn, KeepsIfOpen, LeavesMore, LeavesOthers};
 ghost use Rattle.scene_store.specs.declared.fault.StoreFault.TheVariants.{NotAStore};
 
@@ -68,6 +68,29 @@ impl<S: Alter + Drop> Store<S> {
         } else {
             Err(StoreFault::NotAStore)
         }
+    }
+
+    /// The lines of the store of a database that is one, outside a transaction, which is given up. It refuses what
+    /// `over_store` and `lines` refuse.
+    pub(crate) fn lines_over(conn: Connection<S>, alloc: Global) -> Result<StoredLines, StoreFault>
+        ensures found { IsAlwaysClean S.Store → IfOk result (λ found. (text : List ℕ)
+            → ((state S.Store conn).now.schema ≡ store_schema → Keeps S.Store (record { conn = conn }) text)
+            → found.text.items ≡ text) }
+        ensures head { IfOk result (λ found. Begins found.text.items (head_of found.version)) }
+    {
+        let mut store = Store::over_store(conn)?;
+        store.lines(alloc)
+    }
+
+    /// The same, or nothing where the database has nothing in it.
+    pub(crate) fn lines_over_any(
+        conn: Connection<S>,
+        alloc: Global,
+    ) -> Result<Option<StoredLines>, StoreFault> {
+        if is_blank(conn.schema()) {
+            return Ok(None);
+        }
+        Ok(Some(Store::lines_over(conn, alloc)?))
     }
 
     /// A store of these lines, in a database outside a transaction that has nothing in it: a copy of the store whose
