@@ -6,6 +6,7 @@ mod fault_tests;
 mod frame_tests;
 #[cfg(test)]
 mod kept_tests;
+#[cfg(test)]
 mod small;
 mod sweep;
 #[cfg(test)]
@@ -13,5 +14,4 @@ mod tree;
 #[cfg(test)]
 mod trials;
 
-pub use small::{editor_of, given, queue_of, submit_one};
 pub use sweep::{Sweep, sweep_away};

@@ -12,14 +12,17 @@ mod editors;
 mod frame_tests;
 #[cfg(test)]
 mod frames;
+#[cfg(test)]
 mod long_frame;
 #[cfg(test)]
 mod long_tests;
+#[cfg(test)]
 mod printed;
 #[cfg(test)]
 mod raw_tests;
 #[cfg(test)]
 mod refusal_tests;
+#[cfg(test)]
 mod scenes;
 #[cfg(test)]
 mod slot_tests;
@@ -28,7 +31,4 @@ mod steps;
 #[cfg(test)]
 mod trials;
 
-pub use editors::{Sweep, editor_of, given, queue_of, submit_one, sweep_away};
-pub use long_frame::{push_long, push_opening};
-pub use printed::{same_delta, text_of};
-pub use scenes::{A, T, cell, empty_world, first, number, one_number, one_tag, pushed, spawn};
+pub use editors::{Sweep, sweep_away};

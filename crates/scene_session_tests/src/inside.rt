@@ -2,8 +2,7 @@
 ghost use Rattle.std.specs.Prelude.{All};
 ghost use Rattle.scene_lock.specs.Pass.{IsPassOf};
 
-use crate::replays::number_of;
-use crate::scenes::spawning;
+use crate::frames::{number_of, spawning};
 use scene_kinds::Fault;
 use scene_lock::{Change, Pass, WordLock};
 use scene_lock_tests::Gate;

@@ -2,27 +2,12 @@
 ghost use Rattle.std.specs.Prelude.{◌≡◌, ◌≤◌, IfOk, length};
 ghost use Rattle.scene_session.specs.Calls.{queue_count};
 
-use crate::scenes::ALL;
-use scene_commands::Command;
-use scene_kinds::{Refusal, Value};
+use crate::frames::{ALL, number_of};
+use scene_kinds::Refusal;
 use scene_pass::rows;
 use scene_queue::Queue;
 use scene_session::{Call, Entry, Reply, State};
 use std::alloc::{AllocError, Global};
-
-/// The number that a frame of one spawn spawns.
-pub fn number_of(call: &Call) -> Option<i64> {
-    let Call::Submit(queues) = call else {
-        return None;
-    };
-    let Command::Spawn(components) = queues.first()?.commands().first()? else {
-        return None;
-    };
-    match components.as_slice().first()? {
-        (_, Value::Int(number)) => Some(*number),
-        _ => None,
-    }
-}
 
 /// How many frames of a session a history has, if the numbers that they spawn are 0, 1 and so on, and it has no other
 /// call.

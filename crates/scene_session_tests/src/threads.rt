@@ -3,7 +3,7 @@ ghost use Rattle.std.specs.Prelude.{◌≡◌, All, IfOk, IfSome, vec_len};
 ghost use Rattle.scene_lock.specs.Pass.{IsPassOf};
 ghost use Rattle.scene_session.specs.Session.{IsSame};
 
-use crate::scenes::{ALL, counting_schedule, spawning};
+use crate::frames::{ALL, counting_schedule, spawning};
 use scene_kinds::{Entity, Row};
 use scene_lock::{Pass, WordLock};
 use scene_session::{Reply, RowsOf, Session, State, Stopped};
