@@ -13,8 +13,7 @@ mod parts_tests;
 mod stream_tests;
 #[cfg(test)]
 mod text_tests;
+#[cfg(test)]
 mod texts;
 #[cfg(test)]
 mod world_tests;
-
-pub use texts::{MOVED, SMALL, fault_name, load_name, load_text_name};

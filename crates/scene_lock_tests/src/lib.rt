@@ -1,14 +1,13 @@
-//! The lock over a small state, by threads: what its contracts can't say.
+//! The lock over a small state, by threads: what tests of what its contracts can't say do. The tests stand in
+//! scene_session_tests, so that this crate isn't proved a second time for them.
 //!
-//! The state is a list of notes, each a session with a number. `worked` has a whole use by two sessions, alone; `threads` has
-//! many sessions at once; `inside` has looks and changes that wait within the lock for one another.
+//! The state is a list of notes, each a session with a number. `threads` has many sessions at once; `inside` has looks
+//! and changes that wait within the lock for one another, and `beside` what another session gets meanwhile.
 #![tactic(auto)]
 
 mod beside;
 mod inside;
 mod notes;
-#[cfg(test)]
-mod tests;
 mod threads;
 
 pub use beside::{

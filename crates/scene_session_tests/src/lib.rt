@@ -1,12 +1,14 @@
-//! Sessions over a state, alone and on threads: what their contracts can't say.
+//! Sessions over a state, alone and on threads, and their lock: what contracts can't say.
 //!
-//! `frames` has what sessions submit; `threads` has sessions that work at once, each on a thread of its own; `inside` has
-//! queries and changes that wait within the lock. For tests alone, `scenes` has small states and schedules, `replays`
-//! reads a history, and performs it again, and `workers` sees the threads of an advance.
+//! `frames` has what sessions submit; `threads` has sessions that work at once, each on a thread of its own; `inside`
+//! has queries and changes that wait within the lock. For tests alone, `scenes` has small states and schedules,
+//! `replays` reads a history, and performs it again, and `workers` sees the threads of an advance.
 #![tactic(auto)]
 
 mod frames;
 mod inside;
+#[cfg(test)]
+mod lock_tests;
 #[cfg(test)]
 mod replays;
 #[cfg(test)]

@@ -3,7 +3,7 @@ ghost use Rattle.std.specs.Prelude.{◌≡◌, ◌≤◌, [], IfOk};
 ghost use Rattle.scene_session.specs.State.{IsLegal};
 
 use crate::frames::{one_kind, rule, schedule};
-use scene_kinds::{Refusal, Text};
+use scene_kinds::{Refusal, Schema, Text};
 use scene_schedule::Schedule;
 use scene_session::State;
 use scene_systems::{Phase, Step, SystemRule};
@@ -31,8 +31,13 @@ pub fn two_systems(alloc: Global) -> Result<Schedule, Refusal> {
     schedule(alloc, phase)
 }
 
+/// A schedule of no phases for a world without kinds.
+pub fn schedule_of_other_kinds(alloc: Global) -> Result<Schedule, Refusal> {
+    Schedule::new(alloc, &Schema::new(alloc), Vec::new(alloc))
+}
+
 /// An editor of a world with that kind and no entities.
-fn empty_editor(alloc: Global) -> Result<Editor, Refusal> {
+pub fn empty_editor(alloc: Global) -> Result<Editor, Refusal> {
     let world = World::new(alloc, one_kind(alloc)?, 1024);
     Ok(Editor::new(alloc, world))
 }

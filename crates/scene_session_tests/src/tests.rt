@@ -5,7 +5,9 @@ ghost use Rattle.scene_session.specs.Session.{IsSame};
 
 use super::*;
 use crate::replays::{frames_in_order, play_again, shown};
-use crate::scenes::{crowded_editor, empty_schedule, empty_state, two_systems};
+use crate::scenes::{
+    crowded_editor, empty_editor, empty_schedule, empty_state, schedule_of_other_kinds, two_systems,
+};
 use crate::workers::{TwoWorkers, advance_past};
 use scene_commands::Command;
 use scene_kinds::{Entity, Fault, Refusal, Row, Value};
@@ -13,8 +15,8 @@ use scene_lock::{Pass, WordLock};
 use scene_lock_tests::Gate;
 use scene_pass::{CellName, rows};
 use scene_queue::Queue;
-use scene_session::{AddedSince, CursorNow, Entry, Reply, RowsOf, Session, State, Stopped};
-use scene_undo::{Cursor, Made};
+use scene_session::{AddedSince, Call, CursorNow, Entry, Reply, RowsOf, Session, State, Stopped};
+use scene_undo::{Cursor, Editor, Made};
 use std::alloc::{AllocError, Global};
 use std::mem::size_of;
 use std::process::Abort;
@@ -41,17 +43,23 @@ fn new_lock(
 /// What is tried on a state.
 #[derive(Clone, Copy)]
 enum Trial {
+    /// Its history, which may have two entries, becomes full.
+    Fills,
     /// Two sessions have shared it.
     WasShared,
     /// Each of so many sessions has entered so many frames of one spawn, in its order, and there is nothing else.
     HasFrames { sessions: u32, frames: u32 },
     /// Its history leads another state to the same.
     Replays,
+    /// It refuses to advance by a schedule for other kinds.
+    Refuses,
 }
 
 impl Trial {
-    fn run(self, rt: &impl Abort, alloc: Global, state: &State) {
+    fn run<R: Threads + Abort + Sync>(self, rt: &R, alloc: Global, state: &mut State) {
         match self {
+            Trial::Fills => history_fills(rt, state),
+            Trial::Refuses => state_refuses(rt, alloc, state),
             Trial::WasShared => was_shared(rt, state),
             Trial::HasFrames { sessions, frames } => {
                 has_frames(rt, alloc, state, sessions, frames)
@@ -62,8 +70,9 @@ impl Trial {
 }
 
 /// Tries a state, and drops it, which is dear to prove.
-fn try_state(rt: &impl Abort, alloc: Global, state: State, trial: Trial) {
-    trial.run(rt, alloc, &state);
+fn try_state<R: Threads + Abort + Sync>(rt: &R, alloc: Global, state: State, trial: Trial) {
+    let mut state = state;
+    trial.run(rt, alloc, &mut state);
 }
 
 /// What a call came to.
@@ -71,14 +80,67 @@ fn try_state(rt: &impl Abort, alloc: Global, state: State, trial: Trial) {
 enum Told {
     Undone,
     Redone,
+    Refused,
 }
 
 /// Whether a reply tells just that.
 fn tells(reply: Result<Reply, Stopped>, told: Told) -> bool {
     match (&reply, told) {
-        (Ok(Reply::Undone), Told::Undone) | (Ok(Reply::Redone), Told::Redone) => true,
+        (Ok(Reply::Undone), Told::Undone)
+        | (Ok(Reply::Redone), Told::Redone)
+        | (Ok(Reply::Refused(_)), Told::Refused) => true,
         _ => false,
     }
+}
+
+/// Whether an undo is stopped, and handed back, since there are two entries.
+fn undo_is_stopped(state: &mut State) -> bool {
+    match state.perform(0, Call::Undo) {
+        Ok(_) => false,
+        Err(stopped) => {
+            stopped.refusal.fault == Fault::HistoryFull(2) && matches!(stopped.call, Call::Undo)
+        }
+    }
+}
+
+fn history_fills(rt: &impl Abort, state: &mut State) {
+    assert!(rt; tells(state.perform(0, Call::Undo), Told::Refused));
+    assert!(rt; tells(state.perform(0, Call::Undo), Told::Refused));
+    assert!(rt; undo_is_stopped(state));
+    assert_eq!(rt; state.history().len(), 2);
+}
+
+#[test]
+fn a_full_history_stops_calls(rt: HostRuntime) -> Result<(), Fail> {
+    let state = empty_state(rt.alloc(), 2).expect(&rt, "a state");
+    try_state(&rt, rt.alloc(), state, Trial::Fills);
+    Ok(())
+}
+
+/// Whether an advance was refused, and that entered, as one by a schedule for other kinds.
+fn is_of_other_kinds(reply: &Result<Reply, Stopped>) -> bool {
+    match reply {
+        Ok(Reply::Refused(refusal)) => *refusal == Refusal::from(Fault::OtherSchema),
+        _ => false,
+    }
+}
+
+fn state_refuses<R: Threads + Abort + Sync>(rt: &R, alloc: Global, state: &mut State) {
+    let schedule = schedule_of_other_kinds(alloc).expect(rt, "a schedule");
+    let alone = state.perform(0, Call::Advance(schedule));
+    assert!(rt; is_of_other_kinds(&alone));
+    let schedule = schedule_of_other_kinds(alloc).expect(rt, "a schedule");
+    let on_threads = state.perform_with(rt, 0, Call::Advance(schedule), 2);
+    assert!(rt; is_of_other_kinds(&on_threads));
+    assert_eq!(rt; state.history().len(), 2);
+    assert_eq!(rt; state.editor().world().tick(), 0);
+}
+
+#[test]
+fn a_state_refuses_a_schedule_for_other_kinds(rt: HostRuntime) -> Result<(), Fail> {
+    let state = empty_state(rt.alloc(), 2).expect(&rt, "a state");
+    try_state(&rt, rt.alloc(), state, Trial::Refuses);
+    Ok(())
 }
 
 /// Why an editor refused, if it did.
@@ -87,6 +149,14 @@ fn refusal_of(answer: Result<Made, Refusal>) -> Option<Refusal> {
         Ok(_) => None,
         Err(refusal) => Some(refusal),
     }
+}
+
+fn editor_refuses<R: Threads + Abort + Sync>(rt: &R, alloc: Global, editor: &mut Editor) {
+    let schedule = schedule_of_other_kinds(alloc).expect(rt, "a schedule");
+    let wanted = Some(Refusal::from(Fault::OtherSchema));
+    assert_eq!(rt; refusal_of(editor.advance_alone(&schedule)), wanted);
+    assert_eq!(rt; refusal_of(editor.advance(rt, &schedule, 2)), wanted);
+    assert_eq!(rt; (editor.undo_len(), editor.world().tick()), (0, 0));
 }
 
 #[test]
@@ -98,6 +168,13 @@ fn an_advance_shared_by_two_workers_starts_both(rt: HostRuntime) -> Result<(), F
     let made = advance_past(&rt, alloc, &mut editor, &schedule, &gate);
     assert_eq!(rt; refusal_of(made), None);
     assert!(rt; gate.have_met());
+    Ok(())
+}
+
+#[test]
+fn an_editor_refuses_a_schedule_for_other_kinds(rt: HostRuntime) -> Result<(), Fail> {
+    let mut editor = empty_editor(rt.alloc()).expect(&rt, "an editor");
+    editor_refuses(&rt, rt.alloc(), &mut editor);
     Ok(())
 }
 

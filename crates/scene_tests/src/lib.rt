@@ -6,6 +6,7 @@
 
 #[cfg(test)]
 mod home_tests;
+#[cfg(test)]
 mod left;
 #[cfg(test)]
 mod opening_tests;
@@ -19,5 +20,3 @@ mod tree_tests;
 mod trials;
 #[cfg(test)]
 mod world_tests;
-
-pub use left::state_left;

@@ -1,8 +1,12 @@
-//! Each runs to its end alone; the ones with threads answer the same whatever the schedule.
+//! The lock over a list of notes. Each runs to its end alone; those with threads answer the same whatever the schedule.
 ghost use Rattle.scene_lock.specs.Pass.{IsPassOf};
 
-use super::*;
 use scene_lock::{Kept, Pass, WordLock};
+use scene_lock_tests::{
+    Count, Gate, Note, Notes, Write, WriteKnowingHow, enter_all, look_beside_wanting_write,
+    look_together, meet_in_chain, take_last, try_beside_change, try_beside_look,
+    write_among_readers,
+};
 use std::alloc::Global;
 use std::process::Abort;
 use std::sync::Wait;
