@@ -15,7 +15,7 @@ use crate::ending::Ending;
 use crate::shell_store::stored_shell;
 use crate::store_looks::{backup_store, log_store, show_store};
 use crate::stored::compact_store;
-use scene_app::{AppFault, RunEnd, check_scene, print_scene, run_script};
+use scene_app::{AppFault, BadLines, check_scene, print_scene, run_alone};
 use scene_command_line::{Asked, ShellWords, mistake_in, read_words};
 use scene_interpreter::InterpreterSettings;
 use scene_script::Limit;
@@ -35,11 +35,11 @@ fn words_given(rt: &HostRuntime) -> io::Result<Vec<String>> {
 }
 
 /// Says on standard error where the first bad lines are and why, and how many more there are.
-fn tell_bad_lines(rt: &HostRuntime, end: &RunEnd) -> io::Result<()> {
-    for report in &end.reports {
+fn tell_bad_lines(rt: &HostRuntime, bad: &BadLines) -> io::Result<()> {
+    for report in &bad.first {
         eprintln!(rt; "scene: {report}")?;
     }
-    match (end.bad_lines as usize).saturating_sub(end.reports.len()) {
+    match (bad.count as usize).saturating_sub(bad.first.len()) {
         0 => Ok(()),
         1 => eprintln!(rt; "scene: 1 more bad line"),
         more => eprintln!(rt; "scene: {more} more bad lines"),
@@ -50,17 +50,17 @@ fn tell_bad_lines(rt: &HostRuntime, end: &RunEnd) -> io::Result<()> {
 fn run(rt: &HostRuntime, threads: &(impl Threads + Wait + Sync), workers: u8) -> Ending {
     let mut source = Source::new(rt.stdin());
     let mut sink = Sink::new(rt.stdout());
-    match run_script(
+    match run_alone(
         threads,
         rt.alloc(),
         workers as usize,
         &mut source,
         &mut sink,
     ) {
-        Ok(end) => {
+        Ok(bad) => {
             // A standard error that can't be written changes no status.
-            let _told = tell_bad_lines(rt, &end);
-            Ending::after_bad_lines(end.bad_lines)
+            let _told = tell_bad_lines(rt, &bad);
+            Ending::after_bad_lines(bad.count)
         }
         Err(fault) => Ending::Fault(fault),
     }

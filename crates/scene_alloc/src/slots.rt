@@ -12,11 +12,21 @@ use std::marker::Model;
 ///
 /// Contracts see the state of the slots, and their capacity, which is for how many of them there is
 /// memory, in the free list too. No call makes it less, and only `take` and `reserve` make it more.
-#[derive(Drop, Debug)]
+#[derive(Debug)]
 pub struct Slots {
     limit: u32,
     generations: Vec<u32>,
     free: Vec<u32>,
+}
+
+impl Drop for Slots {
+    fn drop(self) {
+        let Slots {
+            limit: _,
+            generations: _,
+            free: _,
+        } = self;
+    }
 }
 
 impl Model for Slots {

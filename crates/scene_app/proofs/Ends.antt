@@ -3,6 +3,8 @@ use Rattle.std.proofs.Common.{◌≡◌, ℕ, List, length, subst, Option, Some,
 use Rattle.std.specs.Prelude.{take}
 use Rattle.scene_session.specs.Passes.{AreOf}
 use Rattle.scene_app.specs.declared.run.RunEnd.{RunEnd}
+use Rattle.scene_app.specs.declared.alone.BadLines.{BadLines}
+use Rattle.scene_app.specs.Alone.{AreBadLinesOf}
 use Rattle.scene_app.specs.Play.{bad_lines, owner_after}
 use Rattle.scene_app.specs.Run.{IsEndOf}
 
@@ -16,4 +18,13 @@ ends_so (Some s) bytes end is bad reports passes = record {
   reports = subst (λ b. end.reports.items ≡ take 10 (bad_lines b)) is reports;
   passes = subst (λ b. AreOf end.lock end.passes.items (owner_after b)) is passes;
   eight = (owner_after bytes, passes);
+}
+
+-- and so it is of the bad lines alone
+pub told_so : (script : Option (List ℕ)) (bytes : List ℕ) (told : BadLines) → IfSome script (λ s. bytes ≡ s)
+    → told.count ≡ length (bad_lines bytes) → told.first.items ≡ take 10 (bad_lines bytes) → AreBadLinesOf script told
+told_so None bytes told is count first = record { count = tt; first = tt }
+told_so (Some s) bytes told is count first = record {
+  count = subst (λ b. told.count ≡ length (bad_lines b)) is count;
+  first = subst (λ b. told.first.items ≡ take 10 (bad_lines b)) is first;
 }

@@ -1,3 +1,4 @@
+pub mod Alone
 pub mod Checked
 pub mod Play
 pub mod Reports

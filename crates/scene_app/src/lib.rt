@@ -7,12 +7,14 @@
 //! `bad_lines` and `owner_after` stand (docs/SCRIPTS.md explains the language).
 #![tactic(auto)]
 
+mod alone;
 mod check;
 mod laws;
 mod play;
 mod report;
 mod run;
 
+pub use alone::{BadLines, run_alone};
 pub use check::{check_scene, print_scene};
 pub use laws::a_shell_says_what_a_run_says;
 pub use report::BadLineReport;

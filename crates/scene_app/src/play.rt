@@ -79,11 +79,6 @@ pub(crate) fn play_script<O: ScriptOwner, P: Performer<O>>(
 {
     let mut reports = Reports::new(alloc);
     let mut interpreter = Interpreter::new(alloc);
-    match play_lines(performer, &mut interpreter, script, out, &mut reports) {
-        Ok(()) => Ok((interpreter.into_owner()?, reports)),
-        Err(AllocError) => {
-            interpreter.close();
-            Err(AllocError)
-        }
-    }
+    play_lines(performer, &mut interpreter, script, out, &mut reports)?;
+    Ok((interpreter.into_owner()?, reports))
 }

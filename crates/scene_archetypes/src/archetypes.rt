@@ -23,10 +23,19 @@ use std::marker::Model;
 /// entity's row is found at once.
 ///
 /// Contracts see the rows of each kind set that has some, and the room that there is.
-#[derive(Drop, Debug)]
+#[derive(Debug)]
 pub struct Archetypes {
     tables: KindTables,
     homes: Vec<Option<Home>>,
+}
+
+impl Drop for Archetypes {
+    fn drop(self) {
+        let Archetypes {
+            tables: _,
+            homes: _,
+        } = self;
+    }
 }
 
 impl Model for Archetypes {

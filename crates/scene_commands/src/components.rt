@@ -6,9 +6,15 @@ use std::alloc::AllocError;
 use std::marker::Model;
 
 /// Components, each with its kind, in the order in which they were given. Contracts see a list.
-#[derive(Drop, Clone, Debug)]
+#[derive(Clone, Debug)]
 pub struct Components {
     cells: Vec<(u8, Value)>,
+}
+
+impl Drop for Components {
+    fn drop(self) {
+        let Components { cells: _ } = self;
+    }
 }
 
 impl Model for Components {

@@ -25,7 +25,6 @@ use scene_session::{LoneOwner, Performer};
 use scene_systems::Phase;
 use scene_undo::Editor;
 use std::alloc::{AllocError, Global};
-use std::mem;
 
 /// Where an interpreter is.
 #[derive(Drop)]
@@ -39,10 +38,15 @@ pub(crate) enum Mode<O: ScriptOwner> {
 /// What the lines of a script so far have come to: the setup, or the sessions of the state, the frame that is open, the
 /// systems and the cursor (docs/SCRIPTS.md, "Lines"). It takes a line at a time, and keeps none of them. What lines are
 /// answered with doesn't depend on the owner of the sessions (`a_lock_changes_no_answer`).
-#[derive(Drop)]
 pub struct Interpreter<O: ScriptOwner> {
     pub(crate) alloc: Global,
     pub(crate) mode: Mode<O>,
+}
+
+impl<O: ScriptOwner> Drop for Interpreter<O> {
+    fn drop(self) {
+        let Interpreter { alloc: _, mode: _ } = self;
+    }
 }
 
 /// What a line says, or why it is bad.
@@ -86,28 +90,12 @@ fn owner_of_state<O: ScriptOwner>(state: PlayState<O>) -> O
     owner
 }
 
-/// Drops a setup.
-fn leave_setup<O: ScriptOwner>(setup: Setup<O>) {
-    let Setup { .. } = setup;
-}
-
-/// Drops what a mode has. Only here: a drop of a whole scene is dear to check wherever it is, two in one function are
-/// dearer still, and a move isn't.
-fn leave<O: ScriptOwner>(mode: Mode<O>) {
-    match mode {
-        Mode::Setting(setup) => leave_setup(setup),
-        Mode::Playing(state) => owner_of_state(state).close(),
-    }
-}
-
 /// The sessions in which a setup ends, of which all else is dropped.
 fn owner_of_setup<O: ScriptOwner>(alloc: Global, setup: Setup<O>) -> Result<O, AllocError>
     ensures { IfOk result (λ owner. O.state owner ≡ first_owner (setup_by O.most setup)) }
 {
     let mut setup = setup;
-    let owner = setup.take_owner(alloc);
-    leave_setup(setup);
-    owner
+    setup.take_owner(alloc)
 }
 
 /// What a line that ended the setup came to.
@@ -338,7 +326,7 @@ impl<O: ScriptOwner> Interpreter<O> {
     pub(crate) fn go_to(&mut self, state: PlayState<O>)
         ensures { reached O.state O.most self.new ≡ Playing (state_by O.state state) }
     {
-        leave(mem::replace(&mut self.mode, Mode::Playing(state)));
+        self.mode = Mode::Playing(state);
     }
 
     /// Ends the setup, where it isn't over: what follows is as behind a line that ends it. It costs what that line
@@ -362,20 +350,13 @@ impl<O: ScriptOwner> Interpreter<O> {
         }
     }
 
-    /// Drops the interpreter, as the end of its owner would. Who says it has the drop checked here, where it is dear,
-    /// and not once more in a crate of its own.
-    pub fn close(self) {
-        let Interpreter { mode, .. } = self;
-        leave(mode);
-    }
-
     /// The sessions as the lines so far leave them. A frame that is still open is dropped.
     ///
     /// `AllocError` where no memory was found, which only an interpreter in its setup needs.
     pub fn into_owner(self) -> Result<O, AllocError>
         ensures { IfOk result (λ owner. O.state owner ≡ owner_of (reached O.state O.most self)) }
     {
-        let Interpreter { alloc, mode, .. } = self;
+        let Interpreter { alloc, mode } = self;
         match mode {
             Mode::Playing(state) => Ok(owner_of_state(state)),
             Mode::Setting(setup) => owner_of_setup(alloc, setup),

@@ -21,10 +21,19 @@ use std::marker::Model;
 /// (docs/JOURNAL.md, "In code").
 ///
 /// Contracts see the world's tick at first, and the spots by age, those of cells that were changed at that tick first.
-#[derive(Drop, Debug)]
+#[derive(Debug)]
 pub struct NewestCells {
     opening: u64,
     by_age: Vec<Spots>,
+}
+
+impl Drop for NewestCells {
+    fn drop(self) {
+        let NewestCells {
+            opening: _,
+            by_age: _,
+        } = self;
+    }
 }
 
 impl Model for NewestCells {

@@ -9,10 +9,19 @@ use std::marker::Model;
 /// What one frame did: the tick of the world before it, and its deltas in order (docs/JOURNAL.md, "Records").
 ///
 /// Contracts see the tick and the list of deltas.
-#[derive(Drop, Debug)]
+#[derive(Debug)]
 pub struct FrameRecord {
     tick_before: u64,
     deltas: Vec<Delta>,
+}
+
+impl Drop for FrameRecord {
+    fn drop(self) {
+        let FrameRecord {
+            tick_before: _,
+            deltas: _,
+        } = self;
+    }
 }
 
 impl Model for FrameRecord {

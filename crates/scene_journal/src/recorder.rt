@@ -25,12 +25,23 @@ use std::marker::Model;
 /// from before can come back without memory (docs/JOURNAL.md, "The recorder").
 ///
 /// Contracts see the world and the record.
-#[derive(Drop, Debug)]
+#[derive(Debug)]
 pub struct Recorder {
     alloc: Global,
     world: World,
     tick_before: u64,
     deltas: Vec<Delta>,
+}
+
+impl Drop for Recorder {
+    fn drop(self) {
+        let Recorder {
+            alloc: _,
+            world: _,
+            tick_before: _,
+            deltas: _,
+        } = self;
+    }
 }
 
 impl Model for Recorder {
@@ -71,7 +82,7 @@ impl Recorder {
             world,
             tick_before,
             deltas,
-            ..
+            alloc: _,
         } = self;
         (world, FrameRecord::new(tick_before, deltas))
     }
@@ -82,7 +93,12 @@ impl Recorder {
         ensures world { result.world ≡ opening_of self }
         ensures room { result.room ≡ self.room }
     {
-        let Recorder { world, deltas, .. } = self;
+        let Recorder {
+            world,
+            deltas,
+            alloc: _,
+            tick_before: _,
+        } = self;
         let mut before = world;
         take_all_back(&mut before, deltas);
         before

@@ -11,9 +11,15 @@ use std::alloc::{AllocError, Global};
 use std::marker::Model;
 
 /// The cells of a row, each with its kind. In a row that stands in a table the kinds ascend.
-#[derive(Drop, Clone, Debug)]
+#[derive(Clone, Debug)]
 pub struct Cells {
     items: Vec<(u8, Cell)>,
+}
+
+impl Drop for Cells {
+    fn drop(self) {
+        let Cells { items: _ } = self;
+    }
 }
 
 impl Model for Cells {

@@ -28,9 +28,15 @@ pub fn good_name(name: &str) -> bool
 /// that a set of kinds is a `u64` in which kind k is bit k (docs/MODEL.md, "The rule of kinds").
 ///
 /// Contracts see it as the list of names with shapes. Their names are always good and distinct.
-#[derive(Drop, Debug)]
+#[derive(Debug)]
 pub struct Schema {
     kinds: IndexMap<String, Shape>,
+}
+
+impl Drop for Schema {
+    fn drop(self) {
+        let Schema { kinds: _ } = self;
+    }
 }
 
 impl Model for Schema {

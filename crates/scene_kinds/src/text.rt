@@ -7,9 +7,15 @@ use std::marker::Model;
 
 /// A UTF-8 text. Contracts see it as its bytes, so two texts are equal where their bytes are, however
 /// much room each has.
-#[derive(Drop, Clone)]
+#[derive(Clone)]
 pub struct Text {
     inner: String,
+}
+
+impl Drop for Text {
+    fn drop(self) {
+        let Text { inner: _ } = self;
+    }
 }
 
 impl Model for Text {

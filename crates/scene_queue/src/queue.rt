@@ -57,13 +57,24 @@ impl<T: fmt::Debug + Drop> Error for Returned<T> {}
 
 /// Commands, first to last, up to a limit (docs/MODEL.md, "The rule of frames"). Contracts see the list and the
 /// limit.
-#[derive(Drop, Debug)]
+#[derive(Debug)]
 pub struct Queue {
     alloc: Global,
     commands: Vec<Command>,
     limit: u32,
     /// How many of the commands are spawns.
     spawned: u32,
+}
+
+impl Drop for Queue {
+    fn drop(self) {
+        let Queue {
+            alloc: _,
+            commands: _,
+            limit: _,
+            spawned: _,
+        } = self;
+    }
 }
 
 impl Model for Queue {

@@ -49,7 +49,5 @@ pub fn show_lines(
     ensures bad { IfErr result (NamesFirst (lone_interpreter settings.depth settings.calls) (lines text.now)) }
 {
     let mut interpreter = Interpreter::alone(alloc, settings);
-    let shown = play_and_ask(alloc, &mut interpreter, text, b"show", world);
-    interpreter.close();
-    shown
+    play_and_ask(alloc, &mut interpreter, text, b"show", world)
 }

@@ -96,9 +96,7 @@ fn lead_to_same(
     ensures fault { IfErr result IsOfNoLine }
 {
     let mut other = Interpreter::alone(alloc, again);
-    let same = leads_to_same(alloc, interpreter, editor, scene, &mut other, fewer);
-    other.close();
-    same
+    leads_to_same(alloc, interpreter, editor, scene, &mut other, fewer)
 }
 
 /// Lines that lead to what an interpreter has, which has this editor, and whose systems these lines give. They were
@@ -205,7 +203,5 @@ pub fn compacted(
     ensures bad { IfErr result (IsLineFault (lone_interpreter settings.depth settings.calls) (lines text.now)) }
 {
     let mut interpreter = Interpreter::alone(alloc, settings);
-    let fewer = compacted_in(alloc, &mut interpreter, text, again, most);
-    interpreter.close();
-    fewer
+    compacted_in(alloc, &mut interpreter, text, again, most)
 }

@@ -198,7 +198,5 @@ pub fn write_log<W: Write>(
     writer: &mut W,
 ) -> Result<LogCounts, KeptLineFault> {
     let mut interpreter = Interpreter::alone(alloc, settings);
-    let written = write_lines(alloc, &mut interpreter, text, writer);
-    interpreter.close();
-    written
+    write_lines(alloc, &mut interpreter, text, writer)
 }

@@ -134,7 +134,7 @@ fn go_on<
         Err(fault) => return Err(StoreShellFault::Unopened(fault)),
     };
     let mut interpreter = interpreter_before(alloc, calls);
-    let ended = play_on(
+    play_on(
         performer,
         alloc,
         &mut interpreter,
@@ -146,9 +146,7 @@ fn go_on<
         began,
         reader,
         errors,
-    );
-    interpreter.close();
-    ended
+    )
 }
 
 /// Opens a store, plays the lines that it kept, answers each line of a reader behind them and keeps it, as

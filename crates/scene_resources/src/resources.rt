@@ -16,10 +16,16 @@ use std::marker::Model;
 ///
 /// Contracts see the cell of each name that has one, and the names that are kept, those without a cell too: a
 /// cell for a kept name takes no memory. A name with a cell is kept, and only `forget` and `trim` forget names.
-#[derive(Drop, Debug)]
+#[derive(Debug)]
 pub struct Resources {
     alloc: Global,
     cells: BTreeMap<String, Option<Cell>>,
+}
+
+impl Drop for Resources {
+    fn drop(self) {
+        let Resources { alloc: _, cells: _ } = self;
+    }
 }
 
 impl Model for Resources {

@@ -6,9 +6,15 @@ use scene_queue::Queue;
 use std::marker::Model;
 
 /// What a system makes of its rows, one change for each matching row. Contracts see a list.
-#[derive(Drop, Debug)]
+#[derive(Debug)]
 pub struct RowChanges {
     list: Vec<RowChange>,
+}
+
+impl Drop for RowChanges {
+    fn drop(self) {
+        let RowChanges { list: _ } = self;
+    }
 }
 
 impl Model for RowChanges {
@@ -39,8 +45,14 @@ impl From<Vec<RowChange>> for RowChanges {
 }
 
 /// What the systems of a phase made, by system: their rows, and their queues (docs/MODEL.md, "The rule of schedules").
-#[derive(Drop, Debug)]
+#[derive(Debug)]
 pub struct PhaseOutput {
     pub rows: Vec<RowChanges>,
     pub queues: Vec<Queue>,
+}
+
+impl Drop for PhaseOutput {
+    fn drop(self) {
+        let PhaseOutput { rows: _, queues: _ } = self;
+    }
 }

@@ -15,12 +15,22 @@ use std::marker::Model;
 /// one that a schedule may have, and no two systems of a phase are in each other's way.
 ///
 /// Contracts see the kinds and the phases.
-#[derive(Drop, Debug)]
+#[derive(Debug)]
 pub struct Schedule {
     alloc: Global,
     /// In a box, since a call that advances is kept in a history beside calls that need less room.
     schema: Box<Schema>,
     phases: Vec<Phase>,
+}
+
+impl Drop for Schedule {
+    fn drop(self) {
+        let Schedule {
+            alloc: _,
+            schema: _,
+            phases: _,
+        } = self;
+    }
 }
 
 impl Model for Schedule {

@@ -25,7 +25,6 @@ use std::thread::Threads;
 /// them.
 ///
 /// Contracts see what those of each `SessionOwner` see.
-#[derive(Drop)]
 pub struct LoneOwner {
     opening: Snapshot<Editor>,
     log: Log,
@@ -35,6 +34,19 @@ pub struct LoneOwner {
     /// How many calls there may be, and for how many more there is room.
     limit: u64,
     room: u64,
+}
+
+impl Drop for LoneOwner {
+    fn drop(self) {
+        let LoneOwner {
+            opening: _,
+            log: _,
+            editor: _,
+            session: _,
+            limit: _,
+            room: _,
+        } = self;
+    }
 }
 
 impl Model for LoneOwner {
@@ -186,6 +198,4 @@ impl SessionOwner for LoneOwner {
     fn call_count(&self) -> u64 {
         self.limit - self.room
     }
-
-    fn close(self) {}
 }

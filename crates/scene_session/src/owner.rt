@@ -8,7 +8,7 @@ ghost use Rattle.scene_session.specs.Owner.{with_session};
 ///
 /// The meaning that contracts use: `state` is the machine that the sessions began with, with its records, the greatest
 /// number of calls, the calls so far, and whose turn it is.
-pub trait SessionOwner: Sized {
+pub trait SessionOwner: Sized + Drop {
     ghost use Rattle.scene_session.specs.Owner.{OwnerState};
 
     ghost state: { Self → OwnerState };
@@ -29,8 +29,4 @@ pub trait SessionOwner: Sized {
     /// How many calls there were. It takes no memory.
     fn call_count(&self) -> u64
         ensures { result ≡ length (state self.now).history };
-
-    /// Drops it, as the end of its owner would. Who says it has the drop checked here, where it is dear, and not once
-    /// more in a crate of its own.
-    fn close(self);
 }

@@ -28,7 +28,6 @@ const SESSIONS: u32 = 8;
 /// calls as its history.
 ///
 /// Contracts see what those of each `SessionOwner` see.
-#[derive(Drop)]
 pub struct SharedOwner {
     lock: WordLock<State>,
     /// Each at the place that is its session.
@@ -39,6 +38,18 @@ pub struct SharedOwner {
     /// the lock sees it.
     limit: u32,
     room: u32,
+}
+
+impl Drop for SharedOwner {
+    fn drop(self) {
+        let SharedOwner {
+            lock: _,
+            passes: _,
+            session: _,
+            limit: _,
+            room: _,
+        } = self;
+    }
 }
 
 impl Model for SharedOwner {
@@ -138,7 +149,13 @@ impl SharedOwner {
     pub fn into_parts(self) -> (WordLock<State>, Vec<Pass<State>>)
         ensures { AreOf result.0 result.1.items self }
     {
-        let SharedOwner { lock, passes, .. } = self;
+        let SharedOwner {
+            lock,
+            passes,
+            session: _,
+            limit: _,
+            room: _,
+        } = self;
         (lock, passes)
     }
 }
@@ -161,6 +178,4 @@ impl SessionOwner for SharedOwner {
     fn call_count(&self) -> u64 {
         u64::from(self.limit - self.room)
     }
-
-    fn close(self) {}
 }

@@ -28,12 +28,22 @@ pub struct Beginning {
 ///
 /// Contracts see what it began as and the history. The editor is what the calls of the history make of that opening,
 /// and each entry has the machine's reply after those before it.
-#[derive(Drop)]
 pub struct State {
     opening: Snapshot<Editor>,
     limit: u32,
     history: Vec<Entry>,
     editor: Editor,
+}
+
+impl Drop for State {
+    fn drop(self) {
+        let State {
+            opening: _,
+            limit: _,
+            history: _,
+            editor: _,
+        } = self;
+    }
 }
 
 impl Model for State {
@@ -118,7 +128,13 @@ impl State {
     pub fn into_editor(self) -> Editor
         ensures { whole_of result ≡ replayed self.opening self.history }
     {
-        self.editor
+        let State {
+            editor: last,
+            opening: _,
+            limit: _,
+            history: _,
+        } = self;
+        last
     }
 
     /// The calls so far, the oldest first, each with its session and its reply (docs/SESSIONS.md, "History"). It takes

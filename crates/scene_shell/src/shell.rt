@@ -89,7 +89,6 @@ pub fn run_shell<P: Performer<LoneOwner>, R: Read, W: Write + Drop, E: Write>(
         &mut unkept,
         errors,
     );
-    interpreter.close();
     let Unkept { writer } = unkept;
     (ended, writer)
 }

@@ -144,7 +144,7 @@ impl<D: Disk + Drop> Store<FileStore<D>> {
         ensures { IfOk result (LeavesAlone self) }
     {
         let _schema = self.conn.schema();
-        let Store { conn } = self;
+        let conn = self.into_connection();
         match conn.close_files() {
             Ok(files) => Ok(files),
             Err((error, store)) => {

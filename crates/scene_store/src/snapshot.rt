@@ -15,12 +15,17 @@ use sqlite_disk::{Disk, Memory};
 use std::alloc::Global;
 
 /// The bytes of a store's log and of its file at one moment.
-#[derive(Drop)]
 pub struct Snapshot {
     /// Those of the log; none where there is no log.
     pub log: Vec<u8>,
     /// Those of the file.
     pub db: Vec<u8>,
+}
+
+impl Drop for Snapshot {
+    fn drop(self) {
+        let Snapshot { log: _, db: _ } = self;
+    }
 }
 
 /// A file in memory that has these bytes.

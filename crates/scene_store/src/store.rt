@@ -20,9 +20,14 @@ use std::alloc::Global;
 ///
 /// What a store keeps is known where the disk has returned what was written (`HasCleanDisk`). After a failure of the
 /// disk the database may be shut: then each call answers `DiskFault`, and another open may find the store well.
-#[derive(Drop)]
 pub struct Store<S: Alter + Drop> {
     pub(crate) conn: Connection<S>,
+}
+
+impl<S: Alter + Drop> Drop for Store<S> {
+    fn drop(self) {
+        let Store { conn: _ } = self;
+    }
 }
 
 impl<S: Alter + Drop> Store<S> {
@@ -68,6 +73,14 @@ impl<S: Alter + Drop> Store<S> {
         } else {
             Err(StoreFault::NotAStore)
         }
+    }
+
+    /// The connection, as it is. It takes no memory.
+    pub(crate) fn into_connection(self) -> Connection<S>
+        ensures { result ≡ self.conn }
+    {
+        let Store { conn } = self;
+        conn
     }
 
     /// The lines of the store of a database that is one, outside a transaction, which is given up. It refuses what

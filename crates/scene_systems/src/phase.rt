@@ -6,10 +6,19 @@ use std::alloc::{AllocError, AllocFailed, Global};
 use std::marker::Model;
 
 /// The systems of a phase, first to last (docs/MODEL.md, "The rule of systems"). Contracts see a list.
-#[derive(Drop, Debug)]
+#[derive(Debug)]
 pub struct Phase {
     alloc: Global,
     systems: Vec<SystemRule>,
+}
+
+impl Drop for Phase {
+    fn drop(self) {
+        let Phase {
+            alloc: _,
+            systems: _,
+        } = self;
+    }
 }
 
 impl Model for Phase {

@@ -33,9 +33,15 @@ impl Step {
 }
 
 /// The steps of a system, first to last. Contracts see a list.
-#[derive(Drop, Clone, Debug)]
+#[derive(Clone, Debug)]
 pub struct Steps {
     list: Vec<Step>,
+}
+
+impl Drop for Steps {
+    fn drop(self) {
+        let Steps { list: _ } = self;
+    }
 }
 
 impl Model for Steps {

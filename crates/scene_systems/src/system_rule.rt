@@ -8,11 +8,21 @@ use std::alloc::AllocError;
 
 /// A system: a name, the rows that it is for, and what it does with them, step by step (docs/MODEL.md, "The rule of
 /// systems"). Whether a schedule takes it is said where the schedule is made.
-#[derive(Drop, Debug)]
+#[derive(Debug)]
 pub struct SystemRule {
     pub name: Text,
     pub filter: Filter,
     pub steps: Steps,
+}
+
+impl Drop for SystemRule {
+    fn drop(self) {
+        let SystemRule {
+            name: _,
+            filter: _,
+            steps: _,
+        } = self;
+    }
 }
 
 impl SystemRule {

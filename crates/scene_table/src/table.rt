@@ -24,11 +24,21 @@ use std::marker::Model;
 /// They stand in columns: the entities, and for each kind the values, the added ticks and the changed ticks, in the
 /// order of the rows. Contracts see the kind set, the rows, and the capacity, which is for how many rows there is
 /// memory in all columns.
-#[derive(Drop, Debug)]
+#[derive(Debug)]
 pub struct Table {
     mask: KindSet,
     entities: Vec<Entity>,
     columns: Vec<Column>,
+}
+
+impl Drop for Table {
+    fn drop(self) {
+        let Table {
+            mask: _,
+            entities: _,
+            columns: _,
+        } = self;
+    }
 }
 
 impl Model for Table {

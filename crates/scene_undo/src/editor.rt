@@ -39,12 +39,23 @@ use std::marker::Model;
 /// Contracts see the world, the records of the frames before it and of those that were undone, the count of undos, and
 /// the depth: of how many frames a record is kept. `machine_of` makes of them the machine of saved worlds. Nothing but
 /// the world now is kept as a world.
-#[derive(Drop, Debug)]
+#[derive(Debug)]
 pub struct Editor {
     pub(crate) alloc: Global,
     recorder: Recorder,
     stacks: Stacks,
     rewinds: u64,
+}
+
+impl Drop for Editor {
+    fn drop(self) {
+        let Editor {
+            alloc: _,
+            recorder: _,
+            stacks: _,
+            rewinds: _,
+        } = self;
+    }
 }
 
 impl Model for Editor {
@@ -72,9 +83,6 @@ struct Framed {
     made: Made,
     kept: FrameRecord,
 }
-
-/// Drops what no editor is made of. Only here: a drop of a world is dear to check wherever it is, and a move isn't.
-fn drop_parts(_world: World, _past: Vec<FrameRecord>, _future: Vec<FrameRecord>) {}
 
 /// Runs a frame on a recorder, and lists twice what it spawned. After a refusal the recorder can still go back to where
 /// it began.
@@ -177,12 +185,10 @@ impl Editor {
     {
         let mut tried = world;
         if let Err(refusal) = try_records(alloc, Direction::Undo, &mut tried, past.as_slice()) {
-            drop_parts(tried, past, future);
             return Err(refusal);
         }
         if let Err(refusal) = try_records(alloc, Direction::Redo, &mut tried, future.as_slice()) {
             let named = after_frames(refusal, past.len());
-            drop_parts(tried, past, future);
             return Err(named);
         }
         let stacks = Stacks::from_parts(alloc, past, future, depth)?;

@@ -40,7 +40,7 @@ use std::marker::Model;
 /// children of each entity that has some, and the resources. Every `World` is valid (docs/MODEL.md, "A valid world").
 /// Beside it they see `room`: for what the storage suffices with no more memory. No command loses room, so that a world
 /// that was there can come back without memory.
-#[derive(Drop, Debug)]
+#[derive(Debug)]
 pub struct World {
     alloc: Global,
     schema: Schema,
@@ -49,6 +49,20 @@ pub struct World {
     tables: Archetypes,
     links: Links,
     resources: Resources,
+}
+
+impl Drop for World {
+    fn drop(self) {
+        let World {
+            alloc: _,
+            schema: _,
+            slots: _,
+            tick: _,
+            tables: _,
+            links: _,
+            resources: _,
+        } = self;
+    }
 }
 
 impl Model for World {

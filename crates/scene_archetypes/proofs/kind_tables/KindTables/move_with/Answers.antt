@@ -51,10 +51,10 @@ pub move_with-requires-clause-room : goal.move_with-requires-clause-room
 move_with-requires-clause-room c = omega (arith, c.requires.room, ap length (to_there c).rows, (to_there c).capacity)
 
 -- a row stands at the home, and the tables after it moved
-the_row : (c : goal.After-drop-index_mut-2) → (row : Row) × (row_at c.args.self.now.tables c.args.home ≡ Some row)
+the_row : (c : goal.After-drop-index_mut) → (row : Row) × (row_at c.args.self.now.tables c.args.home ≡ Some row)
 the_row c = row_there c.args.self.now.tables c.args.home c.requires.within
 
-after : (c : goal.After-drop-index_mut-2) → (row : Row) → row_at c.args.self.now.tables c.args.home ≡ Some row →
+after : (c : goal.After-drop-index_mut) → (row : Row) → row_at c.args.self.now.tables c.args.home ≡ Some row →
     IsMoved c.self.inside.kind_sets.keys c.args.self.now (slice_set (slice_set (slice_set c.self.inside.tables.items c.known_table-from.result c.replace-source.new.dest) c.known_table-to.result c.move_with.new.target) c.known_table-from.result c.move_with.new.self)
     c.args.home.mask (swap_out (rows_at c.args.self.now.tables c.args.home.mask) c.args.home.place) (set_with c.args.home.mask c.args.kind) (put_back (rows_at c.args.self.now.tables (set_with c.args.home.mask c.args.kind)) c.args.place (row_with_cell row c.args.kind c.args.cell))
 after c row at =

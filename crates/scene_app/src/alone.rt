@@ -1,0 +1,73 @@
+//! A run of which only what it prints and its bad lines are left.
+ghost use Rattle.std.specs.Prelude.{◌≡◌, ◌≤◌, length, take, string_bytes, IfOk, IfErr};
+ghost use Rattle.scene_streams.specs.Read.{IsRead};
+ghost use Rattle.scene_streams.specs.Source.{reader_of};
+ghost use Rattle.scene_streams.specs.Written.{IsWritten};
+ghost use Rattle.scene_streams.specs.Limits.{most_bytes};
+ghost use Rattle.scene_app.specs.Play.{bad_lines, output};
+ghost use Rattle.scene_app.specs.Alone.{AreBadLinesOf};
+ghost use Rattle.scene_shell.specs.declared.fault.AppFault.TheVariants.{NoMemory, ReadFault, WriteFault, TooLong};
+
+use crate::play::play_script;
+use crate::report::BadLineReport;
+use scene_session::{LoneOwner, OnThreads, Performer};
+use scene_shell::AppFault;
+use scene_streams::{Sink, Source};
+use std::alloc::Global;
+use std::io::{Read, Write};
+use std::sync::Wait;
+use std::thread::Threads;
+
+/// The bad lines of a script.
+#[derive(Drop)]
+pub struct BadLines {
+    /// How many there are.
+    pub count: u32,
+    /// The first ten of them, each with its number and its first mistake.
+    pub first: Vec<BadLineReport>,
+}
+
+/// What a script's bytes print, and its bad lines.
+#[tactic(auto, using(crate::proofs::ReportLaws::noted_all))]
+fn played_alone<P: Performer<LoneOwner>>(
+    performer: &P,
+    alloc: Global,
+    script: &[u8],
+) -> Result<(String, BadLines), AppFault>
+    requires { length script.now ≤ most_bytes }
+    ensures printed { IfOk result (λ p. string_bytes p.0 ≡ output script.now) }
+    ensures count { IfOk result (λ p. p.1.count ≡ length (bad_lines script.now)) }
+    ensures first { IfOk result (λ p. p.1.first.items ≡ take 10 (bad_lines script.now)) }
+    ensures memory { IfErr result (λ f. f ≡ NoMemory) }
+{
+    let mut out = String::new(alloc);
+    let (_owner, reports): (LoneOwner, _) = play_script(performer, alloc, script, &mut out)?;
+    let bad = BadLines {
+        count: reports.count() as u32,
+        first: reports.into_first(),
+    };
+    Ok((out, bad))
+}
+
+/// Reads a script to its end, plays it, and writes what it prints, as `run_script` does, for who asks for no more: its
+/// calls are counted and not kept, and no lock stands between.
+///
+/// Refused as `run_script` refuses. It costs what that costs, without the memory of the calls.
+#[tactic(auto, using(scene_streams::proofs::Writes::none_written))]
+pub fn run_alone<T: Threads + Wait + Sync, R: Read, W: Write>(
+    rt: &T,
+    alloc: Global,
+    workers: usize,
+    source: &mut Source<R>,
+    sink: &mut Sink<W>,
+) -> Result<BadLines, AppFault>
+    ensures bad { IfOk result (AreBadLinesOf (R.remaining (reader_of source.old))) }
+    ensures read { IsRead R.remaining source.old source.new result ReadFault TooLong }
+    ensures written { IsWritten output (R.remaining (reader_of source.old)) W.contents sink.old sink.new result WriteFault }
+{
+    let script = source.read_all(alloc)?;
+    let performer = OnThreads::new(rt, workers);
+    let (out, bad) = played_alone(&performer, alloc, script.as_slice())?;
+    sink.write_all(out.as_bytes())?;
+    Ok(bad)
+}
