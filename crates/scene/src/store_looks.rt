@@ -4,8 +4,8 @@ use crate::printed;
 use scene_app::AppFault;
 use scene_command_line::BackupWords;
 use scene_interpreter::InterpreterSettings;
-use scene_replay::{KeptLineFault, LogCounts, show_lines, write_log};
 use scene_script::Limit;
+use scene_shell::{KeptLineFault, LogCounts, show_lines, write_log};
 use scene_store::{
     BackupFault, StoreFault, StoreFileFault, StoredLines, Version, back_up, lines_at,
 };

@@ -1,4 +1,9 @@
-pub mod Shell
-pub mod Kept
-pub mod Waits
+pub mod AnswerText
+pub mod Compacted
 pub mod Fault
+pub mod Kept
+pub mod Opening
+pub mod Replayed
+pub mod Shell
+pub mod StoreShell
+pub mod Waits

@@ -8,27 +8,47 @@
 //! `run_kept_shell` does the same on a `KeptWriter`, which also keeps the lines that change the interpreter, as a store
 //! does, and writes an answer only behind them. `specs/Kept.antt` says which lines, and
 //! `kept_lines_lead_to_the_interpreter` that they are enough.
+//!
+//! Of lines that a store has kept is made: the interpreter that they lead to (`replay`), a log of what each did, fewer
+//! lines that lead to the same scene, and a shell that goes on behind them (docs/SHELL.md, "A store").
 #![tactic(auto)]
 
+mod agree;
+mod asked;
+mod compact;
 mod fault;
 mod keep;
 mod kept_fault;
 mod kept_line;
 mod kept_shell;
 mod laws;
+mod line_fault;
+mod log;
+mod opening;
+mod play_again;
+mod same;
 mod shell;
+mod store_shell;
 mod store_writer;
 mod streams;
 mod style;
+mod system_lines;
 mod unkept;
 mod waiting;
 
+pub use asked::show_lines;
+pub use compact::compacted;
 pub use fault::AppFault;
 pub use keep::KeptWriter;
 pub use kept_fault::KeptFault;
 pub use kept_line::push_kept_line;
 pub use kept_shell::run_kept_shell;
 pub use laws::kept_lines_lead_to_the_interpreter;
+pub use line_fault::{CompactFault, KeptLineFault};
+pub use log::{LogCounts, write_log};
+pub use opening::{Opening, OpeningLimits, tell_opening};
+pub use play_again::replay;
 pub use shell::{ShellSettings, run_shell};
+pub use store_shell::{StorePlace, StoreShellFault, run_store_shell};
 pub use store_writer::StoreWriter;
 pub use style::AnswerStyle;

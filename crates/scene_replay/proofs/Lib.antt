@@ -1,5 +1,0 @@
-mod Agreement
-mod LineFaults
-mod Played
-mod SameLists
-mod StoreLaws

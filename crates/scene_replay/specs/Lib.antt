@@ -1,5 +1,0 @@
-pub mod AnswerText
-pub mod Compacted
-pub mod Opening
-pub mod Replayed
-pub mod StoreShell
