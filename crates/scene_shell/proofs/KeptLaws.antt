@@ -2,7 +2,7 @@
 use Rattle.std.proofs.Common.{◌≡◌, ◌≢◌, ℕ, ◌+◌, ◌-◌, ◌^◌, ◌≤◌, ◌<◌, List, [], ◌∷◌, ◌++◌, Bool, true, false, cond, Option, Some, None, Result, Ok, Err, IfSome, is_some, if◌then◌else◌, length, length-append, take, drop, take-append-drop, eqb, arith, refl, sym, ap, subst, ◌∙◌, append_assoc, append-nil}
 use Rattle.std.specs.Io.{StopsAt}
 use Rattle.std.specs.Io.BufRead.{DropsThrough, drop_through, take_through}
-use Rattle.std.specs.Io.KnownBytes.{Appends, Consumes, Keeps}
+use Rattle.std.specs.Io.KnownBytes.{Appends, Consumes}
 use Rattle.std.specs.Str.Lines.{lines}
 use Rattle.std.proofs.BufReadLemmas.{take_through-append, take_through-nil, take_through_nonempty}
 use Rattle.std.proofs.KnownBytes.{Appends-nil, Appends-kept, Appends-trans}
@@ -18,8 +18,8 @@ use Rattle.scene_shell.specs.declared.kept_fault.KeptFault.TheVariants.{Ended, K
 use Rattle.scene_shell.specs.declared.waiting.Waiting.{Waiting}
 use Rattle.scene_shell.specs.Shell.{AddsAnswer, Answers, AnswerStyle, Exchange, HasSaid, IsSaid, Parts, Stops, StopsWith, bad_count, interpreter_after}
 use Rattle.scene_streams.specs.Keep.{Grows, StaysKept}
-use Rattle.scene_shell.specs.Kept.{Beginning, Continues, EndsAs, HasAnswered, HasKept, IsSettled, Keeping, Meaning, MaySend, StopsBy, behind, kept_after, kept_line, kept_of, noted, released, starting}
-use Rattle.scene_shell.specs.Waits.{FailsToSettle, HasCome, HasStopped, IsBad, IsPlayed, IsStop, IsUnread, LeadsTo, MaySettle, Pending, Standing, stands_with}
+use Rattle.scene_shell.specs.Kept.{Beginning, Continues, EndsAs, HasAnswered, HasKept, IsSettled, Keeping, Meaning, StopsBy, behind, kept_after, kept_line, kept_of, noted, released, starting}
+use Rattle.scene_shell.specs.Waits.{FailsToSettle, HasCome, IsBad, IsPlayed, IsStop, IsUnread, LeadsTo, MaySettle, Pending, Standing, stands_with}
 use Rattle.scene_shell.proofs.Lines.{first_line_of}
 
 released_behind : (b : Bool) (p : Interpreter) (t due held : List ℕ)

@@ -1,5 +1,5 @@
 -- A shell on a store, by what was done on the way.
-use Rattle.std.proofs.Common.{◌≡◌, ℕ, List, Option, Result, Ok, Err, ap}
+use Rattle.std.proofs.Common.{ℕ, List, Option, Result, Ok, Err, ap}
 use Rattle.scene_shell.specs.declared.store_writer.StoreWriter.{StoreWriter}
 use Rattle.scene_shell.specs.Kept.{both_mean}
 use Rattle.scene_shell.specs.StoreShell.{GoesOn, IsRead, PlaysOn, StoreBeginning, StoreMeaning, behind_store, kept_interpreter}

@@ -1,5 +1,5 @@
 -- What a shell keeps of the lines that it answers.
-use Rattle.std.specs.Prelude.{⊤, Result, Ok, Err, ◌≡◌, ℕ, ◌+◌, ◌-◌, ◌^◌, ◌≤◌, List, [], ◌∷◌, ◌++◌, Option, IfSome, if◌then◌else◌, codes, length, slice_index, ◌==◌}
+use Rattle.std.specs.Prelude.{⊤, Result, Ok, Err, ◌≡◌, ℕ, ◌+◌, ◌-◌, ◌^◌, ◌≤◌, List, [], ◌++◌, Option, IfSome, if◌then◌else◌, codes, length, slice_index, ◌==◌}
 use Rattle.std.specs.List.{fold}
 use Rattle.std.specs.Io.{StopsAt}
 use Rattle.std.specs.Io.KnownBytes.{Appends}

@@ -1,5 +1,5 @@
 -- What waits in a shell between two settlings. Nothing that a shell promises is said with these words.
-use Rattle.std.specs.Prelude.{Result, Ok, Err, ◌≡◌, is_some, ℕ, ◌+◌, ◌^◌, ◌≤◌, List, [], ◌∷◌, ◌++◌, ⊤, Option, Some, None, IfSome, if◌then◌else◌, length}
+use Rattle.std.specs.Prelude.{Result, Ok, Err, ◌≡◌, is_some, ℕ, ◌+◌, ◌^◌, ◌≤◌, List, [], ◌∷◌, ◌++◌, ⊤, Option, Some, IfSome, if◌then◌else◌, length}
 use Rattle.std.specs.Io.{StopsAt}
 use Rattle.std.specs.Io.KnownBytes.{Appends, Keeps}
 use Rattle.std.specs.Str.Lines.{lines}

@@ -1,4 +1,3 @@
-use Rattle.std.proofs.Common.{Ok, Err}
 use Rattle.std.specs.Io.Buffered.{reader_remaining}
 use Rattle.scene_interpreter.specs.Interpreter.{interpreter_of}
 use Rattle.scene_shell.proofs.KeptLaws.{ends_ok, ends_stopped, ends_unsettled, led_may}
