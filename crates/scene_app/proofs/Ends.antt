@@ -5,7 +5,7 @@ use Rattle.scene_session.specs.Passes.{AreOf}
 use Rattle.scene_app.specs.declared.run.RunEnd.{RunEnd}
 use Rattle.scene_app.specs.declared.alone.BadLines.{BadLines}
 use Rattle.scene_app.specs.Alone.{AreBadLinesOf}
-use Rattle.scene_app.specs.Play.{bad_lines, owner_after}
+use Rattle.scene_interpreter.specs.Printed.{bad_lines, owner_after}
 use Rattle.scene_app.specs.Run.{IsEndOf}
 
 -- a run of the bytes that were read ends as a run of the script, where that is known

@@ -1,4 +1,3 @@
 pub mod Ends
 pub mod PlayLaws
 pub mod ReportLaws
-pub mod RunLaws

@@ -2,7 +2,7 @@
 use Rattle.std.proofs.Common.{◌≡◌, ℕ, ◌+◌, List, ◌∷◌, ◌++◌, ap}
 use Rattle.std.proofs.lemmas.List.{append_assoc}
 use Rattle.scene_interpreter.specs.Interpreter.{Interpreter, interpreter_reply}
-use Rattle.scene_app.specs.Play.{Printed, printed_from, reports_at}
+use Rattle.scene_interpreter.specs.Printed.{Printed, printed_from, reports_at}
 use Rattle.scene_app.specs.Reports.{Tally}
 use Rattle.scene_app.specs.Steps.{LinePlayed, noted}
 use Rattle.scene_app.proofs.ReportLaws.{noted-append}

@@ -3,7 +3,7 @@ use Rattle.std.proofs.Common.{◌≡◌, ◌+◌, List, [], ◌∷◌, ◌++◌,
 use Rattle.std.proofs.lemmas.Bool.{cases_lt}
 use Rattle.std.proofs.lemmas.Bool.Decides.{nat_tests}
 use Rattle.std.proofs.lemmas.List.{take_all, take-append-le, length-append, length-take-le}
-use Rattle.scene_app.specs.declared.report.BadLineReport.{BadLineReport}
+use Rattle.scene_interpreter.specs.declared.bad_line_report.BadLineReport.{BadLineReport}
 use Rattle.scene_app.specs.Reports.{Tally, tally, no_bad_lines}
 use Rattle.scene_app.specs.Steps.{noted_one, noted}
 

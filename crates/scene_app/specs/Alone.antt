@@ -1,7 +1,7 @@
 -- The bad lines that a run tells.
 use Rattle.std.specs.Prelude.{ℕ, ◌≡◌, List, length, take, Option, IfSome}
 use Rattle.scene_app.specs.declared.alone.BadLines.{BadLines}
-use Rattle.scene_app.specs.Play.{bad_lines}
+use Rattle.scene_interpreter.specs.Printed.{bad_lines}
 
 -- these are the bad lines of a script, where it is known
 pub record AreBadLinesOf (script : Option (List ℕ)) (told : BadLines) : Type 0 where

@@ -1,6 +1,5 @@
 pub mod Alone
 pub mod Checked
-pub mod Play
 pub mod Reports
 pub mod Run
 pub mod Steps

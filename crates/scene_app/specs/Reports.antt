@@ -1,6 +1,6 @@
 -- The bad lines that a run tells: how many there are, and the first ten.
 use Rattle.std.specs.Prelude.{ℕ, List, [], length, take}
-use Rattle.scene_app.specs.declared.report.BadLineReport.{BadLineReport}
+use Rattle.scene_interpreter.specs.declared.bad_line_report.BadLineReport.{BadLineReport}
 
 -- how many bad lines there are, and the reports of the first ones
 pub record Tally : Type 0 where

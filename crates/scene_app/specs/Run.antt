@@ -3,7 +3,7 @@ use Rattle.std.specs.Prelude.{ℕ, ◌≡◌, List, length, take, Option, IfSome
 use Rattle.scene_session.specs.Owner.{OwnerState}
 use Rattle.scene_session.specs.Passes.{AreOf}
 use Rattle.scene_app.specs.declared.run.RunEnd.{RunEnd}
-use Rattle.scene_app.specs.Play.{bad_lines, owner_after}
+use Rattle.scene_interpreter.specs.Printed.{bad_lines, owner_after}
 
 -- a run of a script ends so, where the script is known
 pub record IsEndOf (script : Option (List ℕ)) (end : RunEnd) : Type 0 where

@@ -1,8 +1,8 @@
 -- What the bodies below a run have done when they end. Nothing that a run promises is said with these words.
 use Rattle.std.specs.Prelude.{◌≡◌, ℕ, ◌+◌, List, [], ◌∷◌, ◌++◌, length, nat_lt, if◌then◌else◌}
 use Rattle.scene_interpreter.specs.Interpreter.{Interpreter, LineReply}
-use Rattle.scene_app.specs.declared.report.BadLineReport.{BadLineReport}
-use Rattle.scene_app.specs.Play.{reports_at}
+use Rattle.scene_interpreter.specs.declared.bad_line_report.BadLineReport.{BadLineReport}
+use Rattle.scene_interpreter.specs.Printed.{reports_at}
 use Rattle.scene_app.specs.Reports.{Tally}
 
 -- a tally with one more

@@ -6,14 +6,13 @@ ghost use Rattle.scene_streams.specs.Source.{reader_of};
 ghost use Rattle.scene_streams.specs.Written.{IsWritten};
 ghost use Rattle.scene_file.specs.Scene.{loaded};
 ghost use Rattle.scene_app.specs.Checked.{good_text, check_output, print_output, is_scene};
-ghost use Rattle.scene_shell.specs.declared.fault.AppFault.TheVariants.{NoMemory, ReadFault, WriteFault, TooLong};
+ghost use Rattle.scene_streams.specs.declared.app_fault.AppFault.TheVariants.{NoMemory, ReadFault, WriteFault, TooLong};
 
 use scene_file::load_editor_text;
 use scene_interpreter::answer_file_fault;
 use scene_pass::{Filter, matching};
 use scene_print::write_show;
-use scene_shell::AppFault;
-use scene_streams::{Sink, Source};
+use scene_streams::{AppFault, Sink, Source};
 use scene_undo::MOST_FRAMES;
 use scene_world::World;
 use std::alloc::{AllocError, Global};

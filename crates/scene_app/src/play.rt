@@ -4,7 +4,7 @@ ghost use Rattle.std.specs.Str.Lines.{lines};
 ghost use Rattle.scene_json.specs.Texts.{Adds};
 ghost use Rattle.scene_streams.specs.Limits.{most_bytes};
 ghost use Rattle.scene_interpreter.specs.Interpreter.{interpreter_reply, owner_of, reached};
-ghost use Rattle.scene_app.specs.Play.{printed, printed_from};
+ghost use Rattle.scene_interpreter.specs.Printed.{printed, printed_from};
 ghost use Rattle.scene_app.specs.Reports.{no_bad_lines};
 ghost use Rattle.scene_app.specs.Steps.{LinePlayed, noted};
 

@@ -1,24 +1,16 @@
 //! The bad lines of a script.
 ghost use Rattle.std.specs.Prelude.{◌≡◌, ◌+◌, ◌<◌, ◌≤◌, ◌^◌, OnOk};
-ghost use Rattle.scene_app.specs.Play.{reports_at};
+ghost use Rattle.scene_interpreter.specs.Printed.{reports_at};
 ghost use Rattle.scene_app.specs.Reports.{no_bad_lines};
 ghost use Rattle.scene_app.specs.Steps.{noted, noted_one};
 
+use scene_interpreter::BadLineReport;
 use scene_script::BadLine;
 use std::alloc::{AllocError, Global};
 use std::marker::Model;
-use thiserror::Error;
 
 /// How many bad lines are told with their reasons; the rest are counted.
 const MOST_REPORTS: usize = 10;
-
-/// A bad line: its number, from 1, and its first mistake. `Display` says both.
-#[derive(Debug, Drop, Error)]
-#[error("line {line}: {reason}")]
-pub struct BadLineReport {
-    pub line: usize,
-    pub reason: BadLine,
-}
 
 /// The bad lines so far: how many, and the first ten.
 #[derive(Debug, Drop)]

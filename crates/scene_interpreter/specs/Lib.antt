@@ -8,6 +8,7 @@ pub mod LockAlike
 pub mod OpenFrame
 pub mod Phases
 pub mod Play
+pub mod Printed
 pub mod Interpreter
 pub mod Questions
 pub mod Said

@@ -8,6 +8,7 @@
 #![tactic(auto)]
 
 mod answer;
+mod bad_line_report;
 mod changes;
 mod file_fault_text;
 mod frame_line;
@@ -29,6 +30,7 @@ mod state_line;
 mod systems_line;
 
 pub use answer::LineAnswer;
+pub use bad_line_report::BadLineReport;
 pub use file_fault_text::answer_file_fault;
 pub use halt::Halt;
 pub use interpreter::Interpreter;

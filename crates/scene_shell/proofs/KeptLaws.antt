@@ -9,8 +9,8 @@ use Rattle.std.proofs.KnownBytes.{Appends-nil, Appends-kept, Appends-trans}
 use Rattle.std.proofs.lemmas.List.{length-drop, nil_from_length}
 use Rattle.std.proofs.lemmas.List.Elements.{All-nil}
 use Rattle.std.proofs.lemmas.List.Sums.{fold-append}
-use Rattle.scene_shell.specs.declared.fault.AppFault.{AppFault}
-use Rattle.scene_shell.specs.declared.fault.AppFault.TheVariants.{NoMemory, ReadFault, WriteFault, TooLong}
+use Rattle.scene_streams.specs.declared.app_fault.AppFault.{AppFault}
+use Rattle.scene_streams.specs.declared.app_fault.AppFault.TheVariants.{NoMemory, ReadFault, WriteFault, TooLong}
 use Rattle.scene_interpreter.specs.Interpreter.{Interpreter, interpreter_reply}
 use Rattle.scene_interpreter.specs.Changes.{frame_is_open}
 use Rattle.scene_shell.specs.declared.kept_fault.KeptFault.{KeptFault}

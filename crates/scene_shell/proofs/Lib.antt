@@ -4,6 +4,7 @@ mod KeptLead
 mod LineFaults
 mod Lines
 mod Played
+mod RunLaws
 mod SameLists
 mod StoreLaws
-pub mod SaidLaws
+mod SaidLaws

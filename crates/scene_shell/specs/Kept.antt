@@ -7,8 +7,8 @@ use Rattle.std.specs.Str.Lines.{lines}
 use Rattle.scene_streams.specs.Keep.{Grows}
 use Rattle.scene_interpreter.specs.Interpreter.{Interpreter, interpreter_reply}
 use Rattle.scene_interpreter.specs.Changes.{changes, frame_is_open}
-use Rattle.scene_shell.specs.declared.fault.AppFault.{AppFault}
-use Rattle.scene_shell.specs.declared.fault.AppFault.TheVariants.{NoMemory, ReadFault, WriteFault, TooLong}
+use Rattle.scene_streams.specs.declared.app_fault.AppFault.{AppFault}
+use Rattle.scene_streams.specs.declared.app_fault.AppFault.TheVariants.{NoMemory, ReadFault, WriteFault, TooLong}
 use Rattle.scene_shell.specs.declared.kept_fault.KeptFault.{KeptFault}
 use Rattle.scene_shell.specs.declared.kept_fault.KeptFault.TheVariants.{Ended, Keep}
 use Rattle.scene_shell.specs.declared.store_writer.StoreWriter.{StoreWriter}

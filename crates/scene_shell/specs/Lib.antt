@@ -1,6 +1,5 @@
 pub mod AnswerText
 pub mod Compacted
-pub mod Fault
 pub mod Kept
 pub mod Opening
 pub mod Replayed

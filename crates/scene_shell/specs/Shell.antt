@@ -5,8 +5,8 @@ use Rattle.std.specs.Io.KnownBytes.{Appends}
 use Rattle.std.specs.Str.Lines.{lines}
 use Rattle.scene_interpreter.specs.JsonLine.{IsAnsweredAsJson}
 use Rattle.scene_interpreter.specs.Interpreter.{Interpreter, interpreter_reply}
-use Rattle.scene_shell.specs.declared.fault.AppFault.{AppFault}
-use Rattle.scene_shell.specs.declared.fault.AppFault.TheVariants.{NoMemory, ReadFault, WriteFault, TooLong}
+use Rattle.scene_streams.specs.declared.app_fault.AppFault.{AppFault}
+use Rattle.scene_streams.specs.declared.app_fault.AppFault.TheVariants.{NoMemory, ReadFault, WriteFault, TooLong}
 pub use Rattle.scene_shell.specs.declared.style.AnswerStyle.{AnswerStyle}
 
 -- ---- one line

@@ -1,8 +1,8 @@
 //! What keeps the lines of a shell and writes its answers.
-use crate::fault::AppFault;
 use crate::style::AnswerStyle;
 use scene_interpreter::Interpreter;
 use scene_session::LoneOwner;
+use scene_streams::AppFault;
 use std::alloc::Global;
 
 /// What keeps the lines of a shell for good and writes its answers: those of lines that are kept alone (docs/SHELL.md,
@@ -18,7 +18,7 @@ pub trait KeptWriter {
 
     ghost use Rattle.std.specs.Prelude.{◌≡◌, OnOk, IfErr};
     ghost use Rattle.std.specs.Io.KnownBytes.{Appends, Keeps};
-    ghost use Rattle.scene_shell.specs.declared.fault.AppFault.TheVariants.{WriteFault};
+    ghost use Rattle.scene_streams.specs.declared.app_fault.AppFault.TheVariants.{WriteFault};
     ghost use Rattle.scene_interpreter.specs.Interpreter.{interpreter_of};
     ghost use Rattle.scene_streams.specs.Keep.{Grows, StaysKept};
     ghost use Rattle.scene_shell.specs.Kept.{Continues, MaySend, Meaning};

@@ -1,5 +1,5 @@
 //! Why a shell that keeps its lines ended.
-use crate::fault::AppFault;
+use scene_streams::AppFault;
 
 /// Why a shell that keeps its lines ended before its input did.
 #[derive(Drop)]

@@ -5,7 +5,6 @@ ghost use Rattle.scene_interpreter.specs.Interpreter.{interpreter_of};
 ghost use Rattle.scene_shell.specs.Kept.{EndsAs};
 ghost use Rattle.scene_shell.specs.Waits.{LeadsTo};
 
-use crate::fault::AppFault;
 use crate::keep::KeptWriter;
 use crate::kept_fault::KeptFault;
 use crate::streams::read_line;
@@ -13,6 +12,7 @@ use crate::style::AnswerStyle;
 use crate::waiting::Waiting;
 use scene_interpreter::Interpreter;
 use scene_session::{LoneOwner, Performer};
+use scene_streams::AppFault;
 use std::alloc::Global;
 use std::io::{BufReader, Read, Write};
 

@@ -2,8 +2,8 @@
 //!
 //! What a line does and answers is scene_interpreter's. Here the lines of a reader are given to an interpreter, and its
 //! answers to a writer, each as soon as it is there; `IsSaid` in `specs/Shell.antt` says what is written, and
-//! `a_shell_says_what_a_run_says` of scene_app that without JSON and frames it is what `scene run` prints for the same
-//! lines (docs/SHELL.md).
+//! `a_shell_says_what_a_run_says` that without JSON and frames it is what `scene run` prints for the same lines
+//! (docs/SHELL.md).
 //!
 //! `run_kept_shell` does the same on a `KeptWriter`, which also keeps the lines that change the interpreter, as a store
 //! does, and writes an answer only behind them. `specs/Kept.antt` says which lines, and
@@ -16,7 +16,6 @@
 mod agree;
 mod asked;
 mod compact;
-mod fault;
 mod keep;
 mod kept_fault;
 mod kept_line;
@@ -26,6 +25,7 @@ mod line_fault;
 mod log;
 mod opening;
 mod play_again;
+mod run_law;
 mod same;
 mod shell;
 mod store_shell;
@@ -38,7 +38,6 @@ mod waiting;
 
 pub use asked::show_lines;
 pub use compact::compacted;
-pub use fault::AppFault;
 pub use keep::KeptWriter;
 pub use kept_fault::KeptFault;
 pub use kept_line::push_kept_line;
@@ -48,6 +47,8 @@ pub use line_fault::{CompactFault, KeptLineFault};
 pub use log::{LogCounts, write_log};
 pub use opening::{Opening, OpeningLimits, tell_opening};
 pub use play_again::replay;
+pub use run_law::a_shell_says_what_a_run_says;
+pub use scene_streams::AppFault;
 pub use shell::{ShellSettings, run_shell};
 pub use store_shell::{StorePlace, StoreShellFault, run_store_shell};
 pub use store_writer::StoreWriter;

@@ -3,13 +3,13 @@ ghost use Rattle.std.specs.Io.Buffered.{reader_remaining};
 ghost use Rattle.scene_interpreter.specs.Interpreter.{lone_interpreter, interpreter_of};
 ghost use Rattle.scene_shell.specs.Shell.{AnswersOrStops};
 
-use crate::fault::AppFault;
 use crate::kept_fault::KeptFault;
 use crate::kept_shell::run_kept_shell;
 use crate::style::AnswerStyle;
 use crate::unkept::Unkept;
 use scene_interpreter::{Interpreter, InterpreterSettings};
 use scene_session::{LoneOwner, Performer};
+use scene_streams::AppFault;
 use std::alloc::Global;
 use std::io::{BufReader, Read, Write};
 

@@ -1,11 +1,10 @@
 //! A store and a stream in one.
-use crate::fault::AppFault;
 use crate::keep::KeptWriter;
 use crate::streams::send;
 use crate::style::AnswerStyle;
 use scene_interpreter::Interpreter;
 use scene_session::LoneOwner;
-use scene_streams::Keep;
+use scene_streams::{AppFault, Keep};
 use std::io::Write;
 
 /// A store beside the stream that takes the answers of a shell on it.

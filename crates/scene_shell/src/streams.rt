@@ -3,12 +3,12 @@ ghost use Rattle.std.specs.Prelude.{◌≡◌, IfErr, OnOk, IfSome};
 ghost use Rattle.std.specs.Io.{StopsAt};
 ghost use Rattle.std.specs.Io.KnownBytes.{Appends, Consumes};
 ghost use Rattle.std.specs.Io.BufRead.{DropsThrough, take_through};
-ghost use Rattle.scene_shell.specs.declared.fault.AppFault.TheVariants.{WriteFault};
+ghost use Rattle.scene_streams.specs.declared.app_fault.AppFault.TheVariants.{WriteFault};
 ghost use Rattle.scene_shell.specs.Waits.{IsUnread};
 
-use crate::fault::AppFault;
 use scene_interpreter::Halt;
 use scene_script::BadLine;
+use scene_streams::AppFault;
 use std::io::{BufRead, ErrorKind, Write};
 
 /// Says on a stream of errors why a line is bad. A stream that can't be written changes nothing.

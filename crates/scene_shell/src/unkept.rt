@@ -1,10 +1,10 @@
 //! A stream without a store.
-use crate::fault::AppFault;
 use crate::keep::KeptWriter;
 use crate::streams::send;
 use crate::style::AnswerStyle;
 use scene_interpreter::Interpreter;
 use scene_session::LoneOwner;
+use scene_streams::AppFault;
 use std::convert::Infallible;
 use std::io::Write;
 

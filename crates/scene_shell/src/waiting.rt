@@ -1,14 +1,13 @@
 //! Lines that were played, whose answers wait until they are kept.
 ghost use Rattle.std.specs.Prelude.{◌≡◌, ◌++◌, ◌<◌, ◌≤◌, [], IfErr, IfOk, OnErr, OnOk, if◌then◌else◌, length, string_bytes};
 ghost use Rattle.std.specs.Io.KnownBytes.{Appends, Keeps};
-ghost use Rattle.scene_shell.specs.declared.fault.AppFault.TheVariants.{NoMemory, WriteFault};
+ghost use Rattle.scene_streams.specs.declared.app_fault.AppFault.TheVariants.{NoMemory, WriteFault};
 ghost use Rattle.scene_interpreter.specs.Interpreter.{interpreter_of, interpreter_reply};
 ghost use Rattle.scene_streams.specs.Keep.{Grows, StaysKept};
 ghost use Rattle.scene_shell.specs.Kept.{Beginning, Continues, MaySend, ended, kept_line};
 ghost use Rattle.scene_shell.specs.Waits.{FailsToSettle, HasCome, IsBad, IsPlayed, MaySettle, Standing, keeping_of, pending_of, stands_with};
 ghost use Rattle.scene_shell.specs.Shell.{AddsAnswer, IsAnswer, IsSent};
 
-use crate::fault::AppFault;
 use crate::keep::KeptWriter;
 use crate::kept_fault::KeptFault;
 use crate::kept_line::push_kept_line;
@@ -17,6 +16,7 @@ use crate::style::AnswerStyle;
 use scene_interpreter::{Halt, Interpreter};
 use scene_script::{BadLine, first_line};
 use scene_session::{LoneOwner, Performer};
+use scene_streams::AppFault;
 use std::alloc::{AllocError, Global};
 use std::io::Write;
 

@@ -1,3 +1,4 @@
+pub mod AppFault
 pub mod Keep
 pub mod Known
 pub mod Limits

@@ -16,10 +16,12 @@
 //! one record each what a caller knows once it has read a source, and once it has written to a sink.
 #![tactic(auto)]
 
+mod app_fault;
 mod keep;
 mod sink;
 mod source;
 
+pub use app_fault::AppFault;
 pub use keep::{Keep, KeptLines, KeptText};
 pub use sink::{Sink, WriteError};
 pub use source::{MOST_BYTES, MOST_TURNS, ReadError, Source};

@@ -1,7 +1,7 @@
 use Rattle.std.proofs.Common.{◌≡◌, length, subst}
 use Rattle.std.specs.Prelude.{take}
 use Rattle.scene_streams.specs.Source.{reader_of}
-use Rattle.scene_app.specs.Play.{bad_lines}
+use Rattle.scene_interpreter.specs.Printed.{bad_lines}
 use Rattle.scene_app.proofs.Ends.{told_so}
 use Rattle.scene_app.proofs.alone.run_alone.Goals as goal
 

@@ -1,7 +1,7 @@
 use Rattle.std.proofs.Common.{◌++◌, ap, sym, ◌∙◌, arith, string_bytes}
 use Rattle.std.specs.Str.Lines.{lines}
 use Rattle.scene_interpreter.specs.Interpreter.{reached}
-use Rattle.scene_app.specs.Play.{printed_from}
+use Rattle.scene_interpreter.specs.Printed.{printed_from}
 use Rattle.scene_app.specs.Steps.{noted}
 use Rattle.scene_app.proofs.PlayLaws.{line_played}
 use Rattle.scene_app.proofs.play.play_lines.Goals as goal

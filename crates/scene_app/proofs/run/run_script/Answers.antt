@@ -2,7 +2,7 @@ use Rattle.std.proofs.Common.{◌≡◌, length, subst}
 use Rattle.std.specs.Prelude.{take}
 use Rattle.scene_session.specs.Passes.{AreOf}
 use Rattle.scene_streams.specs.Source.{reader_of}
-use Rattle.scene_app.specs.Play.{bad_lines, owner_after}
+use Rattle.scene_interpreter.specs.Printed.{bad_lines, owner_after}
 use Rattle.scene_app.proofs.Ends.{ends_so}
 use Rattle.scene_app.proofs.run.run_script.Goals as goal
 

@@ -1,7 +1,7 @@
 -- The numbers and names of the faults that end a run, and which fault a failed read is.
 use Rattle.std.specs.Prelude.{ℕ, List, codes}
-use Rattle.scene_shell.specs.declared.fault.AppFault.{AppFault}
-use Rattle.scene_shell.specs.declared.fault.AppFault.TheVariants as app
+use Rattle.scene_streams.specs.declared.app_fault.AppFault.{AppFault}
+use Rattle.scene_streams.specs.declared.app_fault.AppFault.TheVariants as app
 use Rattle.scene_streams.specs.declared.source.ReadError.{ReadError}
 use Rattle.scene_streams.specs.declared.source.ReadError.TheVariants as read
 

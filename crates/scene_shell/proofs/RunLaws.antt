@@ -3,7 +3,7 @@ use Rattle.std.proofs.Common.{◌≡◌, ℕ, ◌+◌, List, [], ◌∷◌, ◌+
 use Rattle.std.proofs.lemmas.List.{length-append}
 use Rattle.std.specs.Str.Lines.{lines}
 use Rattle.scene_script.specs.declared.bad_line.BadLine.{BadLine}
-use Rattle.scene_app.specs.Play.{bad_lines, output, printed_from, reports_at}
+use Rattle.scene_interpreter.specs.Printed.{bad_lines, output, printed_from, reports_at}
 use Rattle.scene_interpreter.specs.Interpreter.{Interpreter, first_interpreter, lone_interpreter, interpreter_reply}
 use Rattle.scene_shell.specs.Shell.{IsSaid, bad_count, plain_style, said_of}
 use Rattle.scene_shell.proofs.SaidLaws.{said_plainly}

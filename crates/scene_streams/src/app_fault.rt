@@ -1,9 +1,10 @@
 //! The faults that end a run.
 ghost use Rattle.std.specs.Prelude.{◌≡◌};
-ghost use Rattle.scene_shell.specs.Fault.{app_number, app_name, of_read_error};
-ghost use Rattle.scene_shell.specs.declared.fault.AppFault.TheVariants.{WriteFault, NoMemory};
+ghost use Rattle.scene_streams.specs.AppFault.{app_number, app_name, of_read_error};
+ghost use Rattle.scene_streams.specs.declared.app_fault.AppFault.TheVariants.{WriteFault, NoMemory};
 
-use scene_streams::{ReadError, WriteError};
+use crate::sink::WriteError;
+use crate::source::ReadError;
 use std::alloc::AllocError;
 use thiserror::Error;
 

@@ -4,7 +4,7 @@ use Rattle.std.specs.Str.Lines.{lines}
 use Rattle.scene_session.specs.Owner.{OwnerState}
 use Rattle.scene_script.specs.declared.bad_line.BadLine.{BadLine}
 use Rattle.scene_interpreter.specs.Interpreter.{Interpreter, LineReply, first_interpreter, owner_of, interpreter_reply}
-use Rattle.scene_app.specs.declared.report.BadLineReport.{BadLineReport}
+use Rattle.scene_interpreter.specs.declared.bad_line_report.BadLineReport.{BadLineReport}
 
 -- what lines print, their bad ones, each by its number from 1, with the reason, and the owner at their end
 pub record Printed : Type 0 where

@@ -1,7 +1,7 @@
 //! What users of a run rely on, as the contract of a function without a body.
 ghost use Rattle.std.specs.Prelude.{◌≡◌, ℕ, List, length};
 ghost use Rattle.std.specs.Str.Lines.{lines};
-ghost use Rattle.scene_app.specs.Play.{bad_lines, output};
+ghost use Rattle.scene_interpreter.specs.Printed.{bad_lines, output};
 ghost use Rattle.scene_interpreter.specs.Interpreter.{lone_interpreter};
 ghost use Rattle.scene_shell.specs.Shell.{IsSaid, bad_count, plain_style};
 
