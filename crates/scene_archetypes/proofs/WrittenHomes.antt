@@ -13,10 +13,10 @@ use Rattle.scene_kinds.proofs.Lists.{list_at_apart}
 use Rattle.scene_table.specs.Rows.{swap_out, put_back}
 use Rattle.scene_kinds.proofs.Elements.{written, written_stays, written_there}
 use Rattle.scene_table.specs.declared.home.Home.{Home}
-use Rattle.scene_table.specs.Tables.{Tables, rows_at, row_at, home_in, with_rows, without_row, with_row_at, StandsOnce, home_for, with_row_back, StandsIn, NoneOf}
+use Rattle.scene_table.specs.Tables.{Tables, rows_at, row_at, home_in, lives, with_rows, without_row, with_row_at, StandsOnce, home_for, with_row_back, StandsIn, NoneOf}
 use Rattle.scene_archetypes.specs.Archetypes.{AreHomes, SameHomes, homes_left, homes_come}
 use Rattle.scene_table.proofs.RowLists.{element_at}
-use Rattle.scene_table.proofs.Homes.{home_is, home_none}
+use Rattle.scene_table.proofs.Homes.{here_live, home_is, home_none}
 use Rattle.scene_table.proofs.ReturnedRows.{returned, returned_there, returned_where}
 use Rattle.scene_table.proofs.Standing.{same_home, removed, removed_where, rewritten, rewritten_stays}
 
@@ -255,6 +255,15 @@ dead_home t homes e a nowhere = home_none t e (λ h r is same. nowhere h (ap (λ
 -- the home that a search by index gives, where one stands there
 pub home_lent : (homes now : List (Option Home)) (index : ℕ) (h : Home) (o : Option Home) → now ≡ homes → o ≡ option_flatten (slice_get now index) → slice_get homes index ≡ Some (Some h) → o ≡ Some h
 home_lent homes now index h o s is at = is ∙ ap (λ (hs : List (Option Home)). option_flatten (slice_get hs index)) s ∙ ap option_flatten at
+
+-- and of an entity that lives it is where its row stands
+pub home_lives : (t : Tables) (homes now : List (Option Home)) (e : Entity) (o : Option Home) → AreHomes t homes → lives t e ≡ true → now ≡ homes
+    → o ≡ option_flatten (slice_get now e.index) → (h : Home) × (StandsIn t e h × (o ≡ Some h))
+home_lives t homes now e o a live s is =
+    let home = here_live t e live in
+    let stands : StandsIn t e home.0 = ap (option_map (λ (r : Row). r.entity)) home.1.there ∙ ap Some home.1.same in
+    let at : slice_get homes e.index ≡ Some (Some home.0) = ap (λ (x : Entity). slice_get homes x.index) (sym home.1.same) ∙ a.kept home.0 home.1.row home.1.there in
+    (home.0, (stands, home_lent homes now e.index home.0 o s is at))
 
 -- entities of equal parts, and equal ones
 pub same_parts : (a b : Entity) → (nat_eq a.index b.index && nat_eq a.generation b.generation) ≡ true → a ≡ b

@@ -1,14 +1,17 @@
 -- The tables of a world by kind set: their rows, and for how many rows each has memory. And the lists of the code that
 -- they are.
-use Rattle.std.specs.Prelude.{◌≡◌, ◌≢◌, ℕ, zero, suc, ◌<◌, ◌≤◌, List, [], ◌∷◌, true, is_some, length, map as each}
-use Rattle.std.specs.Option.{unwrap_or}
+use Rattle.std.specs.Prelude.{◌≡◌, ◌≢◌, ℕ, zero, suc, ◌<◌, ◌≤◌, List, [], ◌∷◌, true, is_some, Option, slice_get, length, map as each}
+use Rattle.std.specs.Option.{option_map, unwrap_or}
 use Rattle.std.specs.Ordering.{nat_cmp}
 use Rattle.std.specs.Cmp.{nat_cmp_total}
 use Rattle.scene_kinds.specs.Map as map
 use Rattle.scene_kinds.specs.KindSet.{KindSet}
+use Rattle.scene_kinds.specs.declared.cells.Row.{Row}
+use Rattle.scene_kinds.specs.declared.entity.Entity.{Entity}
 use Rattle.scene_table.specs.Table.{TableState}
 use Rattle.scene_table.specs.declared.home.Home.{Home}
 use Rattle.scene_table.specs.Tables.{Tables, rows_at, with_rows}
+use Rattle.scene_archetypes.specs.declared.places.Moved.{Moved}
 
 -- for how many rows each kind set has memory
 abbrev pub Rooms : Type 0
@@ -44,6 +47,17 @@ HoldRows rooms tables = (mask : ℕ) → length (rows_at tables mask) ≤ capaci
 -- a row stands at a home
 abbrev pub IsWithin : Tables → Home → Type 0
 IsWithin tables home = home.place < length (rows_at tables home.mask)
+
+-- the entity whose row stands at a place
+abbrev pub entity_at : List Row → ℕ → Option Entity
+entity_at rows place = option_map (λ row. row.entity) (slice_get rows place)
+
+-- whose rows changed places besides, where a row went to a place of the rows of another table: the one that stood there
+-- went last, and another may have come to the place in the old table, which now has these rows
+pub record AreMoved (target : List Row) (place : ℕ) (left : List Row) (from : ℕ) (moved : Moved) : Type 0 where
+  pub displaced : moved.displaced ≡ entity_at target place
+  pub last : moved.last ≡ length target
+  pub came : moved.came ≡ entity_at left from
 
 -- ---- the lists of the code
 

@@ -7,15 +7,14 @@ ghost use Rattle.scene_kinds.specs.Lists.{whole};
 ghost use Rattle.scene_kinds.specs.Map as map;
 ghost use Rattle.scene_kinds.specs.declared.cells.Row.{Row};
 ghost use Rattle.scene_table.specs.Table.{cell_at, row_with_cell, row_without_cell, rows_with_cell};
-ghost use Rattle.scene_table.specs.Tables.{rows_at, row_at, home_in, with_rows, without_row, masks_of};
-ghost use Rattle.scene_table.specs.Tables.{row_for, with_row_back};
+ghost use Rattle.scene_table.specs.Tables.{rows_at, row_at, row_for, home_in, lives, with_row_back, with_rows, without_row, masks_of};
 ghost use Rattle.scene_archetypes.specs.KindTables.{IsWider, IsWithin, capacity_at};
 ghost use Rattle.scene_archetypes.specs.Archetypes.{ArchetypesState, AreHomes, HoldsRows, HasRoomOf, SameHomes, homes_left, homes_come};
 ghost use Rattle.scene_table.specs.Tables.{NoneOf, StandsIn};
 
 use crate::kind_tables::KindTables;
 use scene_kinds::{Cell, CellRef, Entity, KindSet, Row, set_with, set_without};
-use scene_table::{Home, Table};
+use scene_table::{Home, RowCells, Table};
 use std::alloc::{AllocError, Global};
 use std::marker::Model;
 
@@ -135,6 +134,18 @@ impl Archetypes {
         if other == entity { Some(home) } else { None }
     }
 
+    /// Where the row of an entity stands that has one. It costs no look at the row.
+    pub fn known_home(&self, entity: Entity) -> Home
+        requires { lives self.now.tables entity ≡ true }
+        ensures home { home_in entity self.now.tables.entries ≡ Some result }
+        ensures stands { StandsIn self.now.tables entity result }
+    {
+        match home_at(self.homes.as_slice(), entity.index) {
+            Some(home) => home,
+            None => unreachable!(),
+        }
+    }
+
     /// Makes room for the homes of this many indices. It fails only where that room isn't there yet and no memory was
     /// found. The rows stay.
     pub fn reserve_homes(&mut self, indices: usize) -> Result<(), AllocError>
@@ -162,21 +173,18 @@ impl Archetypes {
 
     /// Puts a row at a place of the table of its kind set, and the row that stood there last; at the place behind the
     /// last it goes there. It takes no memory, since there must be room for the row.
-    pub fn put_back(&mut self, mask: KindSet, place: usize, row: Row)
-        requires mask { mask ≡ mask_of row.cells }
-        requires fits { HasKinds mask row }
+    pub fn put_back(&mut self, mask: KindSet, place: usize, entity: Entity, cells: RowCells<'_>)
+        requires mask { mask ≡ mask_of cells }
+        requires fits { HasKinds mask (row_for entity cells) }
         requires within { place ≤ length (rows_at self.old.tables mask) }
-        requires room { HasRoomOf self.old mask (suc row.entity.index) }
-        requires absent { NoneOf row.entity.index self.old.tables }
-        ensures tables { self.new.tables ≡ with_row_back self.old.tables place row }
+        requires room { HasRoomOf self.old mask (suc entity.index) }
+        requires absent { NoneOf entity.index self.old.tables }
+        ensures tables { self.new.tables ≡ with_row_back self.old.tables place (row_for entity cells.entry) }
         ensures rooms { self.new.rooms ≡ self.old.rooms }
         ensures homes { self.new.homes ≡ self.old.homes }
     {
         let home = Home { mask, place };
-        let displaced = self.tables.entity_at(home);
-        let last = self.tables.len(mask);
-        let entity = row.entity;
-        self.tables.put_back(mask, place, row);
+        let (displaced, last) = self.tables.put_back(mask, place, entity, cells);
         write_come(&mut self.homes, entity, home, displaced, last);
     }
 
@@ -188,8 +196,8 @@ impl Archetypes {
         ensures rooms { self.new.rooms ≡ self.old.rooms }
         ensures homes { self.new.homes ≡ self.old.homes }
     {
-        self.tables.drop_row(home);
-        write_left(&mut self.homes, entity, home, self.tables.entity_at(home));
+        let came = self.tables.drop_row(home);
+        write_left(&mut self.homes, entity, home, came);
     }
 
     /// Puts a cell in place of that of a kind in the row at a home, and gives the old one. It takes no memory.
@@ -224,11 +232,9 @@ impl Archetypes {
             mask: set_with(home.mask, kind),
             place,
         };
-        let displaced = self.tables.entity_at(target);
-        let last = self.tables.len(target.mask);
-        self.tables.move_with(home, place, kind, cell);
-        write_left(&mut self.homes, entity, home, self.tables.entity_at(home));
-        write_come(&mut self.homes, entity, target, displaced, last);
+        let moved = self.tables.move_with(home, place, kind, cell);
+        write_left(&mut self.homes, entity, home, moved.came);
+        write_come(&mut self.homes, entity, target, moved.displaced, moved.last);
     }
 
     /// Moves the row of an entity, which stands at a home, to a place of the table of the kind set with one kind less,
@@ -252,11 +258,9 @@ impl Archetypes {
             mask: set_without(home.mask, kind),
             place,
         };
-        let displaced = self.tables.entity_at(target);
-        let last = self.tables.len(target.mask);
-        let cell = self.tables.move_without(home, place, kind);
-        write_left(&mut self.homes, entity, home, self.tables.entity_at(home));
-        write_come(&mut self.homes, entity, target, displaced, last);
+        let (cell, moved) = self.tables.move_without(home, place, kind);
+        write_left(&mut self.homes, entity, home, moved.came);
+        write_come(&mut self.homes, entity, target, moved.displaced, moved.last);
         cell
     }
 

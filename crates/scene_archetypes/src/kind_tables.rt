@@ -9,14 +9,15 @@ ghost use Rattle.scene_kinds.specs.Map as map;
 ghost use Rattle.scene_kinds.specs.declared.cells.Row.{Row};
 ghost use Rattle.scene_table.specs.Rows.{put_back};
 ghost use Rattle.scene_table.specs.Table.{TableState, cell_at, row_with_cell, row_without_cell, rows_with_cell};
-ghost use Rattle.scene_table.specs.Tables.{Tables, rows_at, row_at, with_rows, with_row, without_row, masks_of};
-ghost use Rattle.scene_archetypes.specs.KindTables.{TablesState, AreListed, AreSound, HoldRows, NoneHas, StandsAt, IsKnown, HasRoomFor, IsWider, IsWithin, tables_of, rooms_of};
+ghost use Rattle.scene_table.specs.Tables.{Tables, rows_at, row_at, row_for, with_rows, with_row, without_row, masks_of};
+ghost use Rattle.scene_archetypes.specs.KindTables.{TablesState, AreListed, AreMoved, AreSound, HoldRows, NoneHas, StandsAt, IsKnown, HasRoomFor, IsWider, IsWithin, entity_at, tables_of, rooms_of};
 
 use crate::clones::clone_tables;
 use crate::kind_sets::{kind_sets_of, tables_by_kind_set};
+use crate::places::{Moved, drop_row, entity_in, move_with, move_without, put_row};
 use indexmap::IndexSet;
 use scene_kinds::{Cell, CellRef, Entity, KindSet, Row, set_with, set_without};
-use scene_table::{Home, Table};
+use scene_table::{Home, RowCells, Table};
 use std::alloc::{AllocError, Global};
 use std::marker::Model;
 use std::mem;
@@ -104,13 +105,6 @@ fn add_table(
     Ok(())
 }
 
-/// The entity at a place of a list.
-fn entity_in(entities: &[Entity], place: usize) -> Option<Entity>
-    ensures { result ≡ slice_get entities.now place }
-{
-    entities.get(place).copied()
-}
-
 impl KindTables {
     /// No tables. It takes no memory.
     pub(crate) fn new(alloc: Global) -> Self
@@ -150,26 +144,37 @@ impl KindTables {
     }
 
     /// Puts a row at a place of the table of its kind set, and the row that stood there last; at the place behind the
-    /// last it goes there. It takes no memory, since there must be room for the row.
-    pub(crate) fn put_back(&mut self, mask: KindSet, place: usize, row: Row)
-        requires fits { HasKinds mask row }
+    /// last it goes there. It gives the entity that stood there, and how many rows there were. It takes no memory, since
+    /// there must be room for the row.
+    pub(crate) fn put_back(
+        &mut self,
+        mask: KindSet,
+        place: usize,
+        entity: Entity,
+        cells: RowCells<'_>,
+    ) -> (Option<Entity>, usize)
+        requires fits { HasKinds mask (row_for entity cells) }
         requires within { place ≤ length (rows_at self.old.tables mask) }
         requires room { HasRoomFor self.old mask }
-        ensures tables { self.new.tables ≡ with_rows self.old.tables mask (put_back (rows_at self.old.tables mask) place row) }
+        ensures displaced { result.0 ≡ entity_at (rows_at self.old.tables mask) place }
+        ensures last { result.1 ≡ length (rows_at self.old.tables mask) }
+        ensures tables { self.new.tables ≡ with_rows self.old.tables mask (put_back (rows_at self.old.tables mask) place (row_for entity cells.entry)) }
         ensures rooms { self.new.rooms ≡ self.old.rooms }
     {
         let at = known_table(&self.kind_sets, self.tables.as_slice(), mask);
-        self.tables[at].unswap_reserved(place, row);
+        put_row(&mut self.tables[at], place, entity, cells)
     }
 
-    /// Drops the row at a home. The last row takes its place. It takes no memory.
-    pub(crate) fn drop_row(&mut self, home: Home)
+    /// Drops the row at a home. The last row takes its place, and its entity is given, if there is one. It takes no
+    /// memory.
+    pub(crate) fn drop_row(&mut self, home: Home) -> Option<Entity>
         requires { IsWithin self.old.tables home }
+        ensures came { result ≡ entity_at (rows_at self.new.tables home.mask) home.place }
         ensures tables { self.new.tables ≡ without_row self.old.tables home }
         ensures rooms { self.new.rooms ≡ self.old.rooms }
     {
         let at = known_table(&self.kind_sets, self.tables.as_slice(), home.mask);
-        self.tables[at].drop_row(home.place);
+        drop_row(&mut self.tables[at], home.place)
     }
 
     /// Puts a cell in place of that of a kind in the row at a home, and gives the old one. It takes no memory.
@@ -187,12 +192,13 @@ impl KindTables {
 
     /// Moves the row at a home to a place of the table of the kind set with one kind more, with a cell of that kind.
     /// The last row of its table takes its place; the row that stood at its new place goes last. It takes no memory.
-    pub(crate) fn move_with(&mut self, home: Home, place: usize, kind: u8, cell: Cell)
+    pub(crate) fn move_with(&mut self, home: Home, place: usize, kind: u8, cell: Cell) -> Moved
         requires within { IsWithin self.old.tables home }
         requires low { kind < 64 }
         requires lacks { has_kind home.mask kind ≡ false }
         requires place { place ≤ length (rows_at self.old.tables (set_with home.mask kind)) }
         requires room { HasRoomFor self.old (set_with home.mask kind) }
+        ensures moved { AreMoved (rows_at self.old.tables (set_with home.mask kind)) place (rows_at self.new.tables home.mask) home.place result }
         ensures tables { (row : Row) → row_at self.old.tables home ≡ Some row
             → self.new.tables ≡ with_rows (without_row self.old.tables home) (set_with home.mask kind)
             (put_back (rows_at self.old.tables (set_with home.mask kind)) place (row_with_cell row kind cell)) }
@@ -205,20 +211,29 @@ impl KindTables {
             set_with(home.mask, kind),
         );
         let mut source = mem::replace(&mut self.tables[from], Table::new(self.alloc, home.mask));
-        source.move_with(home.place, &mut self.tables[to], place, kind, cell);
+        let moved = move_with(
+            &mut source,
+            home.place,
+            &mut self.tables[to],
+            place,
+            kind,
+            cell,
+        );
         self.tables[from] = source;
+        moved
     }
 
     /// Moves the row at a home to a place of the table of the kind set with one kind less, and gives the cell of that
     /// kind. The last row of its table takes its place; the row that stood at its new place goes last. It takes no
     /// memory.
-    pub(crate) fn move_without(&mut self, home: Home, place: usize, kind: u8) -> Cell
+    pub(crate) fn move_without(&mut self, home: Home, place: usize, kind: u8) -> (Cell, Moved)
         requires within { IsWithin self.old.tables home }
         requires low { kind < 64 }
         requires has { has_kind home.mask kind ≡ true }
         requires place { place ≤ length (rows_at self.old.tables (set_without home.mask kind)) }
         requires room { HasRoomFor self.old (set_without home.mask kind) }
-        ensures cell { cell_at (rows_at self.old.tables home.mask) home.place kind ≡ Some result }
+        ensures cell { cell_at (rows_at self.old.tables home.mask) home.place kind ≡ Some result.0 }
+        ensures moved { AreMoved (rows_at self.old.tables (set_without home.mask kind)) place (rows_at self.new.tables home.mask) home.place result.1 }
         ensures tables { (row : Row) → row_at self.old.tables home ≡ Some row
             → self.new.tables ≡ with_rows (without_row self.old.tables home) (set_without home.mask kind)
             (put_back (rows_at self.old.tables (set_without home.mask kind)) place (row_without_cell row kind)) }
@@ -232,9 +247,9 @@ impl KindTables {
             set_without(home.mask, kind),
         );
         let mut source = mem::replace(&mut self.tables[from], Table::new(self.alloc, home.mask));
-        let cell = source.move_without(home.place, &mut self.tables[to], place, kind);
+        let moved = move_without(&mut source, home.place, &mut self.tables[to], place, kind);
         self.tables[from] = source;
-        cell
+        moved
     }
 
     /// A law of every value: each kind set has memory for the rows that it has. It does nothing.

@@ -10,5 +10,6 @@ mod archetypes;
 mod clones;
 mod kind_sets;
 mod kind_tables;
+mod places;
 
 pub use archetypes::Archetypes;

@@ -1,9 +1,11 @@
 pub mod Ascending
 pub mod Asked
+pub mod ComeBack
 pub mod Commands
+pub mod Copied
 pub mod CountWithout
 pub mod Counts
-pub mod Deltas
+pub mod EachCopied
 pub mod Ends
 pub mod LastRow
 pub mod Lists

@@ -6,7 +6,7 @@ use Rattle.scene_world.specs.Room.{Room, Holds}
 use Rattle.scene_deltas.specs.declared.delta.Delta.{Delta}
 use Rattle.scene_deltas.specs.Deltas.{fwd, back, FitsBack, fwd_all, back_all, AllFitBack, AllFitOn}
 use Rattle.scene_deltas.specs.Ready.{AreReady, AreReadyOn}
-use Rattle.scene_deltas.proofs.Deltas.{deltas_come_back, delta_lists_come_back}
+use Rattle.scene_deltas.proofs.ComeBack.{deltas_come_back, delta_lists_come_back}
 
 pub ready_fits_back : (room : Room) (ds : List Delta) (w : World) → AreReady room ds w → AllFitBack ds w
 ready_fits_back room [] w h = tt

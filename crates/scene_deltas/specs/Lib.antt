@@ -1,5 +1,7 @@
 pub mod Ascending
 pub mod CommandLaws
+pub mod Copies
+pub mod DeltaList
 pub mod Deltas
 pub mod Laws
 pub mod Notes

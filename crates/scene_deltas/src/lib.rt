@@ -7,24 +7,36 @@
 //! `specs/Notes.antt` which deltas a command makes. `laws` says that each takes the other direction back exactly.
 //! `make_again` and `take_back` need a `World` with room; `redo_delta` and `undo_delta` make the room, and copy the
 //! cells.
+//!
+//! `Deltas` are those of a frame, which are gone through from the first or from the last on. `undo_all` and `redo_all`
+//! take them back and make them again by reference, in a `World` with room, where what only memory can copy was copied
+//! before.
 #![tactic(auto)]
 
+mod copies;
 mod delta;
+mod delta_list;
 mod fits;
 mod fits_back;
 mod laws;
+mod lent;
 mod redo;
 mod resource_cell;
 mod same;
 mod sound;
 mod steps;
 mod timely;
+mod walks;
 
+pub use copies::{copies_to_redo, copies_to_undo};
 pub use delta::Delta;
+pub use delta_list::Deltas;
 pub use fits::{count_without, standing};
 pub use laws::{commands_are_deltas, deltas_come_back};
+pub use lent::{redo_all, undo_all};
 pub use redo::{redo_delta, undo_delta};
 pub use resource_cell::ResourceCell;
 pub use sound::is_sound;
-pub use steps::{make_again, make_all_again, take_all_back, take_back};
+pub use steps::{make_again, take_all_back, take_back};
 pub use timely::can_set_tick;
+pub use walks::{Backward, Forward};

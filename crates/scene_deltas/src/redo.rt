@@ -7,6 +7,7 @@ use crate::delta::Delta;
 use crate::resource_cell::ResourceCell;
 use crate::steps::wide;
 use scene_kinds::Cell;
+use scene_table::RowCells;
 use scene_world::{RawChanges, World};
 use std::alloc::AllocError;
 
@@ -36,7 +37,7 @@ pub fn redo_delta(world: &mut World, delta: &Delta) -> Result<(), AllocError>
             entity,
             cells,
             fresh,
-        } => world.put_row(*entity, cells.try_clone()?, *fresh),
+        } => world.put_row(*entity, RowCells::copied(cells)?, *fresh),
         Delta::Despawned { entity, .. } => {
             world.cut_row(*entity);
             Ok(())
@@ -88,7 +89,7 @@ pub fn undo_delta(world: &mut World, delta: &Delta) -> Result<(), AllocError>
             link,
             retired,
         } => {
-            let cells = cells.try_clone()?;
+            let cells = RowCells::copied(cells)?;
             world.uncut_row(*entity, *place as usize, cells, wide(*link), *retired)
         }
         Delta::Shifted {

@@ -1,11 +1,13 @@
 //! Deltas that are made again and taken back in a world that has room for them.
 ghost use Rattle.std.specs.Prelude.{◌≡◌};
-ghost use Rattle.scene_deltas.specs.Deltas.{back, fwd, FitsBack, FitsOn, back_all, fwd_all};
-ghost use Rattle.scene_deltas.specs.Ready.{AreReady, AreReadyOn};
+ghost use Rattle.scene_deltas.specs.Deltas.{back, fwd, FitsBack, FitsOn, back_all};
+ghost use Rattle.scene_deltas.specs.Ready.{AreReady};
 ghost use Rattle.scene_world.specs.Room.{Holds};
 
 use crate::delta::Delta;
+use crate::delta_list::Deltas;
 use scene_kinds::Entity;
+use scene_table::RowCells;
 use scene_world::{RawChanges, World};
 
 /// A link as the calls of a world take it.
@@ -33,7 +35,10 @@ pub fn take_back(world: &mut World, delta: Delta)
             cells,
             link,
             retired,
-        } => world.uncut_row_reserved(entity, place as usize, cells, wide(link), retired),
+        } => {
+            let cells = RowCells::own(cells);
+            world.uncut_row_reserved(entity, place as usize, cells, wide(link), retired);
+        }
         Delta::Shifted {
             entity,
             place,
@@ -70,7 +75,7 @@ pub fn make_again(world: &mut World, delta: Delta)
             entity,
             cells,
             fresh,
-        } => world.put_row_reserved(entity, cells, fresh),
+        } => world.put_row_reserved(entity, RowCells::own(cells), fresh),
         Delta::Despawned { entity, .. } => world.cut_row(entity),
         Delta::Shifted {
             entity,
@@ -95,7 +100,7 @@ pub fn make_again(world: &mut World, delta: Delta)
 }
 
 /// Takes deltas back, the last first, where each is ready at its turn. It takes no memory.
-pub fn take_all_back(world: &mut World, deltas: Vec<Delta>)
+pub fn take_all_back(world: &mut World, deltas: Deltas)
     requires { AreReady world.old.room deltas.items world.old.world }
     ensures world { world.new.world ≡ back_all deltas.items world.old.world }
     ensures room { world.new.room ≡ world.old.room }
@@ -103,18 +108,5 @@ pub fn take_all_back(world: &mut World, deltas: Vec<Delta>)
     let mut left = deltas;
     while let Some(delta) = left.pop() {
         take_back(world, delta);
-    }
-}
-
-/// Makes deltas again, the first first, where each is ready at its turn. It takes no memory.
-pub fn make_all_again(world: &mut World, deltas: Vec<Delta>)
-    requires { AreReadyOn world.old.room deltas.items world.old.world }
-    ensures world { world.new.world ≡ fwd_all deltas.items world.old.world }
-    ensures room { world.new.room ≡ world.old.room }
-{
-    let mut left = deltas;
-    left.reverse();
-    while let Some(delta) = left.pop() {
-        make_again(world, delta);
     }
 }

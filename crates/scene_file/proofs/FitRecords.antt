@@ -13,7 +13,7 @@ use Rattle.scene_model.proofs.ResourceBack.{ticks_come_back}
 use Rattle.scene_deltas.specs.declared.delta.Delta.{Delta}
 use Rattle.scene_deltas.specs.declared.delta.Delta.TheVariants.{Spawned, Despawned, Shifted, CellSet, Linked, ResourceSet}
 use Rattle.scene_deltas.specs.Deltas.{fwd, back, fwd_all, back_all, AllFitOn}
-use Rattle.scene_deltas.proofs.Deltas.{deltas_come_back}
+use Rattle.scene_deltas.proofs.ComeBack.{deltas_come_back}
 use Rattle.scene_journal.specs.Records.{Record, raised, redone, undone, RecordFitsOn, RecordFitsBack}
 use Rattle.scene_journal.proofs.Records.{records_come_back, can_raise}
 use Rattle.scene_journal.specs.FirstFaults.{PastFits, FutureFits}

@@ -1,6 +1,7 @@
 //! Records.
 
 use crate::read_deltas::DeltaForm;
+use scene_deltas::Deltas;
 use scene_journal::FrameRecord;
 use scene_json::Part;
 use scene_json_forms::{FileResult, Form, ListOf, Path, TickForm, key_of, object_at};
@@ -36,7 +37,7 @@ impl Form for RecordForm<'_> {
         });
         let deltas = key_of(alloc, &form, path, value, "deltas")?;
         let tick = key_of(alloc, &TickForm, path, value, "tick")?;
-        Ok(FrameRecord::new(tick, deltas))
+        Ok(FrameRecord::new(tick, Deltas::from(deltas)))
     }
 }
 

@@ -6,18 +6,19 @@ ghost use Rattle.scene_json_forms.specs.Text.{list_text};
 ghost use Rattle.scene_file_records.specs.Text.{delta_text, record_text, records_text};
 
 use crate::write_deltas::write_delta;
-use scene_deltas::Delta;
+use scene_deltas::Deltas;
 use scene_journal::FrameRecord;
 use scene_json_forms::write_comma;
 use std::alloc::{AllocError, Global};
 
 /// Adds a list of deltas.
-fn write_deltas(alloc: Global, out: &mut String, deltas: &[Delta]) -> Result<(), AllocError>
-    ensures { OnOk result (Adds out.old out.new (compact_text (list_text delta_text deltas.now))) }
+fn write_deltas(alloc: Global, out: &mut String, deltas: &Deltas) -> Result<(), AllocError>
+    ensures { OnOk result (Adds out.old out.new (compact_text (list_text delta_text deltas.now.items))) }
 {
     let mut later = false;
     out.push_str("[")?;
-    'deltas: for delta in deltas {
+    let mut left = deltas.forward();
+    'deltas: while let Some(delta) = left.next() {
         write_comma(out, later)?;
         write_delta(alloc, out, delta)?;
         later = true;

@@ -25,7 +25,7 @@ use Rattle.scene_deltas.specs.declared.delta.Delta.TheVariants.{Spawned, Despawn
 use Rattle.scene_deltas.specs.Deltas.{back, back_all}
 use Rattle.scene_journal.specs.declared.spot.Spot.TheVariants.{Component, Resource}
 use Rattle.scene_journal.specs.Newest.{Newest, AreListed, Covers, GoesBack, IsListed, IsWider, ListsBack}
-use Rattle.scene_journal.proofs.Listed.{cells_wider}
+use Rattle.scene_journal.proofs.Listed.{EachOf, cells_wider}
 
 pub covers_wider : (a b : Newest) (w : World) → IsWider a b → Covers a w → Covers b w
 covers_wider a b w wide c = record {
@@ -131,11 +131,11 @@ module _ (n : Newest) where
         ] refl (sym (restored_cells w.resources name before q) ∙ is);
   }
 
-  covers_all : (ds : List Delta) (w : World) → ((i : ℕ) (d : Delta) → slice_get ds i ≡ Some d → ListsBack n d) → Covers n w → Covers n (back_all ds w)
+  covers_all : (ds : List Delta) (w : World) → EachOf (ListsBack n) ds → Covers n w → Covers n (back_all ds w)
   covers_all [] w lists c = c
-  covers_all (d ∷ ds) w lists c = covers_back d (back_all ds w) (lists 0 d refl) (covers_all ds w (λ i. lists (suc i)) c)
+  covers_all (d ∷ ds) w lists c = covers_back d (back_all ds w) lists.0 (covers_all ds w lists.1 c)
 
-  pub goes_back : (old : Newest) (ds : List Delta) → IsWider old n → ((i : ℕ) (d : Delta) → slice_get ds i ≡ Some d → ListsBack n d) → GoesBack ds old n
+  pub goes_back : (old : Newest) (ds : List Delta) → IsWider old n → EachOf (ListsBack n) ds → GoesBack ds old n
   goes_back old ds wide lists w c = covers_all ds w lists (covers_wider old n w wide c)
 
 -- more spots

@@ -1,4 +1,3 @@
-pub mod Copies
 pub mod Covers
 pub mod CutRows
 pub mod FewChildren

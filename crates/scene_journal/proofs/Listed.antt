@@ -1,6 +1,6 @@
 -- Spots that are listed, as more come.
 use Rattle.std.proofs.Common.{◌≡◌, ℕ, suc, ◌+◌, ◌<◌, ◌≤◌, true, false, cond, List, [], ◌∷◌, ◌++◌, length, map, refl, ap, subst, sym, ◌∙◌, arith, Bor, Option, Some, None, Result, Ok, OnOk}
-use Rattle.std.specs.Prelude.{Contains, Err, IfSome, option_copied, option_map, slice_get, slice_set}
+use Rattle.std.specs.Prelude.{⊤, Contains, Err, IfSome, option_copied, option_map, slice_get, slice_set}
 use Rattle.std.specs.declared.cmp.Ordering.{Ordering}
 use Rattle.std.specs.Ordering.{nat_cmp, eq_by_cmp}
 use Rattle.std.specs.FinMap.{IsAntisymmetric, nat_cmp-IsAntisymmetric}
@@ -82,6 +82,15 @@ one_more P Q xs count x wide is new before i y low at =
 
 pub all_up_to : {X : Type 0} (P : X → Type 0) (xs : List X) (count : ℕ) → length xs ≤ count → UpTo P xs count → (i : ℕ) (x : X) → slice_get xs i ≡ Some x → P x
 all_up_to P xs count all h i x at = let within = slice_get_within xs i x at in h i x (omega (arith, all, within)) at
+
+-- what holds of each element of a list
+abbrev pub EachOf : {X : Type 0} → (X → Type 0) → List X → Type 0
+EachOf P [] = ⊤
+EachOf P (x ∷ xs) = P x × EachOf P xs
+
+pub each_more : {X : Type 0} (P Q : X → Type 0) (xs : List X) (x : X) → ((y : X) → P y → Q y) → Q x → EachOf P xs → EachOf Q (xs ++ x ∷ [])
+each_more P Q [] x wide is h = (is, tt)
+each_more P Q (y ∷ xs) x wide is h = (wide y h.0, each_more P Q xs x wide is h.1)
 
 -- a cell that is found stands somewhere
 pub found_at : {K X : Type 0} {R : K → K → Ordering} → IsAntisymmetric R → (es : List (K × X)) (k : K) (x : X) → find R k es ≡ Some x

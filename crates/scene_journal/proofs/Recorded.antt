@@ -13,7 +13,7 @@ use Rattle.scene_deltas.specs.Deltas.{back, fwd, FitsBack, back_all}
 use Rattle.scene_deltas.specs.CommandLaws.{LeadTo}
 use Rattle.scene_deltas.specs.Notes.{deltas_of, listed_delta}
 use Rattle.scene_deltas.specs.Ready.{AreReady, AreReadyOn}
-use Rattle.scene_deltas.proofs.Deltas.{deltas_come_back}
+use Rattle.scene_deltas.proofs.ComeBack.{deltas_come_back}
 use Rattle.scene_deltas.proofs.Ready.{back_pushed, ready_appended}
 use Rattle.scene_deltas.proofs.Truncated.{found_ready}
 

@@ -13,7 +13,7 @@ use Rattle.scene_model.proofs.ResourceBack.{ticks_come_back}
 use Rattle.scene_journal.specs.Records.{Record, raised, redone, undone, RecordFitsOn, RecordFitsBack}
 use Rattle.scene_deltas.specs.Deltas.{fwd_all, back_all, AllFitOn}
 use Rattle.scene_journal.specs.Laws.{RecordsComeBack}
-use Rattle.scene_deltas.proofs.Deltas.{delta_lists_come_back, fwd_all_keeps_tick, back_all_keeps_tick}
+use Rattle.scene_deltas.proofs.ComeBack.{delta_lists_come_back, fwd_all_keeps_tick, back_all_keeps_tick}
 
 -- a tick that can be raised
 pub raises : (w : World) → w.tick < highest_tick → raise_tick w ≡ Ok (tt, raised w)

@@ -1,6 +1,6 @@
 -- Deltas that are made, or taken back, up to one of them.
-use Rattle.std.proofs.Common.{◌≡◌, ℕ, Bool, true, false, ◌+◌, ◌<◌, ◌≤◌, List, [], ◌∷◌, ◌++◌, length, take, drop, get_or, refl, ap, sym, subst, ◌∙◌, arith}
-use Rattle.std.proofs.lemmas.List.{take_all, take-append-drop, length-take-le}
+use Rattle.std.proofs.Common.{◌≡◌, ℕ, Bool, true, false, ◌+◌, ◌-◌, List, [], ◌∷◌, ◌++◌, length, length-append, append_assoc, refl, ap, sym, subst, ◌∙◌, arith}
+use Rattle.std.proofs.lemmas.List.{append-nil}
 use Rattle.scene_model.specs.World.{World}
 use Rattle.scene_deltas.specs.declared.delta.Delta.{Delta}
 use Rattle.scene_deltas.specs.Deltas.{fwd, back, fits_on, fits_back, FitsOn, FitsBack, fwd_all, back_all, AllFitOn, AllFitBack}
@@ -9,42 +9,55 @@ use Rattle.scene_journal.specs.Records.{Record}
 use Rattle.scene_journal.specs.Faults.{IsFirstUnfit, IsLastUnfit, IsFaultBack, FaultsAreFaults, IsAfterSome, IsBeforeSome, Names}
 use Rattle.scene_world.specs.Room.{Room, Holds, IsWider}
 use Rattle.scene_deltas.specs.Ready.{AreReady, AreReadyOn, IsReadyOn}
-use Rattle.scene_deltas.proofs.Lists.{cut_here, may_longer, may_next, may_parts, one_more, undo_parts}
-use Rattle.scene_deltas.proofs.Lists.{IsTakenTo as IsListTakenTo, made_next as list_next, taken_next as list_taken}
+use Rattle.scene_deltas.proofs.Lists.{after_appended, may_appended, may_parts, one_more, undo_parts}
+use Rattle.scene_deltas.proofs.Lists.{IsTakenTo as IsListTakenTo, taken_next as list_taken}
 use Rattle.scene_journal.proofs.Recorded.{on_wider, ready_wider}
 
 -- ---- made, the first first
 
-module _ (ds : List Delta) (w v : World) (i : ℕ) (d : Delta) (low : i < length ds) (is : d ≡ get_or ds i d) (made : v ≡ fwd_all (take i ds) w) where
-  pub fits_next : AllFitOn ds w → FitsOn d v
-  fits_next = may_next fwd ds w v i d low is made FitsOn
+-- deltas before the left ones are made
+abbrev pub IsMadeTo : List Delta → World → List Delta → World → List Delta → Type 0
+IsMadeTo ds w left v made = (ds ≡ made ++ left) × (v ≡ fwd_all made w)
 
-  pub made_next : (u : World) → u ≡ fwd d v → u ≡ fwd_all (take (i + 1) ds) w
-  made_next = list_next fwd ds w v i d low is made
+module _ (ds : List Delta) (w v : World) (left behind made : List Delta) (d : Delta) (cut : left ≡ d ∷ behind) (now : IsMadeTo ds w left v made) where
+  there : ds ≡ made ++ d ∷ behind
+  there = now.0 ∙ ap (λ es. made ++ es) cut
+
+  pub fits_next : AllFitOn ds w → FitsOn d v
+  fits_next all = subst (FitsOn d) (sym now.1) (may_parts FitsOn fwd made (d ∷ behind) w (subst (λ es. AllFitOn es w) there all)).1.0
+
+  pub made_next : (u : World) → u ≡ fwd d v → IsMadeTo ds w behind u (made ++ d ∷ [])
+  made_next u by = (there ∙ sym (append_assoc made (d ∷ []) behind), by ∙ ap (fwd d) now.1 ∙ sym (after_appended fwd made (d ∷ []) w))
 
   -- the world after one more is held by its own room, which may be wider
-  pub ready_next : (room wider : Room) (u : World) → u ≡ fwd d v → FitsOn d v → Holds wider u → IsWider room wider → AreReadyOn room (take i ds) w
-      → AreReadyOn wider (take (i + 1) ds) w
+  pub ready_next : (room wider : Room) (u : World) → u ≡ fwd d v → FitsOn d v → Holds wider u → IsWider room wider → AreReadyOn room made w
+      → AreReadyOn wider (made ++ d ∷ []) w
   ready_next room wider u by fits held wide before =
-      may_longer fwd ds w v i d low is made (IsReadyOn wider) (on_wider room wider (take i ds) w wide before)
-      (record { fits = fits; held = subst (Holds wider) by held })
+      may_appended (IsReadyOn wider) fwd made (d ∷ []) w (on_wider room wider made w wide before)
+      (subst (IsReadyOn wider d) now.1 (record { fits = fits; held = subst (Holds wider) by held }), tt)
 
-  pub unfit_here : AllFitOn (take i ds) w → fits_on d v ≡ false → IsFirstUnfit ds w i
+  pub unfit_here : AllFitOn made w → fits_on d v ≡ false → IsFirstUnfit ds w (length made)
   unfit_here before unfit = record {
-    before = take i ds;
+    before = made;
     delta = d;
-    behind = drop (i + 1) ds;
-    cut = cut_here fwd ds w v i d low is made;
-    number = sym (length-take-le i ds (omega (arith, low)));
+    behind = behind;
+    cut = there;
+    number = refl;
     fit = before;
-    unfit = ap (fits_on d) (sym made) ∙ unfit;
+    unfit = ap (fits_on d) (sym now.1) ∙ unfit;
   }
 
-pub some_made : (ds : List Delta) (w v : World) (i : ℕ) → v ≡ fwd_all (take i ds) w → IsAfterSome ds w v
-some_made ds w v i made = record { made = take i ds; left = drop i ds; cut = sym (take-append-drop i ds); after = made }
+  -- how many are made, by how many are left
+  pub number_made : length ds - 1 - length behind ≡ length made
+  number_made = let count = ap length there ∙ length-append made (d ∷ behind) in omega (arith, count)
 
-pub all_made : (ds : List Delta) (w v : World) (i : ℕ) → length ds ≤ i → v ≡ fwd_all (take i ds) w → v ≡ fwd_all ds w
-all_made ds w v i past made = made ∙ ap (λ es. fwd_all es w) (take_all i ds past)
+pub some_made : (ds : List Delta) (w v : World) (left made : List Delta) → IsMadeTo ds w left v made → IsAfterSome ds w v
+some_made ds w v left made now = record { made = made; left = left; cut = now.0; after = now.1 }
+
+pub all_made : (ds : List Delta) (w v : World) (left made : List Delta) → left ≡ [] → IsMadeTo ds w left v made → (ds ≡ made) × (v ≡ fwd_all ds w)
+all_made ds w v left made none now =
+    let whole = now.0 ∙ ap (λ es. made ++ es) none ∙ append-nil made in
+    (whole, now.1 ∙ ap (λ es. fwd_all es w) (sym whole))
 
 -- ---- taken back, the last first
 

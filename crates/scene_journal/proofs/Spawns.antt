@@ -16,7 +16,7 @@ use Rattle.scene_model.proofs.SpawnKeeps.{spawn_keeps}
 use Rattle.scene_deltas.specs.declared.delta.Delta.{Delta}
 use Rattle.scene_deltas.specs.declared.delta.Delta.TheVariants.{Spawned}
 use Rattle.scene_deltas.specs.Notes.{spawned, deltas_of}
-use Rattle.scene_deltas.proofs.Deltas.{deltas_come_back}
+use Rattle.scene_deltas.proofs.ComeBack.{deltas_come_back}
 use Rattle.scene_deltas.proofs.Ready.{cells_last}
 
 module _ (w v : World) (given : List (ℕ × Value)) (e : Entity) (valid : IsValid w) (is : spawn w given ≡ Ok (e, v)) where

@@ -1,12 +1,12 @@
 //! Despawns one after another, with their deltas.
-ghost use Rattle.std.specs.Prelude.{◌≡◌, ◌<◌, IfOk, OnOk, OnErr, vec_len, vec_capacity};
+ghost use Rattle.std.specs.Prelude.{◌≡◌, ◌<◌, IfOk, OnOk, OnErr};
 ghost use Rattle.scene_model.specs.Perform.{Despawn};
 ghost use Rattle.scene_deltas.specs.Ready.{AreReady};
 ghost use Rattle.scene_deltas.specs.Deltas.{back_all};
 ghost use Rattle.scene_deltas.specs.Notes.{CanCutEach, cut_each, deltas_of, despawned_each, listed_delta};
 
-use crate::notes::{despawned, keep, room_for_one};
-use scene_deltas::{Delta, is_sound, take_all_back};
+use crate::notes::{despawned, keep};
+use scene_deltas::{Delta, Deltas, is_sound, take_all_back};
 use scene_kinds::Entity;
 use scene_world::{RawChanges, World};
 use std::alloc::{AllocError, Global};
@@ -17,7 +17,7 @@ pub(crate) fn cut_each(
     alloc: Global,
     world: &mut World,
     order: &[Entity],
-) -> Result<Vec<Delta>, AllocError>
+) -> Result<Deltas, AllocError>
     requires { CanCutEach order.now world.old.world }
     ensures made { OnOk result (world.new.world ≡ cut_each order.now world.old.world) }
     ensures noted { IfOk result (λ deltas. deltas.items ≡ despawned_each order.now world.old.world) }
@@ -26,7 +26,7 @@ pub(crate) fn cut_each(
     ensures back { OnErr result (world.new.world ≡ world.old.world) }
     ensures room { world.new.room ≡ world.old.room }
 {
-    let mut deltas = Vec::new(alloc);
+    let mut deltas = Deltas::new(alloc);
     for entity in order {
         is_sound(world);
         match room_and_delta(alloc, world, *entity, &mut deltas) {
@@ -43,17 +43,17 @@ pub(crate) fn cut_each(
     Ok(deltas)
 }
 
-/// The delta of a despawn, and a place for it.
+/// The delta of a despawn, and room for it.
 fn room_and_delta(
     alloc: Global,
     world: &World,
     entity: Entity,
-    deltas: &mut Vec<Delta>,
+    deltas: &mut Deltas,
 ) -> Result<Option<Delta>, AllocError>
     ensures delta { IfOk result (λ delta. listed_delta delta ≡ deltas_of world.now.world (Despawn entity)) }
     ensures items { deltas.new.items ≡ deltas.old.items }
-    ensures room { OnOk result (vec_len deltas.new < vec_capacity deltas.new) }
+    ensures room { OnOk result (0 < deltas.new.room) }
 {
-    room_for_one(deltas)?;
+    deltas.reserve(1)?;
     despawned(alloc, world, entity)
 }

@@ -6,34 +6,34 @@ ghost use Rattle.scene_journal.specs.Records.{raised, redone, undone, RecordFits
 ghost use Rattle.scene_world.specs.Room.{IsWider};
 
 use crate::record::FrameRecord;
-use scene_deltas::{Delta, redo_delta, undo_delta};
+use scene_deltas::{Deltas, redo_delta, undo_delta};
 use scene_world::{RawChanges, World};
 use std::alloc::AllocError;
 
 /// Makes deltas again, the first first, where each fits at its turn.
-fn redo_each(draft: &mut World, deltas: &[Delta]) -> Result<(), AllocError>
-    requires { AllFitOn deltas.now draft.old.world }
-    ensures done { OnOk result (draft.new.world ≡ fwd_all deltas.now draft.old.world) }
-    ensures part { OnErr result (IsAfterSome deltas.now draft.old.world draft.new.world) }
+fn redo_each(draft: &mut World, deltas: &Deltas) -> Result<(), AllocError>
+    requires { AllFitOn deltas.now.items draft.old.world }
+    ensures done { OnOk result (draft.new.world ≡ fwd_all deltas.now.items draft.old.world) }
+    ensures part { OnErr result (IsAfterSome deltas.now.items draft.old.world draft.new.world) }
     ensures wide { IsWider draft.old.room draft.new.room }
 {
-    for delta in deltas {
+    let mut left = deltas.forward();
+    while let Some(delta) = left.next() {
         redo_delta(draft, delta)?;
     }
     Ok(())
 }
 
 /// Takes deltas back, the last first, where each fits back at its turn.
-fn undo_each(draft: &mut World, deltas: &[Delta]) -> Result<(), AllocError>
-    requires { AllFitBack deltas.now draft.old.world }
-    ensures done { OnOk result (draft.new.world ≡ back_all deltas.now draft.old.world) }
-    ensures part { OnErr result (IsBeforeSome deltas.now draft.old.world draft.new.world) }
+fn undo_each(draft: &mut World, deltas: &Deltas) -> Result<(), AllocError>
+    requires { AllFitBack deltas.now.items draft.old.world }
+    ensures done { OnOk result (draft.new.world ≡ back_all deltas.now.items draft.old.world) }
+    ensures part { OnErr result (IsBeforeSome deltas.now.items draft.old.world draft.new.world) }
     ensures wide { IsWider draft.old.room draft.new.room }
 {
-    let mut left = deltas;
-    while let Some((delta, before)) = left.split_last() {
+    let mut left = deltas.backward();
+    while let Some(delta) = left.next() {
         undo_delta(draft, delta)?;
-        left = before;
     }
     Ok(())
 }

@@ -12,7 +12,7 @@ ghost use Rattle.scene_world.specs.Room.{IsWider};
 
 use crate::newest::NewestCells;
 use crate::record::FrameRecord;
-use scene_deltas::{Delta, redo_delta, undo_delta};
+use scene_deltas::{Deltas, redo_delta, undo_delta};
 use scene_kinds::{Fault, Refusal};
 use scene_world::{RawChanges, World};
 
@@ -30,16 +30,17 @@ fn bad_record(delta: usize) -> Refusal
 }
 
 /// Makes deltas again, the first first, as far as each fits at its turn.
-fn redo_fitting(draft: &mut World, deltas: &[Delta]) -> Result<(), Refusal>
-    ensures ready { OnOk result (AreReadyOn draft.new.room deltas.now draft.old.world) }
-    ensures done { OnOk result (draft.new.world ≡ fwd_all deltas.now draft.old.world) }
-    ensures refused { IfErr result (Names (IsFirstUnfit deltas.now draft.old.world)) }
-    ensures part { OnErr result (IsAfterSome deltas.now draft.old.world draft.new.world) }
+fn redo_fitting(draft: &mut World, deltas: &Deltas) -> Result<(), Refusal>
+    ensures ready { OnOk result (AreReadyOn draft.new.room deltas.now.items draft.old.world) }
+    ensures done { OnOk result (draft.new.world ≡ fwd_all deltas.now.items draft.old.world) }
+    ensures refused { IfErr result (Names (IsFirstUnfit deltas.now.items draft.old.world)) }
+    ensures part { OnErr result (IsAfterSome deltas.now.items draft.old.world draft.new.world) }
     ensures wide { IsWider draft.old.room draft.new.room }
 {
-    for (number, delta) in deltas.iter().enumerate() {
+    let mut left = deltas.forward();
+    while let Some(delta) = left.next() {
         if !delta.fits_on(draft) {
-            return Err(bad_record(number));
+            return Err(bad_record(deltas.len() - 1 - left.len()));
         }
         redo_delta(draft, delta)?;
         draft.room_holds();
@@ -48,21 +49,20 @@ fn redo_fitting(draft: &mut World, deltas: &[Delta]) -> Result<(), Refusal>
 }
 
 /// Takes deltas back, the last first, as far as each fits back at its turn.
-fn undo_fitting(draft: &mut World, deltas: &[Delta]) -> Result<(), Refusal>
-    ensures ready { OnOk result (AreReady draft.new.room deltas.now draft.old.world) }
-    ensures done { OnOk result (draft.new.world ≡ back_all deltas.now draft.old.world) }
-    ensures refused { IfErr result (Names (IsLastUnfit deltas.now draft.old.world)) }
-    ensures part { OnErr result (IsBeforeSome deltas.now draft.old.world draft.new.world) }
+fn undo_fitting(draft: &mut World, deltas: &Deltas) -> Result<(), Refusal>
+    ensures ready { OnOk result (AreReady draft.new.room deltas.now.items draft.old.world) }
+    ensures done { OnOk result (draft.new.world ≡ back_all deltas.now.items draft.old.world) }
+    ensures refused { IfErr result (Names (IsLastUnfit deltas.now.items draft.old.world)) }
+    ensures part { OnErr result (IsBeforeSome deltas.now.items draft.old.world draft.new.world) }
     ensures wide { IsWider draft.old.room draft.new.room }
 {
-    let mut left = deltas;
-    while let Some((delta, before)) = left.split_last() {
+    let mut left = deltas.backward();
+    while let Some(delta) = left.next() {
         if !delta.fits_back(draft) {
-            return Err(bad_record(before.len()));
+            return Err(bad_record(left.len()));
         }
         undo_delta(draft, delta)?;
         draft.room_holds();
-        left = before;
     }
     Ok(())
 }

@@ -34,4 +34,4 @@ pub use laws::{frames_are_records, records_come_back};
 pub use newest::NewestCells;
 pub use record::FrameRecord;
 pub use recorder::Recorder;
-pub use scene_deltas::{Delta, redo_delta, undo_delta};
+pub use scene_deltas::{Delta, Deltas, redo_delta, undo_delta};

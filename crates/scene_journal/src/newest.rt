@@ -9,7 +9,7 @@ ghost use Rattle.scene_journal.specs.Newest.{AreListed, AreRowsListed, Covers, C
 ghost use Rattle.scene_journal.specs.Newest.{IsListed, IsNameListed, IsWider, ListsBack};
 
 use crate::spot::{Spot, Spots, were_changed_otherwise};
-use scene_deltas::{Delta, can_set_tick};
+use scene_deltas::{Delta, Deltas, can_set_tick};
 use scene_kinds::{Cell, Entity, Text};
 use scene_resources::Resources;
 use scene_table::Table;
@@ -74,11 +74,12 @@ impl NewestCells {
 
     /// Lists the cells that come back where deltas are taken back, or answers an error where no memory was found. It
     /// costs a look at these cells.
-    pub fn take_back(&mut self, deltas: &[Delta]) -> Result<(), AllocError>
-        ensures back { OnOk result (GoesBack deltas.now self.old self.new) }
+    pub fn take_back(&mut self, deltas: &Deltas) -> Result<(), AllocError>
+        ensures back { OnOk result (GoesBack deltas.now.items self.old self.new) }
         ensures ages { OnOk result (KeepsAges self.old self.new) }
     {
-        for delta in deltas {
+        let mut left = deltas.forward();
+        while let Some(delta) = left.next() {
             self.add_delta(delta)?;
         }
         Ok(())

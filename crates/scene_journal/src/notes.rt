@@ -1,5 +1,5 @@
 //! The delta of a command, as the world before it tells.
-ghost use Rattle.std.specs.Prelude.{◌≡◌, ◌<◌, ◌++◌, ◌∷◌, [], IfOk, OnOk, length, slice_get, vec_len, vec_capacity};
+ghost use Rattle.std.specs.Prelude.{◌≡◌, ◌<◌, ◌++◌, ◌∷◌, [], IfOk, length, slice_get};
 ghost use Rattle.std.specs.Option.{option_map};
 ghost use Rattle.scene_kinds.specs.declared.cells.Row.{Row};
 ghost use Rattle.scene_kinds.specs.Cells.{put_over, shown};
@@ -7,10 +7,9 @@ ghost use Rattle.scene_links.specs.Forest.{link_in};
 ghost use Rattle.scene_resources.specs.Resources.{cell_of as resource_of};
 ghost use Rattle.scene_model.specs.CommandRaw.{last_link};
 ghost use Rattle.scene_model.specs.Perform.{Despawn, Insert, Remove, PutResource, RemoveResource};
-ghost use Rattle.scene_model.specs.Raw.{cells_of};
 ghost use Rattle.scene_deltas.specs.Notes.{deltas_of, listed_delta};
 
-use scene_deltas::{Delta, ResourceCell, count_without, standing};
+use scene_deltas::{Delta, Deltas, ResourceCell, count_without, standing};
 use scene_kinds::{Cell, CellRef, Cells, Entity, Text, Value};
 use scene_table::Table;
 use scene_world::World;
@@ -28,16 +27,6 @@ fn copy_cells(alloc: Global, table: &Table, place: u32) -> Result<Cells, AllocEr
         cells.push((kind, cell.try_to_cell()?))?;
     }
     Ok(Cells::from_vec(cells))
-}
-
-/// A copy of the cells of an entity, none where it isn't alive.
-pub(crate) fn cells_of(alloc: Global, world: &World, entity: Entity) -> Result<Cells, AllocError>
-    ensures { IfOk result (λ cells. cells ≡ cells_of world.now.world entity) }
-{
-    match standing(world, entity) {
-        Some((table, place)) => copy_cells(alloc, table, place),
-        None => Ok(Cells::new(alloc)),
-    }
 }
 
 /// The link of an entity, or `None` where it has no parent.
@@ -204,21 +193,9 @@ pub(crate) fn taken(alloc: Global, world: &World, name: &str) -> Result<Delta, A
     })
 }
 
-/// Makes a place for one more delta. The first one gets a list of one: most frames make no other.
-pub(crate) fn room_for_one(deltas: &mut Vec<Delta>) -> Result<(), AllocError>
-    ensures items { deltas.new.items ≡ deltas.old.items }
-    ensures room { OnOk result (vec_len deltas.new < vec_capacity deltas.new) }
-{
-    if deltas.is_empty() {
-        deltas.reserve_exact(1)
-    } else {
-        deltas.reserve(1)
-    }
-}
-
-/// Notes a delta, where there is one.
-pub(crate) fn keep(deltas: &mut Vec<Delta>, delta: Option<Delta>)
-    requires { vec_len deltas.old < vec_capacity deltas.old }
+/// Notes a delta, where there is one, for which there is room.
+pub(crate) fn keep(deltas: &mut Deltas, delta: Option<Delta>)
+    requires { 0 < deltas.old.room }
     ensures { deltas.new.items ≡ deltas.old.items ++ listed_delta delta }
 {
     if let Some(delta) = delta {

@@ -2,7 +2,7 @@
 ghost use Rattle.std.specs.Prelude.{◌≡◌, IfOk};
 ghost use Rattle.scene_journal.specs.Records.{record_of};
 
-use scene_deltas::Delta;
+use scene_deltas::Deltas;
 use std::alloc::{AllocError, Global};
 use std::marker::Model;
 
@@ -12,7 +12,7 @@ use std::marker::Model;
 #[derive(Debug)]
 pub struct FrameRecord {
     tick_before: u64,
-    deltas: Vec<Delta>,
+    deltas: Deltas,
 }
 
 impl Drop for FrameRecord {
@@ -34,7 +34,7 @@ impl Model for FrameRecord {
 
 impl FrameRecord {
     /// The record of a frame on a world of this tick, with these deltas, first to last. It takes no memory.
-    pub fn new(tick_before: u64, deltas: Vec<Delta>) -> Self
+    pub fn new(tick_before: u64, deltas: Deltas) -> Self
         ensures { result ≡ record_of tick_before deltas.items }
     {
         FrameRecord {
@@ -51,19 +51,19 @@ impl FrameRecord {
     }
 
     /// The deltas, in the order in which they were made.
-    pub fn deltas(&self) -> &[Delta]
-        ensures { result.now ≡ self.now.deltas }
+    pub fn deltas(&self) -> &Deltas
+        ensures { result.now.items ≡ self.now.deltas }
     {
-        self.deltas.as_slice()
+        &self.deltas
     }
 
     /// Where the deltas have their memory from.
     pub(crate) fn alloc(&self) -> Global {
-        *self.deltas.allocator()
+        self.deltas.alloc()
     }
 
-    /// The tick before the frame, and the list of deltas. It takes no memory.
-    pub fn into_parts(self) -> (u64, Vec<Delta>)
+    /// The tick before the frame, and the deltas. It takes no memory.
+    pub fn into_parts(self) -> (u64, Deltas)
         ensures { record_of result.0 result.1.items ≡ self }
     {
         let FrameRecord {
@@ -79,7 +79,7 @@ impl FrameRecord {
     {
         Ok(FrameRecord {
             tick_before: self.tick_before,
-            deltas: self.deltas.clone()?,
+            deltas: self.deltas.try_clone()?,
         })
     }
 }

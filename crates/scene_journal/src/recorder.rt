@@ -12,10 +12,10 @@ ghost use Rattle.scene_journal.specs.Recorder.{began, opening_of, recording, sta
 
 use crate::cuts::cut_each;
 use crate::inserted::insert;
-use crate::notes::{self, keep, last_link, link_of, room_for_one};
+use crate::notes::{self, keep, last_link, link_of};
 use crate::record::FrameRecord;
 use crate::spawned::spawn;
-use scene_deltas::{Delta, is_sound, take_all_back};
+use scene_deltas::{Delta, Deltas, is_sound, take_all_back};
 use scene_kinds::{Entity, Fault, Refusal, Value};
 use scene_world::{RawChanges, Stage, World};
 use std::alloc::{AllocError, Global};
@@ -30,7 +30,7 @@ pub struct Recorder {
     alloc: Global,
     world: World,
     tick_before: u64,
-    deltas: Vec<Delta>,
+    deltas: Deltas,
 }
 
 impl Drop for Recorder {
@@ -113,7 +113,7 @@ impl Recorder {
             alloc,
             world,
             tick_before,
-            deltas: Vec::new(alloc),
+            deltas: Deltas::new(alloc),
         }
     }
 
@@ -151,7 +151,7 @@ impl Recorder {
         ensures room { self.new.room ≡ self.old.room }
         ensures empty { self.new.frame.deltas ≡ [] }
     {
-        let mut deltas = std::mem::replace(&mut self.deltas, Vec::new(self.alloc));
+        let mut deltas = std::mem::replace(&mut self.deltas, Deltas::new(self.alloc));
         deltas.shrink_to_fit();
         FrameRecord::new(self.tick_before, deltas)
     }
@@ -164,13 +164,12 @@ impl Recorder {
         ensures room { self.new.room ≡ self.old.room }
         ensures empty { self.new.frame.deltas ≡ [] }
     {
-        let deltas = std::mem::replace(&mut self.deltas, Vec::new(self.alloc));
+        let deltas = std::mem::replace(&mut self.deltas, Deltas::new(self.alloc));
         take_all_back(&mut self.world, deltas);
         self.world.set_tick(self.tick_before);
     }
 
-    /// Undoes a record between two frames, in a world that has room for that. It copies the deltas first, and takes no
-    /// memory besides; where none is found for the copy, the world stays as it was.
+    /// Undoes a record between two frames, in a world that has room for that, as `FrameRecord::undo_reserved` does.
     pub fn undo_record(&mut self, frame: &FrameRecord) -> Result<(), AllocError>
         requires empty { self.old.frame.deltas ≡ [] }
         requires fits { RecordFitsBack frame.now self.old.world }
@@ -183,8 +182,7 @@ impl Recorder {
         frame.undo_reserved(&mut self.world)
     }
 
-    /// Redoes a record between two frames, in a world that has room for that. It copies the deltas first, and takes no
-    /// memory besides; where none is found for the copy, the world stays as it was.
+    /// Redoes a record between two frames, in a world that has room for that, as `FrameRecord::redo_reserved` does.
     pub fn redo_record(&mut self, frame: &FrameRecord) -> Result<(), AllocError>
         requires empty { self.old.frame.deltas ≡ [] }
         requires fits { RecordFitsOn frame.now self.old.world }
@@ -216,7 +214,7 @@ impl Stage for Recorder {
 
     fn despawn(&mut self, entity: Entity) -> Result<(), Refusal> {
         is_sound(&self.world);
-        room_for_one(&mut self.deltas)?;
+        self.deltas.reserve(1)?;
         let delta = notes::despawned(self.alloc, &self.world, entity)?;
         self.world.despawn(entity)?;
         keep(&mut self.deltas, delta);
@@ -225,7 +223,7 @@ impl Stage for Recorder {
 
     fn insert(&mut self, entity: Entity, kind: u8, value: Value) -> Result<(), Refusal> {
         is_sound(&self.world);
-        room_for_one(&mut self.deltas)?;
+        self.deltas.reserve(1)?;
         let delta = insert(&mut self.world, entity, kind, value)?;
         keep(&mut self.deltas, delta);
         Ok(())
@@ -233,7 +231,7 @@ impl Stage for Recorder {
 
     fn remove(&mut self, entity: Entity, kind: u8) -> Result<(), Refusal> {
         is_sound(&self.world);
-        room_for_one(&mut self.deltas)?;
+        self.deltas.reserve(1)?;
         let delta = notes::removed(&self.world, entity, kind)?;
         self.world.remove(entity, kind)?;
         keep(&mut self.deltas, delta);
@@ -244,7 +242,7 @@ impl Stage for Recorder {
         is_sound(&self.world);
         let before = link_of(&self.world, child);
         let after = last_link(&self.world, child, parent);
-        room_for_one(&mut self.deltas)?;
+        self.deltas.reserve(1)?;
         self.world.set_parent(child, parent)?;
         self.deltas.push_reserved(Delta::Linked {
             entity: child,
@@ -257,7 +255,7 @@ impl Stage for Recorder {
     fn remove_parent(&mut self, child: Entity) -> Result<(), Refusal> {
         is_sound(&self.world);
         let lost = link_of(&self.world, child);
-        room_for_one(&mut self.deltas)?;
+        self.deltas.reserve(1)?;
         self.world.remove_parent(child)?;
         self.deltas.push_reserved(Delta::Linked {
             entity: child,
@@ -271,7 +269,7 @@ impl Stage for Recorder {
         is_sound(&self.world);
         // This tells the prover that the value is in the range of its type.
         let _shape = value.shape();
-        room_for_one(&mut self.deltas)?;
+        self.deltas.reserve(1)?;
         let delta = notes::put(self.alloc, &self.world, name, &value)?;
         self.world.put_resource(name, value)?;
         self.deltas.push_reserved(delta);
@@ -280,7 +278,7 @@ impl Stage for Recorder {
 
     fn remove_resource(&mut self, name: &str) -> Result<(), Refusal> {
         is_sound(&self.world);
-        room_for_one(&mut self.deltas)?;
+        self.deltas.reserve(1)?;
         let delta = notes::taken(self.alloc, &self.world, name)?;
         self.world.remove_resource(name)?;
         self.deltas.push_reserved(delta);
@@ -289,8 +287,8 @@ impl Stage for Recorder {
 
     fn spawn(&mut self, cells: Vec<(u8, Value)>) -> Result<Entity, Refusal> {
         is_sound(&self.world);
-        room_for_one(&mut self.deltas)?;
-        let (entity, delta) = spawn(self.alloc, &mut self.world, cells)?;
+        self.deltas.reserve(1)?;
+        let (entity, delta) = spawn(&mut self.world, cells)?;
         self.deltas.push_reserved(delta);
         Ok(entity)
     }
@@ -302,11 +300,13 @@ impl Stage for Recorder {
         }
         let order = self.world.links().post_order(entity)?;
         let mut made = cut_each(self.alloc, &mut self.world, order.as_slice())?;
-        if self.deltas.append(&mut made).is_err() {
-            take_all_back(&mut self.world, made);
-            return Err(Refusal::from(Fault::NoMemory));
+        match self.deltas.append(&mut made) {
+            Ok(()) => Ok(()),
+            Err(error) => {
+                take_all_back(&mut self.world, made);
+                Err(Refusal::from(error))
+            }
         }
-        Ok(())
     }
 
     fn make_room(&mut self, cells: usize) -> Result<(), AllocError> {

@@ -4,14 +4,14 @@ ghost use Rattle.scene_deltas.specs.Ready.{AreReady, AreReadyOn};
 ghost use Rattle.scene_journal.specs.Records.{raised, redone, undone, RecordFitsBack, RecordFitsOn};
 
 use crate::record::FrameRecord;
-use scene_deltas::{make_all_again, take_all_back};
+use scene_deltas::{copies_to_redo, copies_to_undo, redo_all, undo_all};
 use scene_world::{RawChanges, World};
 use std::alloc::AllocError;
 
 impl FrameRecord {
     /// Undoes the record in a world that has room for that: its deltas are taken back, the last first, and the tick is
-    /// the one before the frame. It copies the deltas first, and takes no memory besides; where none is found for the
-    /// copy, the world stays as it was.
+    /// the one before the frame. Cells of rows and texts that come back are copied first, and no memory is taken besides;
+    /// where none is found for a copy, the world stays as it was.
     pub fn undo_reserved(&self, world: &mut World) -> Result<(), AllocError>
         requires fits { RecordFitsBack self.now world.old.world }
         requires ready { AreReady world.old.room self.now.deltas world.old.world }
@@ -19,15 +19,15 @@ impl FrameRecord {
         ensures full { OnErr result (world.new.world ≡ world.old.world) }
         ensures room { world.new.room ≡ world.old.room }
     {
-        let (tick_before, deltas) = self.try_clone()?.into_parts();
-        take_all_back(world, deltas);
-        world.set_tick(tick_before);
+        let copies = copies_to_undo(self.deltas())?;
+        undo_all(world, self.deltas(), copies);
+        world.set_tick(self.tick_before());
         Ok(())
     }
 
     /// Redoes the record in a world that has room for that: the tick is raised, and its deltas are made, the first
-    /// first. It copies the deltas first, and takes no memory besides; where none is found for the copy, the world
-    /// stays as it was.
+    /// first. Cells of rows and texts that come are copied first, and no memory is taken besides; where none is found for
+    /// a copy, the world stays as it was.
     pub fn redo_reserved(&self, world: &mut World) -> Result<(), AllocError>
         requires fits { RecordFitsOn self.now world.old.world }
         requires ready { AreReadyOn world.old.room self.now.deltas (raised world.old.world) }
@@ -35,10 +35,10 @@ impl FrameRecord {
         ensures full { OnErr result (world.new.world ≡ world.old.world) }
         ensures room { world.new.room ≡ world.old.room }
     {
-        let (_tick_before, deltas) = self.try_clone()?.into_parts();
+        let copies = copies_to_redo(self.deltas())?;
         let tick = world.tick();
         world.set_tick(tick + 1);
-        make_all_again(world, deltas);
+        redo_all(world, self.deltas(), copies);
         Ok(())
     }
 }

@@ -7,19 +7,12 @@ ghost use Rattle.scene_model.specs.Perform.{Spawn};
 ghost use Rattle.scene_world.specs.Room.{IsWider};
 ghost use Rattle.scene_deltas.specs.Notes.{deltas_of};
 
-use crate::notes::cells_of;
 use scene_deltas::{Delta, is_sound};
-use scene_kinds::{Entity, Fault, Refusal, Value};
-use scene_world::{RawChanges, World};
-use std::alloc::Global;
+use scene_kinds::{Entity, Refusal, Value};
+use scene_world::World;
 
-/// Spawns an entity as `World::spawn` does, and gives it with its delta, which has a copy of the row's cells. Where no
-/// memory is found for the copy, the entity is taken back.
-pub(crate) fn spawn(
-    alloc: Global,
-    world: &mut World,
-    cells: Vec<(u8, Value)>,
-) -> Result<(Entity, Delta), Refusal>
+/// Spawns an entity as `World::spawn` does, and gives it with its delta, which has the row's cells.
+pub(crate) fn spawn(world: &mut World, cells: Vec<(u8, Value)>) -> Result<(Entity, Delta), Refusal>
     ensures made { IfOk result (λ p. spawn world.old.world cells.items ≡ Ok (p.0, world.new.world)) }
     ensures noted { IfOk result (λ p. p.1 ∷ [] ≡ deltas_of world.old.world (Spawn cells.items)) }
     ensures refused { IfErr result (λ r. r ≢ refusal_of NoMemory → spawn world.old.world cells.items ≡ Err r) }
@@ -27,20 +20,12 @@ pub(crate) fn spawn(
     ensures wide { IsWider world.old.room world.new.room }
 {
     is_sound(world);
-    let fresh = world.slots().takes_new_slot();
-    let entity = world.spawn(cells)?;
-    match cells_of(alloc, world, entity) {
-        Ok(cells) => Ok((
-            entity,
-            Delta::Spawned {
-                entity,
-                cells,
-                fresh,
-            },
-        )),
-        Err(_) => {
-            world.drop_last(entity, fresh);
-            Err(Refusal::from(Fault::NoMemory))
-        }
-    }
+    let row = world.spawn_row(cells)?;
+    let entity = row.entity;
+    let delta = Delta::Spawned {
+        entity,
+        cells: row.cells,
+        fresh: row.fresh,
+    };
+    Ok((entity, delta))
 }

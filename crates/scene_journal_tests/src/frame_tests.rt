@@ -3,7 +3,7 @@ use crate::frames::{framed, record_of};
 use crate::printed::same_delta;
 use crate::scenes::{T, empty_world, first, one_tag, pushed, spawn};
 use scene_commands::{Command, Target};
-use scene_deltas::Delta;
+use scene_deltas::{Delta, Deltas};
 use scene_journal::FrameRecord;
 use scene_kinds::{Entity, Value};
 use scene_queue::Queue;
@@ -70,22 +70,24 @@ fn is_delta(alloc: Global, found: Option<&Delta>, expected: Result<Delta, AllocE
 }
 
 /// Whether the deltas are those of planting in an empty world.
-fn are_of_planting(alloc: Global, deltas: &[Delta]) -> bool {
+fn are_of_planting(alloc: Global, deltas: &Deltas) -> bool {
+    let mut left = deltas.forward();
     deltas.len() == 5
-        && is_delta(alloc, deltas.get(0), came(alloc, 0))
-        && is_delta(alloc, deltas.get(1), came(alloc, 1))
-        && is_delta(alloc, deltas.get(2), came(alloc, 2))
-        && is_delta(alloc, deltas.get(3), Ok(joined(1, (first(0), 0))))
-        && is_delta(alloc, deltas.get(4), Ok(joined(2, (first(0), 1))))
+        && is_delta(alloc, left.next(), came(alloc, 0))
+        && is_delta(alloc, left.next(), came(alloc, 1))
+        && is_delta(alloc, left.next(), came(alloc, 2))
+        && is_delta(alloc, left.next(), Ok(joined(1, (first(0), 0))))
+        && is_delta(alloc, left.next(), Ok(joined(2, (first(0), 1))))
 }
 
 /// Whether the deltas are those of felling then: the children go first, and each as it stands at its turn.
-fn are_of_felling(alloc: Global, deltas: &[Delta]) -> bool {
+fn are_of_felling(alloc: Global, deltas: &Deltas) -> bool {
+    let mut left = deltas.forward();
     let below_first = Some((first(0), 0));
     deltas.len() == 3
-        && is_delta(alloc, deltas.get(0), went(alloc, 1, 1, below_first))
-        && is_delta(alloc, deltas.get(1), went(alloc, 2, 1, below_first))
-        && is_delta(alloc, deltas.get(2), went(alloc, 0, 0, None))
+        && is_delta(alloc, left.next(), went(alloc, 1, 1, below_first))
+        && is_delta(alloc, left.next(), went(alloc, 2, 1, below_first))
+        && is_delta(alloc, left.next(), went(alloc, 0, 0, None))
 }
 
 /// The world after planting, whose deltas are noted.
@@ -128,7 +130,11 @@ fn record_has_copy(alloc: Global, record: &FrameRecord) -> bool {
         Ok(copy) => {
             copy.tick_before() == record.tick_before()
                 && copy.deltas().len() == 1
-                && is_same(alloc, copy.deltas().first(), record.deltas().first())
+                && is_same(
+                    alloc,
+                    copy.deltas().forward().next(),
+                    record.deltas().forward().next(),
+                )
         }
         Err(_) => false,
     }
@@ -147,6 +153,6 @@ fn copies_equal_their_originals(rt: HostRuntime) -> Result<(), Fail> {
     let delta = went(rt.alloc(), 1, 1, Some((first(0), 0)))?;
     assert!(rt; has_copy(rt.alloc(), &delta));
     let deltas = vec![in rt.alloc(); delta].expect(&rt, "memory");
-    assert!(rt; record_has_copy(rt.alloc(), &FrameRecord::new(7, deltas)));
+    assert!(rt; record_has_copy(rt.alloc(), &FrameRecord::new(7, Deltas::from(deltas))));
     Ok(())
 }

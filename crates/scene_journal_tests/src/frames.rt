@@ -2,7 +2,7 @@
 ghost use Rattle.scene_deltas.specs.Ready.{AreReady};
 
 use crate::printed::text_of;
-use scene_journal::{FrameRecord, Recorder};
+use scene_journal::{Deltas, FrameRecord, Recorder};
 use scene_kinds::Refusal;
 use scene_queue::Queue;
 use scene_world::World;
@@ -15,7 +15,7 @@ pub fn begun(rt: &impl Abort, alloc: Global, world: World) -> Recorder {
     let mut raised = world;
     let is_raised = raised.raise_tick().is_ok();
     assert!(rt; is_raised);
-    Recorder::new(alloc, raised, FrameRecord::new(tick, Vec::new(alloc)))
+    Recorder::new(alloc, raised, FrameRecord::new(tick, Deltas::new(alloc)))
 }
 
 /// Does the commands of a queue.

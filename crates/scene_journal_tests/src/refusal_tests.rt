@@ -2,7 +2,7 @@
 use crate::frames::world_after;
 use crate::scenes::{A, empty_world, first, one_number, pushed, spawn};
 use crate::trials::{Trial, try_world};
-use scene_deltas::Delta;
+use scene_deltas::{Delta, Deltas};
 use scene_journal::FrameRecord;
 use scene_kinds::{Entity, Fault, Refusal, Value};
 use scene_queue::Queue;
@@ -20,7 +20,8 @@ fn spawned_world(rt: &impl Abort, alloc: Global) -> World {
 
 /// The record with this delta alone.
 fn record_of(alloc: Global, tick_before: u64, delta: Delta) -> Result<FrameRecord, AllocError> {
-    Ok(FrameRecord::new(tick_before, vec![in alloc; delta]?))
+    let deltas = vec![in alloc; delta]?;
+    Ok(FrameRecord::new(tick_before, Deltas::from(deltas)))
 }
 
 /// The record of a frame at a tick with a spawn of this number in the first frame.
@@ -77,7 +78,7 @@ pub fn undone_are_tried(rt: &impl Abort, alloc: Global, world: &World) {
     assert!(rt; undone(spawn_of(alloc, 0, 5), world, Ok(())));
     assert!(rt; undone(spawn_of(alloc, 3, 5), world, bad(1)));
     assert!(rt; undone(spawn_of(alloc, 0, 6), world, bad(0)));
-    let nothing = FrameRecord::new(0, Vec::new(alloc));
+    let nothing = FrameRecord::new(0, Deltas::new(alloc));
     assert!(rt; undone(Ok(nothing), world, bad(0)));
 }
 
@@ -90,9 +91,9 @@ fn faults_of_undone_records_are_told(rt: HostRuntime) -> Result<(), Fail> {
 
 /// Records are tried on that world.
 pub fn redone_are_tried(rt: &impl Abort, alloc: Global, world: &World) {
-    let nothing = FrameRecord::new(1, Vec::new(alloc));
+    let nothing = FrameRecord::new(1, Deltas::new(alloc));
     assert!(rt; redone(Ok(nothing), world, Ok(())));
-    let nothing = FrameRecord::new(0, Vec::new(alloc));
+    let nothing = FrameRecord::new(0, Deltas::new(alloc));
     assert!(rt; redone(Ok(nothing), world, bad(0)));
     assert!(rt; redone(spawn_of(alloc, 0, 5), world, bad(1)));
     assert!(rt; redone(link_of(alloc, first(0), first(0)), world, bad(0)));

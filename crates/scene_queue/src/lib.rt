@@ -11,4 +11,4 @@ mod frame;
 mod queue;
 
 pub use frame::Queues;
-pub use queue::{Queue, Returned, apply_all};
+pub use queue::{Queue, Returned, apply_all, apply_owned};

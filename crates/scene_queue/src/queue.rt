@@ -254,6 +254,19 @@ fn no_entity(done: Result<(), Refusal>) -> Result<Option<Entity>, Refusal>
     }
 }
 
+/// Spawns an entity with these components.
+fn spawn_owned<S: Stage>(components: Components, stage: &mut S) -> Result<Option<Entity>, Refusal>
+    ensures answer { Answers result (S.seen stage.old) (S.seen stage.new)
+        (act S.note (S.seen stage.old) (SpawnCells components)) }
+    ensures opening { S.opening stage.new ≡ S.opening stage.old }
+    ensures wide { IsWider (S.room stage.old) (S.room stage.new) }
+{
+    match stage.spawn(components.into_vec()) {
+        Ok(entity) => Ok(Some(entity)),
+        Err(refusal) => Err(refusal),
+    }
+}
+
 /// Spawns an entity with a copy of these components.
 fn spawn<S: Stage>(components: &Components, stage: &mut S) -> Result<Option<Entity>, Refusal>
     ensures answer { Answers result (S.seen stage.old) (S.seen stage.new)
@@ -261,11 +274,7 @@ fn spawn<S: Stage>(components: &Components, stage: &mut S) -> Result<Option<Enti
     ensures opening { S.opening stage.new ≡ S.opening stage.old }
     ensures wide { IsWider (S.room stage.old) (S.room stage.new) }
 {
-    let components = components.try_clone()?;
-    match stage.spawn(components.into_vec()) {
-        Ok(entity) => Ok(Some(entity)),
-        Err(refusal) => Err(refusal),
-    }
+    spawn_owned(components.try_clone()?, stage)
 }
 
 /// Despawns an entity and all below it, where it is alive.
@@ -366,6 +375,24 @@ fn do_command<S: Stage>(
     }
 }
 
+/// Does one command of a queue that is used up. What a spawn gives isn't copied.
+fn do_owned<S: Stage>(
+    command: Command,
+    spawned: &[Entity],
+    stage: &mut S,
+) -> Result<Option<Entity>, Refusal>
+    ensures answer { Answers result (S.seen stage.old) (S.seen stage.new)
+        (request (act S.note) (request_of command) (reached (S.seen stage.old) spawned.now)) }
+    ensures made { IfOk result (λ made. IfSome made (λ _. spawned_by command ≡ 1)) }
+    ensures opening { S.opening stage.new ≡ S.opening stage.old }
+    ensures wide { IsWider (S.room stage.old) (S.room stage.new) }
+{
+    match command {
+        Command::Spawn(components) => spawn_owned(components, stage),
+        other => do_command(&other, spawned, stage),
+    }
+}
+
 /// Makes room for what a command will spawn, if anything, or finds no memory: before it is done, so that nothing is
 /// done that can't be noted. The first takes the room of one.
 fn make_room_for(command: &Command, spawned: &mut Vec<Entity>) -> Result<(), AllocError>
@@ -454,6 +481,37 @@ fn apply_commands<S: Stage>(
     Ok(spawned)
 }
 
+/// Applies the commands of a queue of this number one after another, and uses them up.
+fn apply_owned_commands<S: Stage>(
+    alloc: Global,
+    queue: u32,
+    commands: Vec<Command>,
+    stage: &mut S,
+) -> Result<Vec<Entity>, Refusal>
+    requires { length commands.items < 2 ^ 32 }
+    ensures whole { IfOk result (λ spawned. play (act S.note) (requests commands.items) (S.seen stage.old)
+        ≡ whole (reached (S.seen stage.new) spawned.items)) }
+    ensures passed { OnErr result (IsPassed (act S.note) (requests commands.items) (S.seen stage.old) (S.seen stage.new)) }
+    ensures refused { IfErr result (λ r. r ≢ refusal_of NoMemory
+        → Stops (act S.note) queue (requests commands.items) (S.seen stage.old) (S.seen stage.new) r) }
+    ensures opening { S.opening stage.new ≡ S.opening stage.old }
+    ensures wide { IsWider (S.room stage.old) (S.room stage.new) }
+{
+    let mut spawned = Vec::new(alloc);
+    let mut at: u32 = 0;
+    for command in commands {
+        if make_room_for(&command, &mut spawned).is_err() {
+            return Err(Refusal::from(Fault::NoMemory));
+        }
+        match do_owned(command, spawned.as_slice(), stage) {
+            Ok(made) => note_spawned(&mut spawned, made),
+            Err(refusal) => return Err(placed(refusal, queue, at)),
+        }
+        at += 1;
+    }
+    Ok(spawned)
+}
+
 impl Queue {
     /// Applies the commands one after another to a world, or to another stage, and gives the entities that they
     /// spawned, in order (docs/MODEL.md, "The rule of frames"). It costs what the commands cost, and a copy of the
@@ -491,6 +549,25 @@ impl Queue {
     {
         apply_commands(self.alloc, queue, self.commands.as_slice(), stage)
     }
+
+    /// The same, and the queue is used up.
+    fn apply_owned_at<S: Stage>(self, queue: u32, stage: &mut S) -> Result<Vec<Entity>, Refusal>
+        ensures whole { IfOk result (λ spawned. play (act S.note) (requests self.commands) (S.seen stage.old)
+            ≡ whole (reached (S.seen stage.new) spawned.items)) }
+        ensures passed { OnErr result (IsPassed (act S.note) (requests self.commands) (S.seen stage.old) (S.seen stage.new)) }
+        ensures refused { IfErr result (λ r. r ≢ refusal_of NoMemory
+            → Stops (act S.note) queue (requests self.commands) (S.seen stage.old) (S.seen stage.new) r) }
+        ensures opening { S.opening stage.new ≡ S.opening stage.old }
+        ensures wide { IsWider (S.room stage.old) (S.room stage.new) }
+    {
+        let Queue {
+            alloc,
+            commands,
+            limit: _,
+            spawned: _,
+        } = self;
+        apply_owned_commands(alloc, queue, commands, stage)
+    }
 }
 
 /// Applies the queues of a frame one after another to a world, or to another stage, and gives the entities that they
@@ -522,6 +599,41 @@ pub fn apply_all<S: Stage>(
     let mut at: u32 = 0;
     for queue in queues {
         match queue.apply_at(at, stage) {
+            Ok(made) => match and_made(spawned, made) {
+                Ok(both) => spawned = both,
+                Err(AllocError) => return Err(Refusal::from(Fault::NoMemory)),
+            },
+            Err(refusal) => return Err(refusal),
+        }
+        at += 1;
+    }
+    Ok(spawned)
+}
+
+/// Applies the queues of a frame as `apply_all` does, and uses them up: the components that spawns give aren't copied.
+///
+/// Refused: what `apply_all` refuses, and the stage is then as after that.
+pub fn apply_owned<S: Stage>(
+    alloc: Global,
+    queues: Vec<Queue>,
+    stage: &mut S,
+) -> Result<Vec<Entity>, Refusal>
+    requires { length queues.items ≤ 4294967295 }
+    ensures whole { IfOk result (λ spawned. queues_from (act S.note) 0 (frame_of queues.items) (S.seen stage.old)
+        ≡ Ok (spawned.items, S.seen stage.new)) }
+    ensures refused { IfErr result (λ r. r ≢ refusal_of NoMemory → queues_from (act S.note) 0 (frame_of queues.items) (S.seen stage.old) ≡ Err r) }
+    ensures passed { OnErr result (ArePassed (act S.note) (frame_of queues.items) (S.seen stage.old) (S.seen stage.new)) }
+    ensures world { IfOk result (λ spawned. queues_from perform 0 (frame_of queues.items) (S.seen stage.old).world
+        ≡ Ok (spawned.items, (S.seen stage.new).world)) }
+    ensures world_refused { IfErr result (λ r. r ≢ refusal_of NoMemory
+        → queues_from perform 0 (frame_of queues.items) (S.seen stage.old).world ≡ Err r) }
+    ensures opening { S.opening stage.new ≡ S.opening stage.old }
+    ensures wide { IsWider (S.room stage.old) (S.room stage.new) }
+{
+    let mut spawned = Vec::new(alloc);
+    let mut at: u32 = 0;
+    for queue in queues {
+        match queue.apply_owned_at(at, stage) {
             Ok(made) => match and_made(spawned, made) {
                 Ok(both) => spawned = both,
                 Err(AllocError) => return Err(Refusal::from(Fault::NoMemory)),

@@ -14,7 +14,7 @@ use crate::output::PhaseOutput;
 use crate::schedule::Schedule;
 use crate::write::write_all;
 use scene_kinds::{Entity, Fault, Place, Refusal};
-use scene_queue::apply_all;
+use scene_queue::apply_owned;
 use scene_systems::SystemRule;
 use scene_world::{Frame, Stage, World};
 use std::alloc::Global;
@@ -74,9 +74,10 @@ fn play_systems<S: Stage, P: PhaseRunner>(
     ensures wide { IsWider (S.room stage.old) (S.room stage.new) }
 {
     let output = runner.run_phase(alloc, stage.world(), rules)?;
-    let queues = output.queues.as_slice();
-    write_all(output.rows.as_slice(), count_commands(queues), stage)?;
-    apply_all(alloc, queues, stage)
+    let (rows, queues) = output.into_parts();
+    let more = count_commands(queues.as_slice());
+    write_all(rows.as_slice(), more, stage)?;
+    apply_owned(alloc, queues, stage)
 }
 
 /// Runs a phase of this number on a stage.

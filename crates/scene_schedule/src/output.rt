@@ -56,3 +56,14 @@ impl Drop for PhaseOutput {
         let PhaseOutput { rows: _, queues: _ } = self;
     }
 }
+
+impl PhaseOutput {
+    /// The rows and the queues, each on its own. It takes no memory.
+    pub(crate) fn into_parts(self) -> (Vec<RowChanges>, Vec<Queue>)
+        ensures rows { result.0.items ≡ self.rows.items }
+        ensures queues { result.1.items ≡ self.queues.items }
+    {
+        let PhaseOutput { rows, queues } = self;
+        (rows, queues)
+    }
+}

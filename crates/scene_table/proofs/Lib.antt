@@ -5,6 +5,7 @@ pub mod KindLists
 pub mod Lives
 pub mod Moves
 pub mod Parts
+pub mod PlainCells
 pub mod ReturnedRows
 pub mod RowLists
 pub mod Standing

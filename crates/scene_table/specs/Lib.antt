@@ -1,4 +1,6 @@
 pub mod Columns
+pub mod Plain
+pub mod RowCells
 pub mod Rows
 pub mod Table
 pub mod Tables

@@ -1,12 +1,15 @@
 //! The columns of a table, one for each of its kinds, ascending: what is done to a row is done to each column.
-ghost use Rattle.std.specs.Prelude.{◌≡◌, ◌+◌, ◌<◌, ◌≤◌, ℕ, List, [], length, map, insert, remove, slice_get, vec_capacity, All, Some, None, OnOk, OnErr, IfOk, IsOk, not, nat_eq, nat_lt};
+ghost use Rattle.std.specs.Prelude.{◌≡◌, ◌+◌, ◌<◌, ◌≤◌, ℕ, List, [], false, length, map, insert, remove, slice_get, vec_capacity, All, Some, None, OnOk, OnErr, IfOk, IsOk, not, nat_eq, nat_lt};
 ghost use Rattle.std.specs.List.{AllZip, position_from};
 ghost use Rattle.std.specs.Option.{option_map};
 ghost use Rattle.scene_kinds.specs.Cells.{cell_of, with_cell};
 ghost use Rattle.scene_kinds.specs.declared.cell.Cell.{Cell};
+ghost use Rattle.scene_table.specs.Plain.{has_text};
 ghost use Rattle.scene_table.specs.Columns.{AreColumnsOf, AreLong, AreCellsAt, HasRoomAt, IsGrown, IsSameColumn, kinds_of, kinds_in, put_each, out_of_column};
 
 use crate::column::Column;
+use crate::plain::plain_cell;
+use crate::row_cells::{RowCells, Source};
 use scene_kinds::{Cell, KindSet, has_kind};
 use std::alloc::{AllocError, Global};
 
@@ -65,6 +68,32 @@ pub(crate) fn put_cells(columns: &mut [Column], at: usize, cells: Vec<(u8, Cell)
     let mut cells = cells;
     while let Some((_, cell)) = cells.pop() {
         columns[cells.len()].put_back(at, cell);
+    }
+}
+
+/// Puts copies of the cells of a row back at a place, one in each column. It takes no memory, since no cell has a text.
+pub(crate) fn put_copies(columns: &mut [Column], at: usize, cells: &[(u8, Cell)])
+    requires plain { has_text cells.now ≡ false }
+    requires count { length cells.now ≡ length columns.old }
+    requires room { All (HasRoomAt at) columns.old }
+    ensures { columns.new ≡ put_each at cells.now columns.old }
+{
+    let mut left = cells;
+    'back: while let Some((last, before)) = left.split_last() {
+        columns[before.len()].put_back(at, plain_cell(&last.1));
+        left = before;
+    }
+}
+
+/// Puts the cells of a row back at a place, one in each column, those of its own or copies. It takes no memory.
+pub(crate) fn put_row(columns: &mut [Column], at: usize, cells: RowCells<'_>)
+    requires count { length cells ≡ length columns.old }
+    requires room { All (HasRoomAt at) columns.old }
+    ensures { columns.new ≡ put_each at cells.entry columns.old }
+{
+    match cells.into_source() {
+        Source::Own(cells) => put_cells(columns, at, cells.into_vec()),
+        Source::Lent(cells) => put_copies(columns, at, cells.as_slice()),
     }
 }
 

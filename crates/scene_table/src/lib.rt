@@ -17,10 +17,14 @@ mod column;
 mod columns;
 mod entities;
 mod home;
+mod plain;
+mod row_cells;
 mod rows;
 mod table;
 
 pub use column::ColumnRef;
 pub use home::Home;
+pub use plain::{has_text, is_text, plain_cell};
+pub use row_cells::RowCells;
 pub use rows::{put_back_comes_back, swap_out_comes_back};
 pub use table::Table;

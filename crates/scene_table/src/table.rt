@@ -6,14 +6,16 @@ ghost use Rattle.scene_kinds.specs.KindSet.{has_kind, set_with, set_without};
 ghost use Rattle.scene_kinds.specs.declared.cells.Row.{Row};
 ghost use Rattle.scene_table.specs.Rows.{swap_out, put_back};
 ghost use Rattle.scene_table.specs.Columns.{cells_of};
+ghost use Rattle.scene_table.specs.Tables.{row_for};
 ghost use Rattle.scene_table.specs.Table.{AllHave, HasRoom, cell_at, cells_of_kind, row_with_cell, row_without_cell, rows_with_cell};
 
 use crate::column::{Column, ColumnRef};
 use crate::columns::{
     clone_columns, drop_cells, make_columns, move_gaining, move_losing, number_for, number_of,
-    put_cells, reserve_each, take_cells,
+    put_row, reserve_each, take_cells,
 };
 use crate::entities::move_entity;
+use crate::row_cells::RowCells;
 use scene_kinds::{Cell, CellRef, Cells, Entity, KindSet, KindSetMethods, Row};
 use std::alloc::{AllocError, AllocFailed, Global};
 use std::marker::Model;
@@ -213,7 +215,8 @@ impl Table {
         ensures capacity { self.new.capacity ≡ self.old.capacity }
     {
         let last = self.entities.len();
-        self.unswap_reserved(last, row);
+        let Row { entity, cells } = row;
+        self.unswap_reserved(last, entity, RowCells::own(cells));
     }
 
     /// Takes out the row at a place, and gives it. The last row takes its place, and the room of the row stays behind.
@@ -283,22 +286,22 @@ impl Table {
         if self.reserve(1).is_err() {
             return Err(AllocFailed { value: row });
         }
-        self.unswap_reserved(at, row);
+        let Row { entity, cells } = row;
+        self.unswap_reserved(at, entity, RowCells::own(cells));
         Ok(())
     }
 
     /// Puts a row at a place, and the row that stood there last, as `unswap` does. It takes no memory, since there must
     /// be room for the row.
-    pub fn unswap_reserved(&mut self, at: usize, row: Row)
+    pub fn unswap_reserved(&mut self, at: usize, entity: Entity, cells: RowCells<'_>)
         requires within { at ≤ length self.old.rows }
-        requires fits { HasKinds self.old.mask row }
+        requires fits { HasKinds self.old.mask (row_for entity cells) }
         requires room { HasRoom self.old }
         ensures mask { self.new.mask ≡ self.old.mask }
-        ensures rows { self.new.rows ≡ put_back self.old.rows at row }
+        ensures rows { self.new.rows ≡ put_back self.old.rows at (row_for entity cells.entry) }
         ensures capacity { self.new.capacity ≡ self.old.capacity }
     {
-        let Row { entity, cells } = row;
-        put_cells(&mut self.columns, at, cells.into_vec());
+        put_row(&mut self.columns, at, cells);
         let last = self.entities.len();
         self.entities.push_reserved(entity);
         self.entities.swap(at, last);

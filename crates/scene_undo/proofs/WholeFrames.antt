@@ -23,7 +23,7 @@ use Rattle.scene_deltas.specs.Ready.{AreReady}
 use Rattle.scene_journal.specs.Records.{Record, record_of, raised, undone}
 use Rattle.scene_journal.specs.Recorder.{Recording, began, opening_of, staged_of}
 use Rattle.scene_deltas.specs.Deltas.{back_all}
-use Rattle.scene_deltas.proofs.Deltas.{back_all_keeps_tick}
+use Rattle.scene_deltas.proofs.ComeBack.{back_all_keeps_tick}
 use Rattle.scene_deltas.proofs.Turns.{ready_fits_back}
 use Rattle.scene_undo.specs.declared.made.Made.{Made}
 use Rattle.scene_undo.specs.Editor.{IsRecordOf}

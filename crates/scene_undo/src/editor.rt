@@ -328,7 +328,7 @@ impl Editor {
     }
 
     /// Takes the newest frame back: entities, rows and their order, ticks, the free list, links and resources. It costs
-    /// what the frame changed, and a copy of its deltas.
+    /// what the frame changed, and a copy of the cells of rows and of the texts that come back.
     ///
     /// Refused, in this order, and then the editor is as it was: `NothingToUndo`; `TickFull` where there were
     /// 18,446,744,073,709,551,615 undos; `NoMemory`.
@@ -350,7 +350,8 @@ impl Editor {
         Ok(())
     }
 
-    /// Does the newest undone frame again. It costs what the frame changes, and a copy of its deltas.
+    /// Does the newest undone frame again. It costs what the frame changes, and a copy of the cells of rows and of the
+    /// texts that come.
     ///
     /// Refused, in this order, and then the editor is as it was: `NothingToRedo`; `NoMemory`.
     pub fn redo(&mut self) -> Result<(), Refusal>

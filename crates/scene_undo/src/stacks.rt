@@ -3,7 +3,7 @@ ghost use Rattle.std.specs.Prelude.{◌≡◌, ◌<◌, ◌-◌, ◌∷◌, [], 
 ghost use Rattle.scene_journal.specs.Records.{Record};
 ghost use Rattle.scene_undo.specs.Stacks.{AreSame, IsRedone, IsUndone};
 
-use scene_journal::FrameRecord;
+use scene_journal::{Deltas, FrameRecord};
 use std::alloc::{AllocError, Global};
 use std::marker::Model;
 
@@ -202,7 +202,7 @@ impl Stacks {
         ensures future { self.new.future ≡ self.old.future }
         ensures depth { self.new.depth ≡ self.old.depth }
     {
-        self.records[self.dropped] = FrameRecord::new(0, Vec::new(self.alloc));
+        self.records[self.dropped] = FrameRecord::new(0, Deltas::new(self.alloc));
         self.dropped += 1;
     }
 

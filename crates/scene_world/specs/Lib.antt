@@ -1,8 +1,9 @@
+pub mod Built
 pub mod Codes
 pub mod Homes
 pub mod Moves
 pub mod Onto
 pub mod Room
+pub mod Spawned
 pub mod Stage
 pub mod Stored
-pub mod Built

@@ -9,6 +9,7 @@ use scene_archetypes::Archetypes;
 use scene_kinds::{Cell, Entity, KindSet, Row};
 use scene_links::Links;
 use scene_resources::Resources;
+use scene_table::RowCells;
 use std::alloc::{AllocError, Global};
 
 /// Adds rows to the table of their kind set, in their order.
@@ -24,7 +25,8 @@ fn add_rows(
     for row in rows {
         tables.reserve(mask, count)?;
         let last = tables.len(mask);
-        tables.put_back(mask, last, row);
+        let Row { entity, cells } = row;
+        tables.put_back(mask, last, entity, RowCells::own(cells));
     }
     Ok(())
 }

@@ -9,7 +9,8 @@ ghost use Rattle.scene_model.specs.Raw.{cells_of, put_row, drop_last, cut_row, u
 ghost use Rattle.scene_model.specs.Can.{can_put, can_drop, can_uncut, can_move, can_unshift, is_good_cell, can_set_link, can_set_resource, can_set_tick};
 ghost use Rattle.scene_world.specs.Room.{Housed, Holds, IsWider};
 
-use scene_kinds::{Cell, Cells, Entity};
+use scene_kinds::{Cell, Entity};
+use scene_table::RowCells;
 use std::alloc::AllocError;
 
 /// The raw changes of a world (docs/MODEL.md, "Raw changes"). They are for scene_journal, and for whoever takes deltas
@@ -24,10 +25,10 @@ pub trait RawChanges {
     /// Takes the next slot, which is an entity's, and puts its row with these cells last in the table of their kinds
     /// (docs/MODEL.md, "Raw changes"). It takes no memory, since the room must hold the world after it. `fresh` says
     /// that the slot is a new one.
-    fn put_row_reserved(&mut self, entity: Entity, cells: Cells, fresh: bool)
+    fn put_row_reserved(&mut self, entity: Entity, cells: RowCells<'_>, fresh: bool)
         requires can { can_put (whole self.old).world entity cells fresh ≡ true }
         requires room { Holds (whole self.old).room (put_row (whole self.old).world entity cells) }
-        ensures world { (whole self.new).world ≡ put_row (whole self.old).world entity cells }
+        ensures world { (whole self.new).world ≡ put_row (whole self.old).world entity cells.entry }
         ensures room { (whole self.new).room ≡ (whole self.old).room };
 
     /// Drops the last row of a table, which is an entity's, and gives its slot back: a fresh one goes, another is the
@@ -41,11 +42,16 @@ pub trait RawChanges {
     ///
     /// It fails only where that room isn't there and no memory was found: then the world is as it was, and the cells
     /// are dropped.
-    fn put_row(&mut self, entity: Entity, cells: Cells, fresh: bool) -> Result<(), AllocError>
+    fn put_row(
+        &mut self,
+        entity: Entity,
+        cells: RowCells<'_>,
+        fresh: bool,
+    ) -> Result<(), AllocError>
         requires { can_put (whole self.old).world entity cells fresh ≡ true }
-        ensures done { OnOk result ((whole self.new).world ≡ put_row (whole self.old).world entity cells) }
+        ensures done { OnOk result ((whole self.new).world ≡ put_row (whole self.old).world entity cells.entry) }
         ensures full { OnErr result ((whole self.new).world ≡ (whole self.old).world) }
-        ensures there { Holds (whole self.old).room (put_row (whole self.old).world entity cells) → IsOk result }
+        ensures there { Holds (whole self.old).room (put_row (whole self.old).world entity cells.entry) → IsOk result }
         ensures wide { IsWider (whole self.old).room (whole self.new).room };
 
     /// Takes a live entity without children out of the world, as a despawn does (docs/MODEL.md, "Raw changes"). It
@@ -63,13 +69,13 @@ pub trait RawChanges {
         &mut self,
         entity: Entity,
         place: usize,
-        cells: Cells,
+        cells: RowCells<'_>,
         link: Option<(Entity, usize)>,
         retired: bool,
     )
         requires can { can_uncut (whole self.old).world entity place cells link retired ≡ true }
         requires room { Holds (whole self.old).room (uncut_row (whole self.old).world entity place cells link retired) }
-        ensures world { (whole self.new).world ≡ uncut_row (whole self.old).world entity place cells link retired }
+        ensures world { (whole self.new).world ≡ uncut_row (whole self.old).world entity place cells.entry link retired }
         ensures room { (whole self.new).room ≡ (whole self.old).room };
 
     /// Makes its room, and then does what `uncut_row_reserved` does (docs/MODEL.md, "Raw changes").
@@ -80,14 +86,14 @@ pub trait RawChanges {
         &mut self,
         entity: Entity,
         place: usize,
-        cells: Cells,
+        cells: RowCells<'_>,
         link: Option<(Entity, usize)>,
         retired: bool,
     ) -> Result<(), AllocError>
         requires { can_uncut (whole self.old).world entity place cells link retired ≡ true }
-        ensures done { OnOk result ((whole self.new).world ≡ uncut_row (whole self.old).world entity place cells link retired) }
+        ensures done { OnOk result ((whole self.new).world ≡ uncut_row (whole self.old).world entity place cells.entry link retired) }
         ensures full { OnErr result ((whole self.new).world ≡ (whole self.old).world) }
-        ensures there { Holds (whole self.old).room (uncut_row (whole self.old).world entity place cells link retired) → IsOk result }
+        ensures there { Holds (whole self.old).room (uncut_row (whole self.old).world entity place cells.entry link retired) → IsOk result }
         ensures wide { IsWider (whole self.old).room (whole self.new).room };
 
     /// Moves a live entity's row, last, to the table with one kind more, with this cell, or, not `inward`, to the one
@@ -224,7 +230,7 @@ pub trait RawChanges {
     fn reserve_put_row(
         &mut self,
         entity: Entity,
-        cells: &Cells,
+        cells: &RowCells<'_>,
         fresh: bool,
     ) -> Result<(), AllocError>
         requires { can_put (whole self.old).world entity cells.now fresh ≡ true }
@@ -238,7 +244,7 @@ pub trait RawChanges {
         &mut self,
         entity: Entity,
         place: usize,
-        cells: &Cells,
+        cells: &RowCells<'_>,
         link: Option<(Entity, usize)>,
         retired: bool,
     ) -> Result<(), AllocError>

@@ -30,6 +30,7 @@ use scene_kinds::{CellRef, Entity, Fault, KindSet, Refusal, Schema};
 use scene_links::Links;
 use scene_resources::Resources;
 use scene_table::{Home, Table};
+pub use spawn::SpawnedRow;
 use std::alloc::{AllocError, Global};
 use std::marker::Model;
 
@@ -180,10 +181,8 @@ impl World {
         ensures row { IsHomeOf self.now.world entity result }
         ensures valid { IsValid self.now.world }
     {
-        match self.home_of(entity) {
-            Some(home) => home,
-            None => unreachable!(),
-        }
+        let _tick = self.tick();
+        self.tables.known_home(entity)
     }
 
     /// Whether an entity is alive: it has a row (docs/MODEL.md, "The rule of archetypes").

@@ -3,7 +3,7 @@ use crate::editors::small::{editor_of, given, queue_of, submit_one};
 use crate::editors::trials::{Then, Trial, taken_up, try_new};
 use crate::scenes::first;
 use scene_commands::Command;
-use scene_deltas::Delta;
+use scene_deltas::{Delta, Deltas};
 use scene_journal::FrameRecord;
 use scene_kinds::{Cell, Cells, Fault, Refusal, Shape, Value};
 use scene_queue::Queue;
@@ -37,12 +37,13 @@ fn spawned(alloc: Global, tick_before: u64, number: i64) -> Result<FrameRecord, 
         cells: Cells::from_vec(vec![in alloc; (0, cell)]?),
         fresh: true,
     };
-    Ok(FrameRecord::new(tick_before, vec![in alloc; delta]?))
+    let deltas = vec![in alloc; delta]?;
+    Ok(FrameRecord::new(tick_before, Deltas::from(deltas)))
 }
 
 /// A record of a frame without commands.
 fn nothing(alloc: Global, tick_before: u64) -> FrameRecord {
-    FrameRecord::new(tick_before, Vec::new(alloc))
+    FrameRecord::new(tick_before, Deltas::new(alloc))
 }
 
 /// A record of a link of the entity to itself, at the world's tick.
@@ -52,7 +53,8 @@ fn linked_to_itself(alloc: Global) -> Result<FrameRecord, Refusal> {
         before: None,
         after: Some((first(0), 0)),
     };
-    Ok(FrameRecord::new(1, vec![in alloc; delta]?))
+    let deltas = vec![in alloc; delta]?;
+    Ok(FrameRecord::new(1, Deltas::from(deltas)))
 }
 
 /// Why an editor of a copy of this one's world is refused with these records, if it is.

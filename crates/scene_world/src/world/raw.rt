@@ -4,17 +4,18 @@ mod reserve;
 use crate::moves::{move_row, moved_mask};
 use crate::raw_changes::RawChanges;
 use crate::world::World;
-use scene_kinds::{Cell, Cells, Entity, Row};
+use scene_kinds::{Cell, Entity};
+use scene_table::RowCells;
 use std::alloc::AllocError;
 
 impl RawChanges for World {
     ghost whole = { λ w. w };
 
-    fn put_row_reserved(&mut self, entity: Entity, cells: Cells, fresh: bool) {
+    fn put_row_reserved(&mut self, entity: Entity, cells: RowCells<'_>, fresh: bool) {
         let _entity = self.slots.take_reserved();
         let mask = cells.mask();
         let last = self.tables.len(mask);
-        self.tables.put_back(mask, last, Row { entity, cells });
+        self.tables.put_back(mask, last, entity, cells);
     }
 
     fn drop_last(&mut self, entity: Entity, fresh: bool) {
@@ -23,7 +24,12 @@ impl RawChanges for World {
         self.slots.untake(entity, fresh);
     }
 
-    fn put_row(&mut self, entity: Entity, cells: Cells, fresh: bool) -> Result<(), AllocError> {
+    fn put_row(
+        &mut self,
+        entity: Entity,
+        cells: RowCells<'_>,
+        fresh: bool,
+    ) -> Result<(), AllocError> {
         self.reserve_put_row(entity, &cells, fresh)?;
         self.put_row_reserved(entity, cells, fresh);
         Ok(())
@@ -40,13 +46,13 @@ impl RawChanges for World {
         &mut self,
         entity: Entity,
         place: usize,
-        cells: Cells,
+        cells: RowCells<'_>,
         link: Option<(Entity, usize)>,
         retired: bool,
     ) {
         self.slots.unrelease(entity, retired);
         let mask = cells.mask();
-        self.tables.put_back(mask, place, Row { entity, cells });
+        self.tables.put_back(mask, place, entity, cells);
         match link {
             Some((parent, at)) => self.links.relink_reserved(entity, parent, at),
             None => {}
@@ -57,7 +63,7 @@ impl RawChanges for World {
         &mut self,
         entity: Entity,
         place: usize,
-        cells: Cells,
+        cells: RowCells<'_>,
         link: Option<(Entity, usize)>,
         retired: bool,
     ) -> Result<(), AllocError> {
@@ -155,7 +161,7 @@ impl RawChanges for World {
     fn reserve_put_row(
         &mut self,
         entity: Entity,
-        cells: &Cells,
+        cells: &RowCells<'_>,
         fresh: bool,
     ) -> Result<(), AllocError> {
         self.laws_hold();
@@ -167,7 +173,7 @@ impl RawChanges for World {
         &mut self,
         entity: Entity,
         place: usize,
-        cells: &Cells,
+        cells: &RowCells<'_>,
         link: Option<(Entity, usize)>,
         retired: bool,
     ) -> Result<(), AllocError> {

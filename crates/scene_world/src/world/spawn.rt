@@ -1,16 +1,19 @@
 //! Spawning an entity.
-ghost use Rattle.std.specs.Prelude.{◌≡◌};
-ghost use Rattle.scene_kinds.specs.Answers.{Answers};
+ghost use Rattle.std.specs.Prelude.{◌≡◌, ◌≢◌, Ok, Err, IfOk, IfErr, OnErr};
+ghost use Rattle.scene_kinds.specs.Answers.{Answers, refusal_of};
+ghost use Rattle.scene_kinds.specs.declared.fault.Fault.TheVariants.{NoMemory};
 ghost use Rattle.scene_alloc.specs.Slots.{take_of};
 ghost use Rattle.scene_model.specs.Commands.{spawn};
 ghost use Rattle.scene_model.specs.Raw.{taken_entity};
 ghost use Rattle.scene_world.specs.Room.{IsWider};
+ghost use Rattle.scene_world.specs.Spawned.{IsSpawnOf};
 
 use crate::given::{new_cells, spawn_fault};
 use crate::raw_changes::RawChanges;
 use crate::world::World;
 use scene_alloc::Slots;
-use scene_kinds::{Entity, Fault, Refusal, Value};
+use scene_kinds::{Cells, Entity, Fault, Refusal, Value};
+use scene_table::RowCells;
 
 /// The entity that the next take of a slot gives, or `None` where it is refused.
 fn next_entity(slots: &Slots) -> Option<Entity>
@@ -28,6 +31,14 @@ fn next_entity(slots: &Slots) -> Option<Entity>
         });
     }
     None
+}
+
+/// A row that was spawned: its entity, its cells, and whether the entity's slot is a new one.
+#[derive(Drop, Debug)]
+pub struct SpawnedRow {
+    pub entity: Entity,
+    pub cells: Cells,
+    pub fresh: bool,
 }
 
 impl World {
@@ -51,6 +62,19 @@ impl World {
         ensures answer { Answers result self.old.world self.new.world (spawn self.old.world cells.items) }
         ensures wide { IsWider self.old.room self.new.room }
     {
+        let spawned = self.spawn_row(cells)?;
+        Ok(spawned.entity)
+    }
+
+    /// Spawns an entity as `spawn` does, and gives with it what a record has of a spawn: the cells of its row, and
+    /// whether its slot is a new one. The row's own cells are copies of these.
+    pub fn spawn_row(&mut self, cells: Vec<(u8, Value)>) -> Result<SpawnedRow, Refusal>
+        ensures made { IfOk result (λ s. spawn self.old.world cells.items ≡ Ok (s.entity, self.new.world)) }
+        ensures row { IfOk result (λ s. IsSpawnOf self.old.world cells.items s.entity s.cells s.fresh) }
+        ensures refused { IfErr result (λ r. r ≢ refusal_of NoMemory → spawn self.old.world cells.items ≡ Err r) }
+        ensures back { OnErr result (self.new.world ≡ self.old.world) }
+        ensures wide { IsWider self.old.room self.new.room }
+    {
         if let Some(fault) = spawn_fault(&self.schema, cells.as_slice()) {
             return Err(Refusal::from(fault));
         }
@@ -59,7 +83,11 @@ impl World {
             return Err(Refusal::from(Fault::EntitiesFull));
         };
         let fresh = self.slots.takes_new_slot();
-        self.put_row(entity, cells, fresh)?;
-        Ok(entity)
+        self.put_row(entity, RowCells::copied(&cells)?, fresh)?;
+        Ok(SpawnedRow {
+            entity,
+            cells,
+            fresh,
+        })
     }
 }

@@ -10,7 +10,7 @@ use Rattle.scene_file_records.proofs.write_frames.write_record.Goals as goal
 
 pub returns : goal.returns
 returns c =
-    let deltas = c.deltas.result.now in
+    let deltas = c.deltas.result.now.items in
     let tick = c.tick_before.result in
     let old = string_bytes c.args.out.now in
     let text : compact_text (record_text c.args.frame.now)

@@ -6,14 +6,14 @@ use Rattle.scene_journal.proofs.drafts.undo_each.Goals as goal
 pub undo_delta-requires : goal.undo_delta-requires
 undo_delta-requires c =
     let now = c.loop-delta.invariant.0 in
-    fits_back_next c.args.deltas.now c.args.draft.now.world c.loop-delta.draft.world c.loop-delta.left.now c.in-Some.before.now now.0 c.in-Some.delta.now c.in-Some.ensures.cases.0 now.1 c.requires
+    fits_back_next c.args.deltas.now.items c.args.draft.now.world c.loop-delta.draft.world c.loop-delta.left c.next.new.self now.0 c.in-Some.delta.now c.in-Some.ensures now.1 c.requires
 
 pub loop-delta-preserved : goal.loop-delta-preserved
 loop-delta-preserved c =
     let now = c.loop-delta.invariant.0 in (
       (
         c.in-Some.delta.now ∷ now.0,
-        taken_next c.args.deltas.now c.args.draft.now.world c.loop-delta.draft.world c.loop-delta.left.now c.in-Some.before.now now.0 c.in-Some.delta.now c.in-Some.ensures.cases.0 now.1
+        taken_next c.args.deltas.now.items c.args.draft.now.world c.loop-delta.draft.world c.loop-delta.left c.next.new.self now.0 c.in-Some.delta.now c.in-Some.ensures now.1
             c.undo_delta.new.world.world c.in_ok-undo_delta.ensures.done,
       ),
       wider_wider c.args.draft.now.room c.loop-delta.draft.room c.undo_delta.new.world.room c.loop-delta.invariant.1 c.undo_delta.ensures.wide,

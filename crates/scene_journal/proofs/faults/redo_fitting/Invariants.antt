@@ -1,10 +1,14 @@
-use Rattle.std.proofs.Common.{◌≡◌, take}
+use Rattle.std.proofs.Common.{List, length}
 use Rattle.scene_world.specs.Room.{IsWider}
+use Rattle.scene_deltas.specs.declared.delta.Delta.{Delta}
 use Rattle.scene_deltas.specs.Ready.{AreReadyOn}
-use Rattle.scene_deltas.specs.Deltas.{fwd_all}
+use Rattle.scene_journal.proofs.SomeDeltas.{IsMadeTo}
 use Rattle.scene_journal.proofs.faults.redo_fitting.Given as goal
 
-abbrev pub invariant-loop-number : goal.invariant-loop-number
-invariant-loop-number l =
-    AreReadyOn l.draft.room (take l.number l.deltas) l.initial.draft.world
-    × ((l.draft.world ≡ fwd_all (take l.number l.deltas) l.initial.draft.world) × IsWider l.initial.draft.room l.draft.room)
+abbrev pub invariant-loop-delta : goal.invariant-loop-delta
+invariant-loop-delta l =
+    ((made : List Delta) × (IsMadeTo l.deltas.items l.initial.draft.world l.left l.draft.world made × AreReadyOn l.draft.room made l.initial.draft.world))
+    × IsWider l.initial.draft.room l.draft.room
+
+abbrev pub decreases-loop-delta : goal.decreases-loop-delta
+decreases-loop-delta l = length l.left

@@ -1,4 +1,6 @@
-use Rattle.std.proofs.Common.{◌∷◌, ◌∙◌, length, sym}
+use Rattle.std.proofs.Common.{◌∷◌, ◌∙◌, ap, length, sym}
+use Rattle.scene_kinds.specs.Answers.{refusal_of}
+use Rattle.scene_kinds.specs.declared.fault.Fault.TheVariants.{BadRecord}
 use Rattle.scene_world.proofs.Room.{wider_wider}
 use Rattle.scene_journal.proofs.SomeDeltas.{ready_taken, taken_next, unfit_next}
 use Rattle.scene_deltas.proofs.Turns.{ready_fits_back}
@@ -7,11 +9,11 @@ use Rattle.scene_journal.proofs.faults.undo_fitting.Goals as goal
 pub returns-then-not-fits_back-clause-refused : goal.returns-then-not-fits_back-clause-refused
 returns-then-not-fits_back-clause-refused c = λ other.
     let now = c.loop-delta.invariant.0 in (
-      length c.in-Some.before.now,
+      length c.next.new.self,
       (
-        c.bad_record.ensures,
-        unfit_next c.args.deltas.now c.args.draft.now.world c.loop-delta.draft.world c.loop-delta.left.now c.in-Some.before.now now.0 c.in-Some.delta.now
-            c.in-Some.ensures.cases.0 now.1.0 (ready_fits_back c.loop-delta.draft.room now.0 c.args.draft.now.world now.1.1)
+        c.bad_record.ensures ∙ ap (λ k. refusal_of (BadRecord 0 k)) c.len.ensures,
+        unfit_next c.args.deltas.now.items c.args.draft.now.world c.loop-delta.draft.world c.loop-delta.left c.next.new.self now.0 c.in-Some.delta.now
+            c.in-Some.ensures now.1.0 (ready_fits_back c.loop-delta.draft.room now.0 c.args.draft.now.world now.1.1)
             (sym c.fits_back.ensures ∙ c.if-not-fits_back.true),
       ),
     )
@@ -26,9 +28,9 @@ loop-delta-preserved c =
       (
         d ∷ now.0,
         (
-          taken_next c.args.deltas.now w v.world c.loop-delta.left.now c.in-Some.before.now now.0 d c.in-Some.ensures.cases.0 now.1.0 next.world
+          taken_next c.args.deltas.now.items w v.world c.loop-delta.left c.next.new.self now.0 d c.in-Some.ensures now.1.0 next.world
               c.in_ok-undo_delta.ensures.done,
-          ready_taken c.args.deltas.now w v.world c.loop-delta.left.now c.in-Some.before.now now.0 d c.in-Some.ensures.cases.0 now.1.0 v.room next.room next.world
+          ready_taken c.args.deltas.now.items w v.world c.loop-delta.left c.next.new.self now.0 d c.in-Some.ensures now.1.0 v.room next.room next.world
               c.in_ok-undo_delta.ensures.done (sym c.fits_back.ensures ∙ c.if-not-fits_back.false) c.room_holds.ensures c.undo_delta.ensures.wide now.1.1,
         ),
       ),

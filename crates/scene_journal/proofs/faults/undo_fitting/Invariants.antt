@@ -7,7 +7,7 @@ use Rattle.scene_journal.proofs.faults.undo_fitting.Given as goal
 
 abbrev pub invariant-loop-delta : goal.invariant-loop-delta
 invariant-loop-delta l =
-    ((taken : List Delta) × (IsTakenTo l.deltas l.initial.draft.world l.left l.draft.world taken × AreReady l.draft.room taken l.initial.draft.world))
+    ((taken : List Delta) × (IsTakenTo l.deltas.items l.initial.draft.world l.left l.draft.world taken × AreReady l.draft.room taken l.initial.draft.world))
     × IsWider l.initial.draft.room l.draft.room
 
 abbrev pub decreases-loop-delta : goal.decreases-loop-delta

@@ -1,20 +1,17 @@
-use Rattle.std.proofs.Common.{ap, ◌∙◌}
-use Rattle.scene_alloc.specs.Slots.{takes_new_slot}
-use Rattle.scene_journal.proofs.Spawns.{can_leave, dropped_again, spawn_noted}
+use Rattle.std.proofs.Common.{◌≡◌, ℕ, Bool, List, ◌∷◌, [], ap, sym, ◌∙◌}
+use Rattle.scene_kinds.specs.declared.cell.Cell.{Cell}
+use Rattle.scene_kinds.specs.declared.entity.Entity.{Entity}
+use Rattle.scene_deltas.specs.Notes.{spawned}
+use Rattle.scene_deltas.specs.declared.delta.Delta.TheVariants.{Spawned}
+use Rattle.scene_model.specs.Commands.{new_cells}
 use Rattle.scene_journal.proofs.spawned.spawn.Goals as goal
 
-pub drop_last-requires : goal.drop_last-requires
-drop_last-requires c =
-    can_leave c.args.world.now.world c.spawn.new.self.world c.args.cells.items c.in_ok-entity.entity c.is_sound.ensures.valid c.in_ok-entity.ensures.answer
-    c.takes_new_slot-fresh.result (c.takes_new_slot-fresh.ensures ∙ ap takes_new_slot c.slots.ensures)
+-- the delta of equal cells
+of_cells : (e : Entity) (cells others : List (ℕ × Cell)) (fresh again : Bool) → cells ≡ others → fresh ≡ again → Spawned e cells fresh ∷ [] ≡ Spawned e others again ∷ []
+of_cells e cells others fresh again p q = λ i. Spawned e (p i) (q i) ∷ []
 
-pub returns-in-Ok-clause-noted : goal.returns-in-Ok-clause-noted
-returns-in-Ok-clause-noted c =
-    spawn_noted c.args.world.now.world c.spawn.new.self.world c.args.cells.items c.in_ok-entity.entity c.is_sound.ensures.valid c.in_ok-entity.ensures.answer
-    c.takes_new_slot-fresh.result c.in-Ok.cells (c.takes_new_slot-fresh.ensures ∙ ap takes_new_slot c.slots.ensures) c.in-Ok.ensures
-
-pub returns-in-Err-clause-back : goal.returns-in-Err-clause-back
-returns-in-Err-clause-back c =
-    c.drop_last.ensures.world
-    ∙ dropped_again c.args.world.now.world c.spawn.new.self.world c.args.cells.items c.in_ok-entity.entity c.is_sound.ensures.valid c.in_ok-entity.ensures.answer
-    c.takes_new_slot-fresh.result (c.takes_new_slot-fresh.ensures ∙ ap takes_new_slot c.slots.ensures)
+pub returns-clause-noted : goal.returns-clause-noted
+returns-clause-noted c =
+    let w = c.args.world.now.world in
+    let row = c.in_ok-row.ensures.row in
+    of_cells c.in_ok-row.row.entity _ _ _ _ row.made row.slot ∙ ap (spawned w (new_cells w.tick c.args.cells.items)) (sym row.next)

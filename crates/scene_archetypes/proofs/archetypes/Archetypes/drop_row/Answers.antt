@@ -11,11 +11,11 @@ write_left-requires-clause-gone c = entity_within c.self.inside.tables.tables c.
 
 pub write_left-requires-clause-came : goal.write_left-requires-clause-came
 write_left-requires-clause-came c =
-    came_within c.self.inside.tables.tables c.self.inside.homes.items c.args.entity c.args.home c.drop_row.new.self.tables c.entity_at.result c.self.invariant (subst (λ a. StandsIn a.tables c.args.entity c.args.home) (sym c.self.view_is) c.requires)
-    (ap (λ t. row_at t c.args.home) c.drop_row.ensures.tables) c.entity_at.ensures
+    came_within c.self.inside.tables.tables c.self.inside.homes.items c.args.entity c.args.home c.drop_row-came.new.self.tables c.drop_row-came.result c.self.invariant (subst (λ a. StandsIn a.tables c.args.entity c.args.home) (sym c.self.view_is) c.requires)
+    (ap (λ t. row_at t c.args.home) c.drop_row-came.ensures.tables) c.drop_row-came.ensures.came
 
 pub invariant_of-self : goal.invariant_of-self
 invariant_of-self c =
-    subst (λ t. AreHomes t c.write_left.new.homes.items) (sym c.drop_row.ensures.tables)
-    (left c.self.inside.tables.tables c.self.inside.homes.items c.args.entity c.args.home c.entity_at.result c.write_left.new.homes.items c.self.invariant (subst (λ a. StandsIn a.tables c.args.entity c.args.home) (sym c.self.view_is) c.requires)
-    (c.entity_at.ensures ∙ ap (λ t. option_map (λ (row : Row). row.entity) (row_at t c.args.home)) c.drop_row.ensures.tables) c.write_left.ensures)
+    subst (λ t. AreHomes t c.write_left.new.homes.items) (sym c.drop_row-came.ensures.tables)
+    (left c.self.inside.tables.tables c.self.inside.homes.items c.args.entity c.args.home c.drop_row-came.result c.write_left.new.homes.items c.self.invariant (subst (λ a. StandsIn a.tables c.args.entity c.args.home) (sym c.self.view_is) c.requires)
+    (c.drop_row-came.ensures.came ∙ ap (λ t. option_map (λ (row : Row). row.entity) (row_at t c.args.home)) c.drop_row-came.ensures.tables) c.write_left.ensures)

@@ -1,5 +1,5 @@
 use Rattle.std.proofs.Common.{◌≡◌, ◌∙◌, ap, sym, subst, refl}
-use Rattle.std.specs.Prelude.{option_map, IfSome}
+use Rattle.std.specs.Prelude.{IfSome}
 use Rattle.scene_kinds.specs.declared.cells.Row.{Row}
 use Rattle.std.proofs.Common.{◌≤◌, ◌<◌, length, arith, Some}
 use Rattle.std.proofs.lemmas.Option.{same_Some}
@@ -19,17 +19,17 @@ mask_is : (c : goal.After-write_come) → (row : Row) → row_at c.args.self.now
 mask_is c row at = let has = c.requires.kinds row at in sym (mask_of-with_cell row.cells c.args.kind c.args.cell has.ascending ∙ ap (λ m. set_with m c.args.kind) has.kinds)
 
 after : (c : goal.After-write_come) → (row : Row) → row_at c.args.self.now.tables c.args.home ≡ Some row
-    → (c.move_with.new.self.tables ≡ with_row_back (without_row c.self.inside.tables.tables c.args.home) c.args.place (row_with_cell row c.args.kind c.args.cell)) × AreHomes c.move_with.new.self.tables c.write_come.new.homes.items
+    → (c.move_with-moved.new.self.tables ≡ with_row_back (without_row c.self.inside.tables.tables c.args.home) c.args.place (row_with_cell row c.args.kind c.args.cell)) × AreHomes c.move_with-moved.new.self.tables c.write_come.new.homes.items
 after c row at =
     let t = c.self.inside.tables.tables in
     let same = ap (λ a. a.tables) c.self.view_is in
     let here : row_at t c.args.home ≡ Some row = ap (λ u. row_at u c.args.home) same ∙ at in
     let stands = row_standing t c.args.entity c.args.home (subst (λ a. StandsIn a.tables c.args.entity c.args.home) (sym c.self.view_is) c.requires.stands) in
     let entity = ap (λ (r : Row). r.entity) (same_Some row stands.0 (sym here ∙ stands.1.0)) ∙ stands.1.1 in
-    moved_homes t c.self.inside.homes.items c.args.entity c.args.home (set_with c.args.home.mask c.args.kind) c.args.place row (row_with_cell row c.args.kind c.args.cell) c.move_with.new.self.tables c.entity_at.result c.entity_at-displaced.result c.len-last.result c.write_left.new.homes.items c.write_come.new.homes.items
+    moved_homes t c.self.inside.homes.items c.args.entity c.args.home (set_with c.args.home.mask c.args.kind) c.args.place row (row_with_cell row c.args.kind c.args.cell) c.move_with-moved.new.self.tables c.move_with-moved.result.came c.move_with-moved.result.displaced c.move_with-moved.result.last c.write_left.new.homes.items c.write_come.new.homes.items
     c.self.invariant here entity refl (mask_is c row at) (gained_apart c.args.home.mask c.args.kind c.requires.lacks) (subst (λ u. c.args.place ≤ length (rows_at u (set_with c.args.home.mask c.args.kind))) (sym same) c.requires.place)
-    (c.move_with.ensures.tables row here) (c.entity_at-displaced.ensures ∙ ap (λ m. option_map (λ (r : Row). r.entity) (row_at t (record { mask = m; place = c.args.place }))) c.set_with.ensures) (c.len-last.ensures ∙ ap (λ m. length (rows_at t m)) c.set_with.ensures)
-    c.entity_at.ensures c.write_left.ensures (c.write_come.ensures ∙ ap (λ m. homes_come c.write_left.new.homes.items c.args.entity (record { mask = m; place = c.args.place }) c.entity_at-displaced.result c.len-last.result) c.set_with.ensures)
+    (c.move_with-moved.ensures.tables row here) c.move_with-moved.ensures.moved.displaced c.move_with-moved.ensures.moved.last
+    c.move_with-moved.ensures.moved.came c.write_left.ensures (c.write_come.ensures ∙ ap (λ m. homes_come c.write_left.new.homes.items c.args.entity (record { mask = m; place = c.args.place }) c.move_with-moved.result.displaced c.move_with-moved.result.last) c.set_with.ensures)
 
 pub write_left-requires-clause-gone : goal.write_left-requires-clause-gone
 write_left-requires-clause-gone c = entity_within c.self.inside.tables.tables c.self.inside.homes.items c.args.entity c.args.home c.self.invariant (subst (λ a. StandsIn a.tables c.args.entity c.args.home) (sym c.self.view_is) c.requires.stands)
@@ -38,21 +38,21 @@ pub write_left-requires-clause-came : goal.write_left-requires-clause-came
 write_left-requires-clause-came c =
     let t = c.self.inside.tables.tables in
     let stands = row_standing t c.args.entity c.args.home (subst (λ a. StandsIn a.tables c.args.entity c.args.home) (sym c.self.view_is) c.requires.stands) in
-    let moved = c.move_with.ensures.tables stands.0 stands.1.0 in
-    came_within t c.self.inside.homes.items c.args.entity c.args.home c.move_with.new.self.tables c.entity_at.result c.self.invariant (subst (λ a. StandsIn a.tables c.args.entity c.args.home) (sym c.self.view_is) c.requires.stands)
+    let moved = c.move_with-moved.ensures.tables stands.0 stands.1.0 in
+    came_within t c.self.inside.homes.items c.args.entity c.args.home c.move_with-moved.new.self.tables c.move_with-moved.result.came c.self.invariant (subst (λ a. StandsIn a.tables c.args.entity c.args.home) (sym c.self.view_is) c.requires.stands)
     (ap (λ u. row_at u c.args.home) moved ∙ row_apart (without_row t c.args.home) (set_with c.args.home.mask c.args.kind) (put_back (rows_at t (set_with c.args.home.mask c.args.kind)) c.args.place (row_with_cell stands.0 c.args.kind c.args.cell)) c.args.home (gained_apart c.args.home.mask c.args.kind c.requires.lacks))
-    c.entity_at.ensures
+    c.move_with-moved.ensures.moved.came
 
 pub write_come-requires-clause-entity : goal.write_come-requires-clause-entity
 write_come-requires-clause-entity c =
     let within = entity_within c.self.inside.tables.tables c.self.inside.homes.items c.args.entity c.args.home c.self.invariant (subst (λ a. StandsIn a.tables c.args.entity c.args.home) (sym c.self.view_is) c.requires.stands) in
-    let long = ap length c.write_left.ensures ∙ length_left c.self.inside.homes.items c.args.entity c.args.home c.entity_at.result in
+    let long = ap length c.write_left.ensures ∙ length_left c.self.inside.homes.items c.args.entity c.args.home c.move_with-moved.result.came in
     omega (arith, within, long)
 
 pub write_come-requires-clause-displaced : goal.write_come-requires-clause-displaced
 write_come-requires-clause-displaced c =
-    subst (λ n. IfSome c.entity_at-displaced.result (λ e. e.index < n)) (sym (ap length c.write_left.ensures ∙ length_left c.self.inside.homes.items c.args.entity c.args.home c.entity_at.result))
-    (some_within c.self.inside.tables.tables c.self.inside.homes.items (record { mask = c.set_with.result; place = c.args.place }) c.entity_at-displaced.result c.self.invariant c.entity_at-displaced.ensures)
+    subst (λ n. IfSome c.move_with-moved.result.displaced (λ e. e.index < n)) (sym (ap length c.write_left.ensures ∙ length_left c.self.inside.homes.items c.args.entity c.args.home c.move_with-moved.result.came))
+    (some_within c.self.inside.tables.tables c.self.inside.homes.items (record { mask = set_with c.args.home.mask c.args.kind; place = c.args.place }) c.move_with-moved.result.displaced c.self.invariant c.move_with-moved.ensures.moved.displaced)
 
 pub invariant_of-self : goal.invariant_of-self
 invariant_of-self c =

@@ -1,5 +1,5 @@
 use Rattle.std.proofs.Common.{◌≡◌, ◌∙◌, ap, sym, subst, refl}
-use Rattle.std.specs.Prelude.{option_map, IfSome}
+use Rattle.std.specs.Prelude.{IfSome}
 use Rattle.scene_kinds.specs.declared.cells.Row.{Row}
 use Rattle.std.proofs.Common.{◌≤◌, ◌<◌, length, arith, Some}
 use Rattle.std.proofs.lemmas.Option.{same_Some}
@@ -26,10 +26,10 @@ after c row at =
     let here : row_at t c.args.home ≡ Some row = ap (λ u. row_at u c.args.home) same ∙ at in
     let stands = row_standing t c.args.entity c.args.home (subst (λ a. StandsIn a.tables c.args.entity c.args.home) (sym c.self.view_is) c.requires.stands) in
     let entity = ap (λ (r : Row). r.entity) (same_Some row stands.0 (sym here ∙ stands.1.0)) ∙ stands.1.1 in
-    moved_homes t c.self.inside.homes.items c.args.entity c.args.home (set_without c.args.home.mask c.args.kind) c.args.place row (row_without_cell row c.args.kind) c.move_without-cell.new.self.tables c.entity_at.result c.entity_at-displaced.result c.len-last.result c.write_left.new.homes.items c.write_come.new.homes.items
+    moved_homes t c.self.inside.homes.items c.args.entity c.args.home (set_without c.args.home.mask c.args.kind) c.args.place row (row_without_cell row c.args.kind) c.move_without-cell.new.self.tables c.move_without-cell.result.1.came c.move_without-cell.result.1.displaced c.move_without-cell.result.1.last c.write_left.new.homes.items c.write_come.new.homes.items
     c.self.invariant here entity refl (mask_is c row at) (lost_apart c.args.home.mask c.args.kind (omega (arith, c.if-prove.false)) c.requires.low c.requires.has) (subst (λ u. c.args.place ≤ length (rows_at u (set_without c.args.home.mask c.args.kind))) (sym same) c.requires.place)
-    (c.move_without-cell.ensures.tables row here) (c.entity_at-displaced.ensures ∙ ap (λ m. option_map (λ (r : Row). r.entity) (row_at t (record { mask = m; place = c.args.place }))) c.set_without.ensures) (c.len-last.ensures ∙ ap (λ m. length (rows_at t m)) c.set_without.ensures)
-    c.entity_at.ensures c.write_left.ensures (c.write_come.ensures ∙ ap (λ m. homes_come c.write_left.new.homes.items c.args.entity (record { mask = m; place = c.args.place }) c.entity_at-displaced.result c.len-last.result) c.set_without.ensures)
+    (c.move_without-cell.ensures.tables row here) c.move_without-cell.ensures.moved.displaced c.move_without-cell.ensures.moved.last
+    c.move_without-cell.ensures.moved.came c.write_left.ensures (c.write_come.ensures ∙ ap (λ m. homes_come c.write_left.new.homes.items c.args.entity (record { mask = m; place = c.args.place }) c.move_without-cell.result.1.displaced c.move_without-cell.result.1.last) c.set_without.ensures)
 
 pub write_left-requires-clause-gone : goal.write_left-requires-clause-gone
 write_left-requires-clause-gone c = entity_within c.self.inside.tables.tables c.self.inside.homes.items c.args.entity c.args.home c.self.invariant (subst (λ a. StandsIn a.tables c.args.entity c.args.home) (sym c.self.view_is) c.requires.stands)
@@ -39,20 +39,20 @@ write_left-requires-clause-came c =
     let t = c.self.inside.tables.tables in
     let stands = row_standing t c.args.entity c.args.home (subst (λ a. StandsIn a.tables c.args.entity c.args.home) (sym c.self.view_is) c.requires.stands) in
     let moved = c.move_without-cell.ensures.tables stands.0 stands.1.0 in
-    came_within t c.self.inside.homes.items c.args.entity c.args.home c.move_without-cell.new.self.tables c.entity_at.result c.self.invariant (subst (λ a. StandsIn a.tables c.args.entity c.args.home) (sym c.self.view_is) c.requires.stands)
+    came_within t c.self.inside.homes.items c.args.entity c.args.home c.move_without-cell.new.self.tables c.move_without-cell.result.1.came c.self.invariant (subst (λ a. StandsIn a.tables c.args.entity c.args.home) (sym c.self.view_is) c.requires.stands)
     (ap (λ u. row_at u c.args.home) moved ∙ row_apart (without_row t c.args.home) (set_without c.args.home.mask c.args.kind) (put_back (rows_at t (set_without c.args.home.mask c.args.kind)) c.args.place (row_without_cell stands.0 c.args.kind)) c.args.home (lost_apart c.args.home.mask c.args.kind (omega (arith, c.if-prove.false)) c.requires.low c.requires.has))
-    c.entity_at.ensures
+    c.move_without-cell.ensures.moved.came
 
 pub write_come-requires-clause-entity : goal.write_come-requires-clause-entity
 write_come-requires-clause-entity c =
     let within = entity_within c.self.inside.tables.tables c.self.inside.homes.items c.args.entity c.args.home c.self.invariant (subst (λ a. StandsIn a.tables c.args.entity c.args.home) (sym c.self.view_is) c.requires.stands) in
-    let long = ap length c.write_left.ensures ∙ length_left c.self.inside.homes.items c.args.entity c.args.home c.entity_at.result in
+    let long = ap length c.write_left.ensures ∙ length_left c.self.inside.homes.items c.args.entity c.args.home c.move_without-cell.result.1.came in
     omega (arith, within, long)
 
 pub write_come-requires-clause-displaced : goal.write_come-requires-clause-displaced
 write_come-requires-clause-displaced c =
-    subst (λ n. IfSome c.entity_at-displaced.result (λ e. e.index < n)) (sym (ap length c.write_left.ensures ∙ length_left c.self.inside.homes.items c.args.entity c.args.home c.entity_at.result))
-    (some_within c.self.inside.tables.tables c.self.inside.homes.items (record { mask = c.set_without.result; place = c.args.place }) c.entity_at-displaced.result c.self.invariant c.entity_at-displaced.ensures)
+    subst (λ n. IfSome c.move_without-cell.result.1.displaced (λ e. e.index < n)) (sym (ap length c.write_left.ensures ∙ length_left c.self.inside.homes.items c.args.entity c.args.home c.move_without-cell.result.1.came))
+    (some_within c.self.inside.tables.tables c.self.inside.homes.items (record { mask = set_without c.args.home.mask c.args.kind; place = c.args.place }) c.move_without-cell.result.1.displaced c.self.invariant c.move_without-cell.ensures.moved.displaced)
 
 pub invariant_of-self : goal.invariant_of-self
 invariant_of-self c =

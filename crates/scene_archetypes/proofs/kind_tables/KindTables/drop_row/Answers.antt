@@ -1,7 +1,10 @@
 use Rattle.std.proofs.Common.{◌<◌, ◌∙◌, ap, sym, subst, length}
 use Rattle.std.specs.Prelude.{slice_set}
 use Rattle.scene_table.specs.Rows.{swap_out}
+use Rattle.std.specs.Cmp.{nat_cmp_total}
+use Rattle.scene_kinds.proofs.Lists.{list_at_same}
 use Rattle.scene_table.specs.Tables.{rows_at}
+use Rattle.scene_archetypes.specs.KindTables.{entity_at}
 use Rattle.scene_archetypes.proofs.Rooms.{IsThere, IsStep, there, step, home_known, now_held, few_left}
 use Rattle.scene_archetypes.proofs.kind_tables.KindTables.drop_row.Goals as goal
 
@@ -9,10 +12,10 @@ use Rattle.scene_archetypes.proofs.kind_tables.KindTables.drop_row.Goals as goal
 here : (c : goal.After-index_mut) → IsThere c.args.self.now c.args.home.mask c.index_mut.result.now
 here c = there c.self.inside.tables.items c.as_slice.result.now c.args.self.now c.args.home.mask c.known_table-at.result c.index_mut.result.now c.self.view_is c.as_slice.ensures.value c.known_table-at.ensures c.index_mut.ensures.value
 
-after : (c : goal.After-self-1) → IsStep c.self.inside.kind_sets.keys c.args.self.now (slice_set c.self.inside.tables.items c.known_table-at.result c.drop_row.new.self) c.args.home.mask (swap_out (rows_at c.args.self.now.tables c.args.home.mask) c.args.home.place)
+after : (c : goal.After-self-1) → IsStep c.self.inside.kind_sets.keys c.args.self.now (slice_set c.self.inside.tables.items c.known_table-at.result c.drop_row.new.table) c.args.home.mask (swap_out (rows_at c.args.self.now.tables c.args.home.mask) c.args.home.place)
 after c =
     let there = there c.self.inside.tables.items c.as_slice.result.now c.args.self.now c.args.home.mask c.known_table-at.result c.index_mut.result.now c.self.view_is c.as_slice.ensures.value c.known_table-at.ensures c.index_mut.ensures.value in
-    step c.self.inside.kind_sets.keys c.self.inside.tables.items c.as_slice.result.now c.args.self.now c.args.home.mask c.known_table-at.result c.index_mut.result.now c.drop_row.new.self (swap_out (rows_at c.args.self.now.tables c.args.home.mask) c.args.home.place) c.self.view_is c.as_slice.ensures.value c.known_table-at.ensures c.index_mut.ensures.value c.self.invariant c.drop_row.ensures.mask (c.drop_row.ensures.rows ∙ ap (λ rows. swap_out rows c.args.home.place) (sym there.rows))
+    step c.self.inside.kind_sets.keys c.self.inside.tables.items c.as_slice.result.now c.args.self.now c.args.home.mask c.known_table-at.result c.index_mut.result.now c.drop_row.new.table (swap_out (rows_at c.args.self.now.tables c.args.home.mask) c.args.home.place) c.self.view_is c.as_slice.ensures.value c.known_table-at.ensures c.index_mut.ensures.value c.self.invariant c.drop_row.ensures.mask (c.drop_row.ensures.rows ∙ ap (λ rows. swap_out rows c.args.home.place) (sym there.rows))
     c.drop_row.ensures.capacity (few_left c.args.self.now.rooms c.args.self.now.tables c.args.home (now_held c.self.inside.tables.items c.args.self.now c.self.view_is c.self.invariant.room) c.requires)
 
 pub known_table-at-requires-clause-known : goal.known_table-at-requires-clause-known
@@ -29,3 +32,11 @@ returns-clause-tables c = (after c).tables
 
 pub returns-clause-rooms : goal.returns-clause-rooms
 returns-clause-rooms c = (after c).rooms
+
+pub returns-clause-came : goal.returns-clause-came
+returns-clause-came c =
+    let t = c.args.self.now.tables in
+    let left = swap_out (rows_at t c.args.home.mask) c.args.home.place in
+    let rows = (there c.self.inside.tables.items c.as_slice.result.now c.args.self.now c.args.home.mask c.known_table-at.result c.index_mut.result.now c.self.view_is c.as_slice.ensures.value c.known_table-at.ensures c.index_mut.ensures.value).rows in
+    c.drop_row.ensures.came ∙ ap (λ rs. entity_at rs c.args.home.place) (c.drop_row.ensures.rows ∙ ap (λ rs. swap_out rs c.args.home.place) (sym rows)
+    ∙ sym (list_at_same nat_cmp_total t c.args.home.mask left)) ∙ ap (λ u. entity_at (rows_at u c.args.home.mask) c.args.home.place) (sym (after c).tables)

@@ -4,7 +4,7 @@ use Rattle.scene_model.specs.World.{World}
 use Rattle.scene_model.specs.Can.{can_set_tick}
 use Rattle.scene_deltas.specs.Ready.{AreReady}
 use Rattle.scene_deltas.specs.Deltas.{back_all}
-use Rattle.scene_deltas.proofs.Deltas.{back_all_keeps_tick}
+use Rattle.scene_deltas.proofs.ComeBack.{back_all_keeps_tick}
 use Rattle.scene_deltas.proofs.Turns.{ready_fits_back}
 use Rattle.scene_journal.specs.Newest.{Covers}
 use Rattle.scene_journal.proofs.Covers.{covers_at}
@@ -37,7 +37,7 @@ can_set_tick-requires-clause-one_before c =
     let some = c.if-tick-eq0.false in
     let right = c.if-tick-before.false in
     let tick : w.tick ≡ c.tick_before-before.result + 1 = grind (arith, nat_tests) in
-    ap (λ (u : World). u.tick) c.in_ok-undo_fitting.ensures.done ∙ back_all_keeps_tick c.deltas-2.result.now w ∙ tick
+    ap (λ (u : World). u.tick) c.in_ok-undo_fitting.ensures.done ∙ back_all_keeps_tick c.deltas-2.result.now.items w ∙ tick
 
 pub returns-clause-covers : goal.returns-clause-covers
 returns-clause-covers c =

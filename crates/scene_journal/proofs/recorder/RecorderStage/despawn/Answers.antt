@@ -8,8 +8,8 @@ use Rattle.scene_journal.proofs.recorder.RecorderStage.despawn.Goals as goal
 
 pub invariant_of-self-in_err-despawn : goal.invariant_of-self-in_err-despawn
 invariant_of-self-in_err-despawn c =
-    stays_ready c.self.inside.world.room c.despawn.new.self.room c.self.inside.deltas.items c.room_for_one.new.deltas.items c.self.inside.world.world c.despawn.new.self.world
-    c.self.invariant c.despawn.ensures.wide c.in_err-despawn.ensures.answer.0 c.room_for_one.ensures.items
+    stays_ready c.self.inside.world.room c.despawn.new.self.room c.self.inside.deltas.items c.reserve.new.self.items c.self.inside.world.world c.despawn.new.self.world
+    c.self.invariant c.despawn.ensures.wide c.in_err-despawn.ensures.answer.0 c.reserve.ensures.items
 
 pub invariant_of-self-2 : goal.invariant_of-self-2
 invariant_of-self-2 c =
@@ -17,7 +17,7 @@ invariant_of-self-2 c =
     let v = c.despawn.new.self in
     goes_ready w.room v.room c.self.inside.deltas.items c.keep.new.deltas.items w.world v.world (Despawn c.args.entity) c.in_ok-delta.delta
     c.is_sound.ensures.valid c.in_ok-delta.ensures (despawn_leads w.world v.world c.args.entity c.is_sound.ensures.valid c.in_ok-despawn.ensures.answer)
-    (c.keep.ensures ∙ ap (λ xs. xs ++ listed_delta c.in_ok-delta.delta) c.room_for_one.ensures.items) c.is_sound.ensures.held c.despawn.ensures.wide c.self.invariant
+    (c.keep.ensures ∙ ap (λ xs. xs ++ listed_delta c.in_ok-delta.delta) c.reserve.ensures.items) c.is_sound.ensures.held c.despawn.ensures.wide c.self.invariant
 
 pub returns-clause-opening : goal.returns-clause-opening
 returns-clause-opening c =
@@ -25,5 +25,5 @@ returns-clause-opening c =
     let v = c.despawn.new.self in
     ap (λ u. Some (began_with c.self.inside.tick_before u)) (goes_back w.room v.room c.self.inside.deltas.items c.keep.new.deltas.items w.world v.world (Despawn c.args.entity) c.in_ok-delta.delta
     c.is_sound.ensures.valid c.in_ok-delta.ensures (despawn_leads w.world v.world c.args.entity c.is_sound.ensures.valid c.in_ok-despawn.ensures.answer)
-    (c.keep.ensures ∙ ap (λ xs. xs ++ listed_delta c.in_ok-delta.delta) c.room_for_one.ensures.items))
+    (c.keep.ensures ∙ ap (λ xs. xs ++ listed_delta c.in_ok-delta.delta) c.reserve.ensures.items))
     ∙ ap (λ (r : Recording). Some (began r)) c.self.view_is

@@ -1,4 +1,4 @@
-use Rattle.std.proofs.Common.{◌≡◌, ◌++◌, ap, cond, subst, sym, ◌∙◌, Some, Ok}
+use Rattle.std.proofs.Common.{◌≡◌, ◌++◌, ap, subst, sym, ◌∙◌, Some, Ok}
 use Rattle.scene_links.specs.Forest.{post}
 use Rattle.scene_model.specs.Commands.{despawn_recursive}
 use Rattle.scene_model.specs.Perform.{DespawnRecursive}
@@ -20,26 +20,26 @@ cut_each-requires c =
     subst (λ es. CanCutEach es w) (sym (c.as_slice.ensures.value ∙ c.in_ok-order.ensures.value ∙ ap (λ f. post f c.args.entity) c.links.ensures))
     (recursive_each w c.args.entity c.is_sound.ensures.valid (sym c.is_alive.ensures ∙ c.if-not-is_alive.false)).0
 
-pub invariant_of-self-else-is_err : goal.invariant_of-self-else-is_err
-invariant_of-self-else-is_err c =
+pub invariant_of-self-in-Ok : goal.invariant_of-self-in-Ok
+invariant_of-self-in-Ok c =
     let w = c.self.inside.world in
     let v = c.cut_each.new.world in
     let ds = c.self.inside.deltas.items in
     let es = c.in_ok-made.made.items in
-    let kept = c.append.ensures.items ∙ ap (λ b. cond b (ds ++ es) ds) c.if-is_err.ensures.negation in
+    let kept = c.in-Ok.ensures.done in
     let before = found_ready w.room ds w.world c.self.invariant in
     ∣ subst (λ xs. AreReady v.room xs v.world) (sym kept)
     (ready_appended v.room ds es v.world c.in_ok-made.ensures.ready
     (subst (AreReady v.room ds) (sym c.in_ok-made.ensures.opening) (subst (λ r. AreReady r ds w.world) (sym c.cut_each.ensures.room) before))) ∣₁
 
-pub returns-clause-answer : goal.returns-clause-answer
-returns-clause-answer c =
+pub returns-in-Ok-clause-answer : goal.returns-in-Ok-clause-answer
+returns-in-Ok-clause-answer c =
     let w = c.self.inside.world.world in
     let v = c.cut_each.new.world.world in
     let ds = c.self.inside.deltas.items in
     let es = c.in_ok-made.made.items in
     let order = c.as_slice.ensures.value ∙ c.in_ok-order.ensures.value ∙ ap (λ f. post f c.args.entity) c.links.ensures in
-    let kept = c.append.ensures.items ∙ ap (λ b. cond b (ds ++ es) ds) c.if-is_err.ensures.negation in
+    let kept = c.in-Ok.ensures.done in
     let start : Recording = record { world = w; frame = record_of c.self.inside.tick_before ds; room = c.self.inside.world.room } in
     let whole = recursive_each w c.args.entity c.is_sound.ensures.valid (sym c.is_alive.ensures ∙ c.if-not-is_alive.false) in
     subst (λ (s : Recording). noting (staged_of s) (deltas_of s.world (DespawnRecursive c.args.entity)) (despawn_recursive s.world c.args.entity) ≡ Ok (tt, record { world = v; notes = c.append.new.self.items })) c.self.view_is
@@ -47,11 +47,11 @@ returns-clause-answer c =
     (c.in_ok-made.ensures.made ∙ ap (λ xs. cut_each xs w) order)
     (kept ∙ ap (λ xs. ds ++ xs) (c.in_ok-made.ensures.noted ∙ ap (λ xs. despawned_each xs w) order)))
 
-pub returns-clause-opening : goal.returns-clause-opening
-returns-clause-opening c =
+pub returns-in-Ok-clause-opening : goal.returns-in-Ok-clause-opening
+returns-in-Ok-clause-opening c =
     let v = c.cut_each.new.world.world in
     let ds = c.self.inside.deltas.items in
     let es = c.in_ok-made.made.items in
-    let kept = c.append.ensures.items ∙ ap (λ b. cond b (ds ++ es) ds) c.if-is_err.ensures.negation in
+    let kept = c.in-Ok.ensures.done in
     ap (λ u. Some (began_with c.self.inside.tick_before u)) (ap (λ xs. back_all xs v) kept ∙ back_appended ds es v ∙ ap (back_all ds) c.in_ok-made.ensures.opening)
     ∙ ap (λ (r : Recording). Some (began r)) c.self.view_is

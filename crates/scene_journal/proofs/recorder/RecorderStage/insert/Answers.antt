@@ -8,8 +8,8 @@ use Rattle.scene_journal.proofs.recorder.RecorderStage.insert.Goals as goal
 
 pub invariant_of-self-in_err-delta : goal.invariant_of-self-in_err-delta
 invariant_of-self-in_err-delta c =
-    stays_ready c.self.inside.world.room c.insert.new.world.room c.self.inside.deltas.items c.room_for_one.new.deltas.items c.self.inside.world.world c.insert.new.world.world
-    c.self.invariant c.insert.ensures.wide c.in_err-delta.ensures.back c.room_for_one.ensures.items
+    stays_ready c.self.inside.world.room c.insert.new.world.room c.self.inside.deltas.items c.reserve.new.self.items c.self.inside.world.world c.insert.new.world.world
+    c.self.invariant c.insert.ensures.wide c.in_err-delta.ensures.back c.reserve.ensures.items
 
 pub invariant_of-self-2 : goal.invariant_of-self-2
 invariant_of-self-2 c =
@@ -17,7 +17,7 @@ invariant_of-self-2 c =
     let v = c.insert.new.world in
     goes_ready w.room v.room c.self.inside.deltas.items c.keep.new.deltas.items w.world v.world (Insert c.args.entity c.args.kind c.args.value) c.in_ok-delta.delta
     c.is_sound.ensures.valid c.in_ok-delta.ensures.noted (insert_leads w.world v.world c.args.entity c.args.kind c.args.value c.is_sound.ensures.valid c.in_ok-delta.ensures.made)
-    (c.keep.ensures ∙ ap (λ xs. xs ++ listed_delta c.in_ok-delta.delta) c.room_for_one.ensures.items) c.is_sound.ensures.held c.insert.ensures.wide c.self.invariant
+    (c.keep.ensures ∙ ap (λ xs. xs ++ listed_delta c.in_ok-delta.delta) c.reserve.ensures.items) c.is_sound.ensures.held c.insert.ensures.wide c.self.invariant
 
 pub returns-clause-opening : goal.returns-clause-opening
 returns-clause-opening c =
@@ -25,5 +25,5 @@ returns-clause-opening c =
     let v = c.insert.new.world in
     ap (λ u. Some (began_with c.self.inside.tick_before u)) (goes_back w.room v.room c.self.inside.deltas.items c.keep.new.deltas.items w.world v.world (Insert c.args.entity c.args.kind c.args.value) c.in_ok-delta.delta
     c.is_sound.ensures.valid c.in_ok-delta.ensures.noted (insert_leads w.world v.world c.args.entity c.args.kind c.args.value c.is_sound.ensures.valid c.in_ok-delta.ensures.made)
-    (c.keep.ensures ∙ ap (λ xs. xs ++ listed_delta c.in_ok-delta.delta) c.room_for_one.ensures.items))
+    (c.keep.ensures ∙ ap (λ xs. xs ++ listed_delta c.in_ok-delta.delta) c.reserve.ensures.items))
     ∙ ap (λ (r : Recording). Some (began r)) c.self.view_is

@@ -8,8 +8,8 @@ use Rattle.scene_journal.proofs.recorder.RecorderStage.remove_parent.Goals as go
 
 pub invariant_of-self-in_err-remove_parent : goal.invariant_of-self-in_err-remove_parent
 invariant_of-self-in_err-remove_parent c =
-    stays_ready c.self.inside.world.room c.remove_parent.new.self.room c.self.inside.deltas.items c.room_for_one.new.deltas.items c.self.inside.world.world c.remove_parent.new.self.world
-    c.self.invariant c.remove_parent.ensures.wide c.in_err-remove_parent.ensures.answer.0 c.room_for_one.ensures.items
+    stays_ready c.self.inside.world.room c.remove_parent.new.self.room c.self.inside.deltas.items c.reserve.new.self.items c.self.inside.world.world c.remove_parent.new.self.world
+    c.self.invariant c.remove_parent.ensures.wide c.in_err-remove_parent.ensures.answer.0 c.reserve.ensures.items
 
 pub invariant_of-self-2 : goal.invariant_of-self-2
 invariant_of-self-2 c =
@@ -17,7 +17,7 @@ invariant_of-self-2 c =
     let v = c.remove_parent.new.self in
     goes_ready w.room v.room c.self.inside.deltas.items c.push_reserved.new.self.items w.world v.world (RemoveParent c.args.child) (Some (Linked c.args.child c.link_of-lost.result None))
     c.is_sound.ensures.valid (λ i. Linked c.args.child (c.link_of-lost.ensures i) None ∷ []) (remove_parent_leads w.world v.world c.args.child c.is_sound.ensures.valid c.in_ok-remove_parent.ensures.answer)
-    (c.push_reserved.ensures.items ∙ ap (λ xs. xs ++ Linked c.args.child c.link_of-lost.result None ∷ []) c.room_for_one.ensures.items) c.is_sound.ensures.held c.remove_parent.ensures.wide c.self.invariant
+    (c.push_reserved.ensures.items ∙ ap (λ xs. xs ++ Linked c.args.child c.link_of-lost.result None ∷ []) c.reserve.ensures.items) c.is_sound.ensures.held c.remove_parent.ensures.wide c.self.invariant
 
 pub returns-clause-opening : goal.returns-clause-opening
 returns-clause-opening c =
@@ -25,5 +25,5 @@ returns-clause-opening c =
     let v = c.remove_parent.new.self in
     ap (λ u. Some (began_with c.self.inside.tick_before u)) (goes_back w.room v.room c.self.inside.deltas.items c.push_reserved.new.self.items w.world v.world (RemoveParent c.args.child) (Some (Linked c.args.child c.link_of-lost.result None))
     c.is_sound.ensures.valid (λ i. Linked c.args.child (c.link_of-lost.ensures i) None ∷ []) (remove_parent_leads w.world v.world c.args.child c.is_sound.ensures.valid c.in_ok-remove_parent.ensures.answer)
-    (c.push_reserved.ensures.items ∙ ap (λ xs. xs ++ Linked c.args.child c.link_of-lost.result None ∷ []) c.room_for_one.ensures.items))
+    (c.push_reserved.ensures.items ∙ ap (λ xs. xs ++ Linked c.args.child c.link_of-lost.result None ∷ []) c.reserve.ensures.items))
     ∙ ap (λ (r : Recording). Some (began r)) c.self.view_is

@@ -7,8 +7,8 @@ use Rattle.scene_journal.proofs.recorder.RecorderStage.remove_resource.Goals as 
 
 pub invariant_of-self-in_err-remove_resource : goal.invariant_of-self-in_err-remove_resource
 invariant_of-self-in_err-remove_resource c =
-    stays_ready c.self.inside.world.room c.remove_resource.new.self.room c.self.inside.deltas.items c.room_for_one.new.deltas.items c.self.inside.world.world c.remove_resource.new.self.world
-    c.self.invariant c.remove_resource.ensures.wide c.in_err-remove_resource.ensures.answer.0 c.room_for_one.ensures.items
+    stays_ready c.self.inside.world.room c.remove_resource.new.self.room c.self.inside.deltas.items c.reserve.new.self.items c.self.inside.world.world c.remove_resource.new.self.world
+    c.self.invariant c.remove_resource.ensures.wide c.in_err-remove_resource.ensures.answer.0 c.reserve.ensures.items
 
 pub invariant_of-self-2 : goal.invariant_of-self-2
 invariant_of-self-2 c =
@@ -16,7 +16,7 @@ invariant_of-self-2 c =
     let v = c.remove_resource.new.self in
     goes_ready w.room v.room c.self.inside.deltas.items c.push_reserved.new.self.items w.world v.world (RemoveResource c.args.name.now) (Some c.in_ok-delta.delta)
     c.is_sound.ensures.valid c.in_ok-delta.ensures (remove_resource_leads w.world v.world c.args.name.now c.is_sound.ensures.valid c.in_ok-remove_resource.ensures.answer)
-    (c.push_reserved.ensures.items ∙ ap (λ xs. xs ++ c.in_ok-delta.delta ∷ []) c.room_for_one.ensures.items) c.is_sound.ensures.held c.remove_resource.ensures.wide c.self.invariant
+    (c.push_reserved.ensures.items ∙ ap (λ xs. xs ++ c.in_ok-delta.delta ∷ []) c.reserve.ensures.items) c.is_sound.ensures.held c.remove_resource.ensures.wide c.self.invariant
 
 pub returns-clause-opening : goal.returns-clause-opening
 returns-clause-opening c =
@@ -24,5 +24,5 @@ returns-clause-opening c =
     let v = c.remove_resource.new.self in
     ap (λ u. Some (began_with c.self.inside.tick_before u)) (goes_back w.room v.room c.self.inside.deltas.items c.push_reserved.new.self.items w.world v.world (RemoveResource c.args.name.now) (Some c.in_ok-delta.delta)
     c.is_sound.ensures.valid c.in_ok-delta.ensures (remove_resource_leads w.world v.world c.args.name.now c.is_sound.ensures.valid c.in_ok-remove_resource.ensures.answer)
-    (c.push_reserved.ensures.items ∙ ap (λ xs. xs ++ c.in_ok-delta.delta ∷ []) c.room_for_one.ensures.items))
+    (c.push_reserved.ensures.items ∙ ap (λ xs. xs ++ c.in_ok-delta.delta ∷ []) c.reserve.ensures.items))
     ∙ ap (λ (r : Recording). Some (began r)) c.self.view_is

@@ -7,8 +7,8 @@ use Rattle.scene_journal.proofs.recorder.RecorderStage.spawn.Goals as goal
 
 pub invariant_of-self-in_err-entity : goal.invariant_of-self-in_err-entity
 invariant_of-self-in_err-entity c =
-    stays_ready c.self.inside.world.room c.spawn.new.world.room c.self.inside.deltas.items c.room_for_one.new.deltas.items c.self.inside.world.world c.spawn.new.world.world
-    c.self.invariant c.spawn.ensures.wide c.in_err-entity.ensures.back c.room_for_one.ensures.items
+    stays_ready c.self.inside.world.room c.spawn.new.world.room c.self.inside.deltas.items c.reserve.new.self.items c.self.inside.world.world c.spawn.new.world.world
+    c.self.invariant c.spawn.ensures.wide c.in_err-entity.ensures.back c.reserve.ensures.items
 
 pub invariant_of-self-2 : goal.invariant_of-self-2
 invariant_of-self-2 c =
@@ -16,7 +16,7 @@ invariant_of-self-2 c =
     let v = c.spawn.new.world in
     goes_ready w.room v.room c.self.inside.deltas.items c.push_reserved.new.self.items w.world v.world (Spawn c.args.cells.items) (Some c.in_ok-entity.delta)
     c.is_sound.ensures.valid c.in_ok-entity.ensures.noted (spawn_leads w.world v.world c.args.cells.items c.in_ok-entity.entity c.is_sound.ensures.valid c.in_ok-entity.ensures.made)
-    (c.push_reserved.ensures.items ∙ ap (λ xs. xs ++ c.in_ok-entity.delta ∷ []) c.room_for_one.ensures.items) c.is_sound.ensures.held c.spawn.ensures.wide c.self.invariant
+    (c.push_reserved.ensures.items ∙ ap (λ xs. xs ++ c.in_ok-entity.delta ∷ []) c.reserve.ensures.items) c.is_sound.ensures.held c.spawn.ensures.wide c.self.invariant
 
 pub returns-clause-opening : goal.returns-clause-opening
 returns-clause-opening c =
@@ -24,5 +24,5 @@ returns-clause-opening c =
     let v = c.spawn.new.world in
     ap (λ u. Some (began_with c.self.inside.tick_before u)) (goes_back w.room v.room c.self.inside.deltas.items c.push_reserved.new.self.items w.world v.world (Spawn c.args.cells.items) (Some c.in_ok-entity.delta)
     c.is_sound.ensures.valid c.in_ok-entity.ensures.noted (spawn_leads w.world v.world c.args.cells.items c.in_ok-entity.entity c.is_sound.ensures.valid c.in_ok-entity.ensures.made)
-    (c.push_reserved.ensures.items ∙ ap (λ xs. xs ++ c.in_ok-entity.delta ∷ []) c.room_for_one.ensures.items))
+    (c.push_reserved.ensures.items ∙ ap (λ xs. xs ++ c.in_ok-entity.delta ∷ []) c.reserve.ensures.items))
     ∙ ap (λ (r : Recording). Some (began r)) c.self.view_is

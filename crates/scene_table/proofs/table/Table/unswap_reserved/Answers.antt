@@ -3,26 +3,27 @@ use Rattle.std.specs.Prelude.{vec_capacity}
 use Rattle.std.specs.List.{swap}
 use Rattle.scene_kinds.specs.Cells.{HasKinds}
 use Rattle.scene_table.specs.Rows.{put_back}
-use Rattle.scene_table.specs.Columns.{ColumnState, HasRoomAt, put_each}
+use Rattle.scene_table.specs.Columns.{ColumnState, HasRoomAt}
+use Rattle.scene_table.specs.Tables.{row_for}
 use Rattle.scene_table.proofs.Swaps.{swap_is}
 use Rattle.scene_table.proofs.KindLists.{kinds_as_columns}
 use Rattle.scene_table.proofs.TableRows.{length-rows_of}
 use Rattle.scene_table.proofs.TableFacts.{room_each, least_first, put_back_lent, came_table, came_rows, came_least, same_count}
 use Rattle.scene_table.proofs.table.Table.unswap_reserved.Goals as goal
 
-pub put_cells-requires-clause-count : goal.put_cells-requires-clause-count
-put_cells-requires-clause-count c =
+pub put_row-requires-clause-count : goal.put_row-requires-clause-count
+put_row-requires-clause-count c =
     let n = ap (λ t. length t.rows) (sym c.self.view_is) ∙ length-rows_of c.self.inside.entities.items c.self.inside.columns.items c.self.invariant.long in
     let r = ap (λ t. t.capacity) c.self.view_is in
     let least_is = least_first (vec_capacity c.self.inside.entities) c.self.inside.columns.items in
     let some : 0 < vec_capacity c.self.inside.entities = omega arith in
-    let fits = subst (λ (mask : ℕ). HasKinds mask c.args.row) (sym (ap (λ t. t.mask) c.self.view_is)) c.requires.fits in
-    let kinds = kinds_as_columns c.self.inside.mask c.args.row c.self.inside.columns.items (c.self.invariant.kinds some) fits in
-    let count = same_count c.args.row.cells c.self.inside.columns.items kinds in
-    ap length c.into_vec.ensures ∙ count ∙ ap length (sym c.deref_mut.ensures.value)
+    let fits = subst (λ (mask : ℕ). HasKinds mask (row_for c.args.entity c.args.cells)) (sym (ap (λ t. t.mask) c.self.view_is)) c.requires.fits in
+    let kinds = kinds_as_columns c.self.inside.mask (row_for c.args.entity c.args.cells) c.self.inside.columns.items (c.self.invariant.kinds some) fits in
+    let count = same_count c.args.cells c.self.inside.columns.items kinds in
+    count ∙ ap length (sym c.deref_mut.ensures.value)
 
-pub put_cells-requires-clause-room : goal.put_cells-requires-clause-room
-put_cells-requires-clause-room c =
+pub put_row-requires-clause-room : goal.put_row-requires-clause-room
+put_row-requires-clause-room c =
     let n = ap (λ t. length t.rows) (sym c.self.view_is) ∙ length-rows_of c.self.inside.entities.items c.self.inside.columns.items c.self.invariant.long in
     let r = ap (λ t. t.capacity) c.self.view_is in
     let least_is = least_first (vec_capacity c.self.inside.entities) c.self.inside.columns.items in
@@ -47,13 +48,13 @@ invariant_of-self c =
     let r = ap (λ t. t.capacity) c.self.view_is in
     let least_is = least_first (vec_capacity c.self.inside.entities) c.self.inside.columns.items in
     let some : 0 < vec_capacity c.self.inside.entities = omega arith in
-    let fits = subst (λ (mask : ℕ). HasKinds mask c.args.row) (sym (ap (λ t. t.mask) c.self.view_is)) c.requires.fits in
-    let kinds = kinds_as_columns c.self.inside.mask c.args.row c.self.inside.columns.items (c.self.invariant.kinds some) fits in
-    let count = same_count c.args.row.cells c.self.inside.columns.items kinds in
-    let made = put_back_lent c.self.inside.columns.len c.args.at c.args.row.cells c.self.inside.columns.items c.deref_mut.result.now c.put_cells.new.columns (omega arith) count c.deref_mut.ensures.value
-    (c.put_cells.ensures ∙ ap (λ t. put_each c.args.at t c.deref_mut.result.now) c.into_vec.ensures) in
-    came_table c.self.inside.mask (vec_capacity c.self.inside.entities) c.args.at c.self.inside.entities.items c.self.inside.columns.items c.self.invariant (omega arith) c.args.row.entity c.args.row.cells kinds c.swap.new.self.items (vec_capacity c.swap.new.self) _
-    (c.swap.ensures.items ∙ ap (λ t. swap t c.args.at c.len-last.result) c.push_reserved.ensures.items ∙ swap_is c.self.inside.entities.items c.args.at c.len-last.result c.args.row.entity (omega arith) (omega (arith, c.len-last.ensures)))
+    let fits = subst (λ (mask : ℕ). HasKinds mask (row_for c.args.entity c.args.cells)) (sym (ap (λ t. t.mask) c.self.view_is)) c.requires.fits in
+    let kinds = kinds_as_columns c.self.inside.mask (row_for c.args.entity c.args.cells) c.self.inside.columns.items (c.self.invariant.kinds some) fits in
+    let count = same_count c.args.cells c.self.inside.columns.items kinds in
+    let made = put_back_lent c.self.inside.columns.len c.args.at c.args.cells c.self.inside.columns.items c.deref_mut.result.now c.put_row.new.columns (omega arith) count c.deref_mut.ensures.value
+    c.put_row.ensures in
+    came_table c.self.inside.mask (vec_capacity c.self.inside.entities) c.args.at c.self.inside.entities.items c.self.inside.columns.items c.self.invariant (omega arith) c.args.entity c.args.cells kinds c.swap.new.self.items (vec_capacity c.swap.new.self) _
+    (c.swap.ensures.items ∙ ap (λ t. swap t c.args.at c.len-last.result) c.push_reserved.ensures.items ∙ swap_is c.self.inside.entities.items c.args.at c.len-last.result c.args.entity (omega arith) (omega (arith, c.len-last.ensures)))
     (c.swap.ensures.capacity ∙ c.push_reserved.ensures.capacity) made
 
 pub returns-clause-rows : goal.returns-clause-rows
@@ -62,15 +63,15 @@ returns-clause-rows c =
     let r = ap (λ t. t.capacity) c.self.view_is in
     let least_is = least_first (vec_capacity c.self.inside.entities) c.self.inside.columns.items in
     let some : 0 < vec_capacity c.self.inside.entities = omega arith in
-    let fits = subst (λ (mask : ℕ). HasKinds mask c.args.row) (sym (ap (λ t. t.mask) c.self.view_is)) c.requires.fits in
-    let kinds = kinds_as_columns c.self.inside.mask c.args.row c.self.inside.columns.items (c.self.invariant.kinds some) fits in
-    let count = same_count c.args.row.cells c.self.inside.columns.items kinds in
-    let made = put_back_lent c.self.inside.columns.len c.args.at c.args.row.cells c.self.inside.columns.items c.deref_mut.result.now c.put_cells.new.columns (omega arith) count c.deref_mut.ensures.value
-    (c.put_cells.ensures ∙ ap (λ t. put_each c.args.at t c.deref_mut.result.now) c.into_vec.ensures) in
-    came_rows c.self.inside.mask (vec_capacity c.self.inside.entities) c.args.at c.self.inside.entities.items c.self.inside.columns.items c.self.invariant (omega arith) c.args.row.entity c.args.row.cells kinds c.swap.new.self.items (vec_capacity c.swap.new.self) _
-    (c.swap.ensures.items ∙ ap (λ t. swap t c.args.at c.len-last.result) c.push_reserved.ensures.items ∙ swap_is c.self.inside.entities.items c.args.at c.len-last.result c.args.row.entity (omega arith) (omega (arith, c.len-last.ensures)))
+    let fits = subst (λ (mask : ℕ). HasKinds mask (row_for c.args.entity c.args.cells)) (sym (ap (λ t. t.mask) c.self.view_is)) c.requires.fits in
+    let kinds = kinds_as_columns c.self.inside.mask (row_for c.args.entity c.args.cells) c.self.inside.columns.items (c.self.invariant.kinds some) fits in
+    let count = same_count c.args.cells c.self.inside.columns.items kinds in
+    let made = put_back_lent c.self.inside.columns.len c.args.at c.args.cells c.self.inside.columns.items c.deref_mut.result.now c.put_row.new.columns (omega arith) count c.deref_mut.ensures.value
+    c.put_row.ensures in
+    came_rows c.self.inside.mask (vec_capacity c.self.inside.entities) c.args.at c.self.inside.entities.items c.self.inside.columns.items c.self.invariant (omega arith) c.args.entity c.args.cells kinds c.swap.new.self.items (vec_capacity c.swap.new.self) _
+    (c.swap.ensures.items ∙ ap (λ t. swap t c.args.at c.len-last.result) c.push_reserved.ensures.items ∙ swap_is c.self.inside.entities.items c.args.at c.len-last.result c.args.entity (omega arith) (omega (arith, c.len-last.ensures)))
     (c.swap.ensures.capacity ∙ c.push_reserved.ensures.capacity) made
-    ∙ ap (λ t. put_back t.rows c.args.at c.args.row) c.self.view_is
+    ∙ ap (λ t. put_back t.rows c.args.at (row_for c.args.entity c.args.cells)) c.self.view_is
 
 pub returns-clause-capacity : goal.returns-clause-capacity
 returns-clause-capacity c =
@@ -78,12 +79,12 @@ returns-clause-capacity c =
     let r = ap (λ t. t.capacity) c.self.view_is in
     let least_is = least_first (vec_capacity c.self.inside.entities) c.self.inside.columns.items in
     let some : 0 < vec_capacity c.self.inside.entities = omega arith in
-    let fits = subst (λ (mask : ℕ). HasKinds mask c.args.row) (sym (ap (λ t. t.mask) c.self.view_is)) c.requires.fits in
-    let kinds = kinds_as_columns c.self.inside.mask c.args.row c.self.inside.columns.items (c.self.invariant.kinds some) fits in
-    let count = same_count c.args.row.cells c.self.inside.columns.items kinds in
-    let made = put_back_lent c.self.inside.columns.len c.args.at c.args.row.cells c.self.inside.columns.items c.deref_mut.result.now c.put_cells.new.columns (omega arith) count c.deref_mut.ensures.value
-    (c.put_cells.ensures ∙ ap (λ t. put_each c.args.at t c.deref_mut.result.now) c.into_vec.ensures) in
-    came_least c.self.inside.mask (vec_capacity c.self.inside.entities) c.args.at c.self.inside.entities.items c.self.inside.columns.items c.self.invariant (omega arith) c.args.row.entity c.args.row.cells kinds c.swap.new.self.items (vec_capacity c.swap.new.self) _
-    (c.swap.ensures.items ∙ ap (λ t. swap t c.args.at c.len-last.result) c.push_reserved.ensures.items ∙ swap_is c.self.inside.entities.items c.args.at c.len-last.result c.args.row.entity (omega arith) (omega (arith, c.len-last.ensures)))
+    let fits = subst (λ (mask : ℕ). HasKinds mask (row_for c.args.entity c.args.cells)) (sym (ap (λ t. t.mask) c.self.view_is)) c.requires.fits in
+    let kinds = kinds_as_columns c.self.inside.mask (row_for c.args.entity c.args.cells) c.self.inside.columns.items (c.self.invariant.kinds some) fits in
+    let count = same_count c.args.cells c.self.inside.columns.items kinds in
+    let made = put_back_lent c.self.inside.columns.len c.args.at c.args.cells c.self.inside.columns.items c.deref_mut.result.now c.put_row.new.columns (omega arith) count c.deref_mut.ensures.value
+    c.put_row.ensures in
+    came_least c.self.inside.mask (vec_capacity c.self.inside.entities) c.args.at c.self.inside.entities.items c.self.inside.columns.items c.self.invariant (omega arith) c.args.entity c.args.cells kinds c.swap.new.self.items (vec_capacity c.swap.new.self) _
+    (c.swap.ensures.items ∙ ap (λ t. swap t c.args.at c.len-last.result) c.push_reserved.ensures.items ∙ swap_is c.self.inside.entities.items c.args.at c.len-last.result c.args.entity (omega arith) (omega (arith, c.len-last.ensures)))
     (c.swap.ensures.capacity ∙ c.push_reserved.ensures.capacity) made
     ∙ r
