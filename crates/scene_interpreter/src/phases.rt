@@ -1,5 +1,5 @@
 //! The phases of systems that a script has made.
-ghost use Rattle.std.specs.Prelude.{◌≡◌, ◌≢◌, ◌++◌, ◌∷◌, [], None, Some, IfOk, IfErr, OnErr, OnOk};
+ghost use Rattle.std.specs.Prelude.{◌≡◌, ◌≢◌, ◌++◌, ◌∷◌, [], None, Some, IfOk, IfErr, IfSome, OnErr, OnOk, OnSome};
 ghost use Rattle.scene_kinds.specs.Answers.{refusal_of};
 ghost use Rattle.scene_kinds.specs.declared.fault.Fault.TheVariants.{NoMemory};
 ghost use Rattle.scene_schedule.specs.Schedule.{schedule_fault};
@@ -16,15 +16,19 @@ use std::marker::Model;
 pub(crate) struct Phases {
     alloc: Global,
     list: Vec<Phase>,
+    /// The schedule that they made last, so that it is checked once for all advances until they change.
+    made: Option<Schedule>,
 }
 
 impl Model for Phases {
-    ghost use Rattle.std.specs.Prelude.{List};
+    ghost use Rattle.std.specs.Prelude.{◌≡◌, List, IfSome};
     ghost use Rattle.scene_systems.specs.declared.system_rule.SystemRule.{SystemRule as Data};
 
     ghost Value = { List (List Data) };
 
     ghost view = { λ p. p.list.items };
+
+    ghost invariant = { λ p. IfSome p.made (λ s. s.phases ≡ p.list.items) };
 }
 
 impl Phases {
@@ -35,6 +39,7 @@ impl Phases {
         Phases {
             alloc,
             list: Vec::new(alloc),
+            made: None,
         }
     }
 
@@ -43,6 +48,7 @@ impl Phases {
         ensures added { OnOk result (self.new ≡ with_phase self.old) }
         ensures same { OnErr result (self.new ≡ self.old) }
     {
+        self.made = None;
         self.list.push(Phase::new(self.alloc))?;
         Ok(())
     }
@@ -53,6 +59,7 @@ impl Phases {
         ensures added { OnOk result (self.new ≡ (rule ∷ []) ∷ []) }
         ensures same { OnErr result (self.new ≡ self.old) }
     {
+        self.made = None;
         let mut phase = Phase::new(self.alloc);
         phase.push(rule)?;
         self.list.push(phase)?;
@@ -66,6 +73,7 @@ impl Phases {
         ensures added { OnOk result (self.new ≡ with_system self.old rule) }
         ensures same { OnErr result (self.new ≡ self.old) }
     {
+        self.made = None;
         match self.list.pop() {
             None => self.add_first(rule),
             Some(phase) => {
@@ -81,6 +89,7 @@ impl Phases {
     pub(crate) fn clear(&mut self)
         ensures { self.new ≡ [] }
     {
+        self.made = None;
         self.list = Vec::new(self.alloc);
     }
 
@@ -91,16 +100,36 @@ impl Phases {
         self.list.as_slice()
     }
 
-    /// The schedule that the phases make for worlds with this schema. The phases stay.
+    /// The schedule that the phases made last, where that is for worlds with this schema.
+    fn made_for(&self, schema: &Schema) -> Option<Schedule>
+        ensures answer { IfSome result (λ s. s ≡ record { schema = schema.now; phases = self.now }) }
+        ensures sound { OnSome result (schedule_fault schema.now self.now ≡ None) }
+    {
+        let made = self.made.as_ref()?;
+        if made.is_for(schema) {
+            made.try_clone().ok()
+        } else {
+            None
+        }
+    }
+
+    /// The schedule that the phases make for worlds with this schema. The phases stay. It costs the steps of all systems
+    /// at the first time after a change, and for each phase the square of its number of steps, and else the kinds.
     ///
     /// Refused: `BadRule`, `Conflict` and `NoMemory`, as a schedule is.
-    pub(crate) fn schedule(&self, schema: &Schema) -> Result<Schedule, Refusal>
-        ensures answer { IfOk result (λ s. s ≡ record { schema = schema.now; phases = self.now }) }
-        ensures sound { OnOk result (schedule_fault schema.now self.now ≡ None) }
+    pub(crate) fn schedule(&mut self, schema: &Schema) -> Result<Schedule, Refusal>
+        ensures answer { IfOk result (λ s. s ≡ record { schema = schema.now; phases = self.old }) }
+        ensures sound { OnOk result (schedule_fault schema.now self.old ≡ None) }
         ensures refused { IfErr result (λ r. r ≢ refusal_of NoMemory
-            → (schedule_fault schema.now self.now ≡ Some r.fault) × (r ≡ refusal_of r.fault)) }
+            → (schedule_fault schema.now self.old ≡ Some r.fault) × (r ≡ refusal_of r.fault)) }
+        ensures same { self.new ≡ self.old }
     {
+        if let Some(made) = self.made_for(schema) {
+            return Ok(made);
+        }
         let phases = clone_phases(self.alloc, self.list.as_slice())?;
-        Schedule::new(self.alloc, schema, phases)
+        let schedule = Schedule::new(self.alloc, schema, phases)?;
+        self.made = schedule.try_clone().ok();
+        Ok(schedule)
     }
 }

@@ -10,6 +10,23 @@ use scene_kinds::{Fault, Refusal, Schema};
 use scene_systems::Phase;
 use std::alloc::{AllocError, Global};
 use std::marker::Model;
+use std::sync::Arc;
+
+/// The kinds of a schema, and phases.
+#[derive(Debug)]
+struct Plan {
+    schema: Schema,
+    phases: Vec<Phase>,
+}
+
+impl Drop for Plan {
+    fn drop(self) {
+        let Plan {
+            schema: _,
+            phases: _,
+        } = self;
+    }
+}
 
 /// A list of phases that was checked for the kinds of a schema (docs/MODEL.md, "The rule of schedules"): each system is
 /// one that a schedule may have, and no two systems of a phase are in each other's way.
@@ -17,19 +34,13 @@ use std::marker::Model;
 /// Contracts see the kinds and the phases.
 #[derive(Debug)]
 pub struct Schedule {
-    alloc: Global,
-    /// In a box, since a call that advances is kept in a history beside calls that need less room.
-    schema: Box<Schema>,
-    phases: Vec<Phase>,
+    /// Shared by all its clones: who advances over and over gives an equal schedule each time.
+    plan: Arc<Plan>,
 }
 
 impl Drop for Schedule {
     fn drop(self) {
-        let Schedule {
-            alloc: _,
-            schema: _,
-            phases: _,
-        } = self;
+        let Schedule { plan: _ } = self;
     }
 }
 
@@ -38,9 +49,9 @@ impl Model for Schedule {
 
     ghost Value = { ScheduleState };
 
-    ghost view = { λ s. record { schema = s.schema.value; phases = s.phases.items } };
+    ghost view = { λ s. record { schema = s.plan.value.schema; phases = s.plan.value.phases.items } };
 
-    ghost invariant = { λ s. IsSchedule (record { schema = s.schema.value; phases = s.phases.items }) };
+    ghost invariant = { λ s. IsSchedule (record { schema = s.plan.value.schema; phases = s.plan.value.phases.items }) };
 }
 
 /// Whether a kind has the same name and shape in both schemas, or is in neither.
@@ -103,11 +114,11 @@ impl Schedule {
     {
         match schedule_fault(schema, phases.as_slice()) {
             Some(fault) => Err(Refusal::from(fault)),
-            None => Ok(Schedule {
-                alloc,
-                schema: Box::new(alloc, schema.try_clone()?)?,
-                phases,
-            }),
+            None => {
+                let schema = schema.try_clone()?;
+                let plan = Arc::new(alloc, Plan { schema, phases })?;
+                Ok(Schedule { plan })
+            }
         }
     }
 
@@ -115,7 +126,7 @@ impl Schedule {
     pub fn is_for(&self, schema: &Schema) -> bool
         ensures { IsTrue result ↔ (self.now.schema ≡ schema.now) }
     {
-        same_schema(&*self.schema, schema)
+        same_schema(&self.plan.schema, schema)
     }
 
     /// The phases, first to last, and what always holds of them.
@@ -123,24 +134,23 @@ impl Schedule {
         ensures list { result.now ≡ self.now.phases }
         ensures sound { IsSchedule self.now }
     {
-        self.phases.as_slice()
+        self.plan.phases.as_slice()
     }
 
     /// The schema that the schedule was made for.
     pub fn schema(&self) -> &Schema
         ensures { result.now ≡ self.now.schema }
     {
-        &*self.schema
+        &self.plan.schema
     }
 
-    /// An equal schedule, or an error where no memory was found.
+    /// An equal schedule, which shares the memory of this one, or an error where too many share it. It costs the same
+    /// for any schedule.
     pub fn try_clone(&self) -> Result<Schedule, AllocError>
         ensures { IfOk result (λ copy. copy ≡ self.now) }
     {
         Ok(Schedule {
-            alloc: self.alloc,
-            schema: Box::new(self.alloc, self.schema.try_clone()?)?,
-            phases: clone_phases(self.alloc, self.phases.as_slice())?,
+            plan: Arc::try_clone(&self.plan)?,
         })
     }
 }
