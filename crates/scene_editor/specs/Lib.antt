@@ -34,3 +34,8 @@ pub use Rattle.scene_session.specs.declared.call.Call
 pub use Rattle.scene_session.specs.declared.call.Reply
 pub use Rattle.scene_session.specs.declared.call.Stopped
 pub use Rattle.scene_session.specs.declared.entry.Entry
+-- what lists of changes rely on: worlds that go on from others
+pub mod GoesOn
+pub mod Laws
+pub mod Order
+pub mod Since

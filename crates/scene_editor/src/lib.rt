@@ -1,7 +1,8 @@
 //! The one door for tools: an editor, what it takes, what it gives, and why it refuses.
 //!
-//! A tool lists this crate alone, and names nothing below it. The crate has no code: a type comes with its methods and
-//! their contracts, and `specs/` passes on the definitions that a tool's own clauses may lean on (docs/LIBRARY.md).
+//! A tool lists this crate alone, and names nothing below it. The crate has no code but for functions whose contracts
+//! say laws: a type comes with its methods and their contracts, and `specs/` passes on the definitions that a tool's own
+//! clauses may lean on (docs/LIBRARY.md).
 //!
 //! A tool makes a `Schema` of its kinds and an `Editor` of a `World`; or it loads the world. A change is a `Queue` of
 //! `Command`s, in which a `Target` is an entity or the k-th that the queue spawns; `Editor::submit` does queues as one
@@ -14,7 +15,18 @@
 //!
 //! Where several threads work on one scene, each has a `Session` through a `Pass` of a `WordLock` over a `State`, which
 //! is an editor with its history (docs/SESSIONS.md).
+//!
+//! The laws are what lists of changes rely on. `GoesOn` in `specs/GoesOn.antt` says of two worlds that each cell of the
+//! later one was changed after the tick of the earlier one, or the earlier one holds an equal cell: so it is after an
+//! accepted frame (`frames_go_on`), and after calls of the machine of saved worlds unless one of them is an undo, which
+//! the count of rewinds tells (`machines_go_on`). So the answers to `ChangedSince` and `AddedSince` tell the world of
+//! then and that of now apart, for each moment at which the cursor could have been taken:
+//! `lists_tell_two_worlds_apart`, of states like that of `new_state`.
 #![tactic(auto)]
+
+mod laws;
+mod opening;
+mod since_cursor;
 
 // Editors: frames, undo and redo.
 pub use scene_undo::{Cursor, Editor, MOST_FRAMES, Made};
@@ -37,8 +49,6 @@ pub use scene_kinds::{
 pub use scene_pass::{CellName, Filter, added_since, changed_since, matching};
 pub use scene_world::World;
 
-// Why a call was refused.
-
 // Scene texts: loading and saving, of a world, and of an editor with all that it can undo and redo.
 pub use scene_file::{
     FileFault, load, load_editor, load_editor_text, load_text, save, save_editor, save_editor_text,
@@ -52,3 +62,8 @@ pub use scene_session::{
     AddedSince, Call, ChangedSince, CursorNow, EditorQuery, Entry, Query, Reply, RowsOf, Session,
     State, Stopped,
 };
+
+// What lists of changes rely on.
+pub use laws::{frames_go_on, machines_go_on};
+pub use opening::new_state;
+pub use since_cursor::lists_tell_two_worlds_apart;

@@ -12,9 +12,9 @@ use Rattle.scene_systems.specs.declared.system_rule.SystemRule.{SystemRule}
 use Rattle.scene_pass.specs.Changes.{first_fault}
 use Rattle.scene_schedule.specs.Schedule.{ScheduleState, same_kinds}
 use Rattle.scene_schedule.specs.Systems.{changes_of, writes_of, queued_by, unless_over, system, systems_from, phase, in_phase, phases_from, if_for, advance_of}
-use Rattle.scene_change_laws.specs.GoesOn.{IsOnTheWay, StaysOnTheWay}
-use Rattle.scene_change_laws.proofs.CommandsOnTheWay.{command_stays}
-use Rattle.scene_change_laws.proofs.Leaves.{Leaves, refused_leaves, given_leaves, then_leaves, queue_leaves, queues_leave}
+use Rattle.scene_editor.specs.GoesOn.{IsOnTheWay, StaysOnTheWay}
+use Rattle.scene_editor.proofs.CommandsOnTheWay.{command_stays}
+use Rattle.scene_editor.proofs.Leaves.{Leaves, refused_leaves, given_leaves, then_leaves, queue_leaves, queues_leave}
 
 module _ (P : World → Type 0) where
   over_leaves : {A : Type 0} (at : ℕ) (f : Option (Entity × ℕ)) (o : Outcome A World) → Leaves P o → Leaves P (unless_over at f o)

@@ -7,11 +7,11 @@ use Rattle.scene_model.specs.Commands.{raise_tick}
 use Rattle.scene_model.specs.Perform.{perform}
 use Rattle.scene_machine.specs.Queue.{Request}
 use Rattle.scene_machine.specs.Frame.{queues_from, framed}
-use Rattle.scene_change_laws.specs.GoesOn.{GoesOn, HasSoundRows, IsOnTheWay, StaysOnTheWay}
-use Rattle.scene_change_laws.specs.Laws.{FramesGoOn}
-use Rattle.scene_change_laws.proofs.CellsFrom.{raised_starts, way_ends}
-use Rattle.scene_change_laws.proofs.CommandsOnTheWay.{command_stays}
-use Rattle.scene_change_laws.proofs.Leaves.{then_leaves, queues_leave}
+use Rattle.scene_editor.specs.GoesOn.{GoesOn, HasSoundRows, IsOnTheWay, StaysOnTheWay}
+use Rattle.scene_editor.specs.Laws.{FramesGoOn}
+use Rattle.scene_editor.proofs.CellsFrom.{raised_starts, way_ends}
+use Rattle.scene_editor.proofs.CommandsOnTheWay.{command_stays}
+use Rattle.scene_editor.proofs.Leaves.{then_leaves, queues_leave}
 
 -- the queues of a frame
 queues_stay : (queues : List (List Request)) → StaysOnTheWay (queues_from perform 0 queues)

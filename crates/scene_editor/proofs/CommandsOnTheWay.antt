@@ -25,9 +25,9 @@ use Rattle.scene_model.proofs.NewCells.{insert_tests}
 use Rattle.scene_model.proofs.Outcomes.{no_fault, not_ok, same_world, with_row_of}
 use Rattle.scene_model.proofs.Parts.{asked, allowed, lifted_part, done_part}
 use Rattle.scene_model.proofs.SpawnKeeps.{with_spawned, spawned_valid}
-use Rattle.scene_change_laws.specs.GoesOn.{bare, IsRowFrom, IsOnTheWay}
-use Rattle.scene_change_laws.proofs.Leaves.{Leaves, given_leaves, then_leaves}
-use Rattle.scene_change_laws.proofs.RowsFrom.{without_from, new_cells_from, moved_rows, inserted_rows}
+use Rattle.scene_editor.specs.GoesOn.{bare, IsRowFrom, IsOnTheWay}
+use Rattle.scene_editor.proofs.Leaves.{Leaves, given_leaves, then_leaves}
+use Rattle.scene_editor.proofs.RowsFrom.{without_from, new_cells_from, moved_rows, inserted_rows}
 
 module _ (before : World) where
   -- ---- rows that come and go

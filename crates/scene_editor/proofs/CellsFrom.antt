@@ -22,7 +22,7 @@ use Rattle.scene_model.proofs.MoveKeeps.{raised_valid}
 use Rattle.scene_model.proofs.Outcomes.{not_ok, same_world}
 use Rattle.scene_model.proofs.RowKinds.{fits_known}
 use Rattle.scene_model.proofs.RowOf.{row_there, row_stands}
-use Rattle.scene_change_laws.specs.GoesOn.{HasAdded, IsFrom, GoesOn, bare, HasSoundRows, IsRowFrom, IsOnTheWay}
+use Rattle.scene_editor.specs.GoesOn.{HasAdded, IsFrom, GoesOn, bare, HasSoundRows, IsRowFrom, IsOnTheWay}
 
 -- ---- the cells that are read of a world
 

@@ -3,7 +3,7 @@ use Rattle.std.specs.Prelude.{◌≡◌, ◌≤◌, List, [], ◌∷◌, ⊤}
 use Rattle.scene_model.specs.World.{World}
 use Rattle.scene_machine.specs.Machine.{Machine}
 use Rattle.scene_machine.specs.Frame.{Call, Submit, Advance, Undo, Redo}
-use Rattle.scene_change_laws.specs.GoesOn.{GoesOn, HasSoundRows, StaysOnTheWay}
+use Rattle.scene_editor.specs.GoesOn.{GoesOn, HasSoundRows, StaysOnTheWay}
 
 -- a world goes on from the first of these, that one from the second, and so on
 abbrev pub GoesBack : World → List World → Type 0

@@ -11,7 +11,7 @@ ghost use Rattle.scene_undo.specs.declared.cursor.Cursor.{Cursor};
 ghost use Rattle.scene_session.specs.declared.entry.Entry.{Entry};
 ghost use Rattle.scene_session.specs.State.{StateView};
 ghost use Rattle.scene_session.specs.Queries.{ListsSince, machine_at};
-ghost use Rattle.scene_change_laws.specs.Since.{IsNew, IsMoment, world_now, world_after, HasNoneAdded};
+ghost use Rattle.scene_editor.specs.Since.{IsNew, IsMoment, world_now, world_after, HasNoneAdded};
 
 /// A law: where a state answers a list since a cursor, and `before` is any beginning of its history whose machine has
 /// the cursor's count of undos and its tick, the list tells the world of then and that of now apart (docs/SESSIONS.md,

@@ -2,7 +2,7 @@
 ghost use Rattle.std.specs.Prelude.{◌≡◌, ◌≤◌, []};
 ghost use Rattle.scene_machine.specs.Machine.{most_frames};
 ghost use Rattle.scene_undo.specs.Editor.{new_editor};
-ghost use Rattle.scene_change_laws.specs.Since.{IsNew};
+ghost use Rattle.scene_editor.specs.Since.{IsNew};
 
 use scene_session::State;
 use scene_undo::Editor;

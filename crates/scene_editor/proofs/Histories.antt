@@ -7,9 +7,9 @@ use Rattle.scene_model.specs.World.{World}
 use Rattle.scene_model.specs.Valid.{IsValid}
 use Rattle.scene_machine.specs.Machine.{Machine}
 use Rattle.scene_machine.specs.Frame.{Call, call, replied, after_calls}
-use Rattle.scene_change_laws.specs.GoesOn.{HasSoundRows}
-use Rattle.scene_change_laws.specs.Order.{GoesBack, GoesForth, IsInOrder, ComesAfter, IsPlain, ArePlain}
-use Rattle.scene_change_laws.proofs.MachinesGoOn.{machines_go_on}
+use Rattle.scene_editor.specs.GoesOn.{HasSoundRows}
+use Rattle.scene_editor.specs.Order.{GoesBack, GoesForth, IsInOrder, ComesAfter, IsPlain, ArePlain}
+use Rattle.scene_editor.proofs.MachinesGoOn.{machines_go_on}
 use Rattle.scene_journal.specs.Records.{redone, undone}
 use Rattle.scene_undo.specs.Editor.{EditorState, worlds_along, machine_of}
 use Rattle.scene_session.specs.declared.entry.Entry.{Entry}
@@ -18,8 +18,8 @@ use Rattle.scene_session.specs.History.{replay}
 use Rattle.scene_session.specs.Whole.{Whole, whole_of, accepted_whole, stepped, next}
 use Rattle.scene_session.specs.State.{StateView, replayed}
 use Rattle.scene_session.specs.Queries.{machine_at}
-use Rattle.scene_change_laws.specs.Since.{IsNew, machine_after}
-use Rattle.scene_change_laws.proofs.Advances.{advance_stays}
+use Rattle.scene_editor.specs.Since.{IsNew, machine_after}
+use Rattle.scene_editor.proofs.Advances.{advance_stays}
 
 -- ---- entries as calls of the machine
 

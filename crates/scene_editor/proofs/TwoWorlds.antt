@@ -12,8 +12,8 @@ use Rattle.scene_kinds.specs.declared.refusal.Refusal.{Refusal}
 use Rattle.scene_kinds.specs.Answers.{refusal_of}
 use Rattle.scene_model.specs.World.{World, component_of}
 use Rattle.scene_machine.specs.Machine.{Machine}
-use Rattle.scene_change_laws.specs.GoesOn.{GoesOn, HasSoundRows, bare}
-use Rattle.scene_change_laws.proofs.CellsFrom.{held_timely}
+use Rattle.scene_editor.specs.GoesOn.{GoesOn, HasSoundRows, bare}
+use Rattle.scene_editor.proofs.CellsFrom.{held_timely}
 use Rattle.scene_systems.specs.declared.filter.Filter.{Filter}
 use Rattle.scene_pass.specs.declared.cell_name.CellName.{CellName}
 use Rattle.scene_pass.specs.Listed.{IsCellWhere}
@@ -24,8 +24,8 @@ use Rattle.scene_undo.specs.Cursor.{since}
 use Rattle.scene_session.specs.declared.entry.Entry.{Entry}
 use Rattle.scene_session.specs.State.{StateView}
 use Rattle.scene_session.specs.Queries.{machine_at, ListsAfter, ListsSince}
-use Rattle.scene_change_laws.specs.Since.{IsNew, IsMoment, machine_after, world_after, world_now, HasNoneAdded}
-use Rattle.scene_change_laws.proofs.Histories.{then_and_now}
+use Rattle.scene_editor.specs.Since.{IsNew, IsMoment, machine_after, world_after, world_now, HasNoneAdded}
+use Rattle.scene_editor.proofs.Histories.{then_and_now}
 
 -- ---- the answer
 

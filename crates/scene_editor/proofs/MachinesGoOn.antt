@@ -7,11 +7,11 @@ use Rattle.scene_kinds.specs.Answers.{Outcome, refuse}
 use Rattle.scene_model.specs.World.{World}
 use Rattle.scene_machine.specs.Machine.{Machine, accepted, submitted, undone_to, redone_to}
 use Rattle.scene_machine.specs.Frame.{Call, Submit, Advance, Undo, Redo, frame, framed, spawning_none, replied, step, after_calls}
-use Rattle.scene_change_laws.specs.GoesOn.{GoesOn, HasSoundRows}
-use Rattle.scene_change_laws.specs.Order.{GoesBack, GoesForth, IsInOrder, ComesAfter, IsPlain}
-use Rattle.scene_change_laws.specs.Laws.{MachinesGoOn}
-use Rattle.scene_change_laws.proofs.CellsFrom.{goes_on_itself, goes_on_then}
-use Rattle.scene_change_laws.proofs.FramesGoOn.{frames_go_on, framed_goes_on}
+use Rattle.scene_editor.specs.GoesOn.{GoesOn, HasSoundRows}
+use Rattle.scene_editor.specs.Order.{GoesBack, GoesForth, IsInOrder, ComesAfter, IsPlain}
+use Rattle.scene_editor.specs.Laws.{MachinesGoOn}
+use Rattle.scene_editor.proofs.CellsFrom.{goes_on_itself, goes_on_then}
+use Rattle.scene_editor.proofs.FramesGoOn.{frames_go_on, framed_goes_on}
 
 -- ---- machines after one another
 

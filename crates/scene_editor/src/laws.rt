@@ -1,5 +1,5 @@
 //! The laws of changes, of frames and of machines.
-ghost use Rattle.scene_change_laws.specs.Laws.{FramesGoOn, MachinesGoOn};
+ghost use Rattle.scene_editor.specs.Laws.{FramesGoOn, MachinesGoOn};
 
 /// A law of frames: the world after an accepted one goes on from the world before it. Each of its cells was changed, or
 /// added, after the tick of that world, or was there.

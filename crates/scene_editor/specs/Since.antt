@@ -4,7 +4,7 @@ use Rattle.scene_kinds.specs.declared.entity.Entity.{Entity}
 use Rattle.scene_model.specs.World.{World}
 use Rattle.scene_model.specs.Valid.{IsValid}
 use Rattle.scene_machine.specs.Machine.{Machine}
-use Rattle.scene_change_laws.specs.GoesOn.{HasAdded}
+use Rattle.scene_editor.specs.GoesOn.{HasAdded}
 use Rattle.scene_undo.specs.declared.cursor.Cursor.{Cursor}
 use Rattle.scene_undo.specs.Cursor.{cursor_of}
 use Rattle.scene_undo.specs.Editor.{EditorState}

@@ -16,7 +16,7 @@ use Rattle.scene_table.specs.Tables.{Tables, row_at, without_row, EachRow}
 use Rattle.scene_table.proofs.Standing.{each_added, each_removed, each_rewritten}
 use Rattle.scene_model.specs.World.{World}
 use Rattle.scene_model.specs.Commands.{new_cells, after_move, after_insert}
-use Rattle.scene_change_laws.specs.GoesOn.{IsFrom, AreFrom, IsRowFrom}
+use Rattle.scene_editor.specs.GoesOn.{IsFrom, AreFrom, IsRowFrom}
 
 not_both : (a b : ℕ) → a < b → b ≤ a → ⊥
 not_both a b l m = omega (arith, l, m)

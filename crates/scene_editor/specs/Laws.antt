@@ -5,8 +5,8 @@ use Rattle.scene_model.specs.World.{World}
 use Rattle.scene_machine.specs.Machine.{Machine}
 use Rattle.scene_machine.specs.Queue.{Request}
 use Rattle.scene_machine.specs.Frame.{Call, frame, after_calls}
-use Rattle.scene_change_laws.specs.GoesOn.{GoesOn, HasSoundRows}
-use Rattle.scene_change_laws.specs.Order.{IsInOrder, ComesAfter, ArePlain}
+use Rattle.scene_editor.specs.GoesOn.{GoesOn, HasSoundRows}
+use Rattle.scene_editor.specs.Order.{IsInOrder, ComesAfter, ArePlain}
 
 -- an accepted frame of queues
 abbrev pub FramesGoOn : Type 0

@@ -1,9 +1,0 @@
-pub mod Advances
-pub mod CellsFrom
-pub mod CommandsOnTheWay
-pub mod FramesGoOn
-pub mod Histories
-pub mod Leaves
-pub mod MachinesGoOn
-pub mod RowsFrom
-pub mod TwoWorlds

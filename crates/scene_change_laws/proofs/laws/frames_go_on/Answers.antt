@@ -1,5 +1,0 @@
-use Rattle.scene_change_laws.proofs.FramesGoOn.{frames_go_on}
-use Rattle.scene_change_laws.proofs.laws.frames_go_on.Goals as goal
-
-pub returns : goal.returns
-returns c = frames_go_on

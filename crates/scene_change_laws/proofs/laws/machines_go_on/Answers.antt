@@ -1,5 +1,0 @@
-use Rattle.scene_change_laws.proofs.MachinesGoOn.{machines_go_on}
-use Rattle.scene_change_laws.proofs.laws.machines_go_on.Goals as goal
-
-pub returns : goal.returns
-returns c = machines_go_on

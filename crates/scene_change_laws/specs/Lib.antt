@@ -1,4 +1,0 @@
-pub mod GoesOn
-pub mod Laws
-pub mod Order
-pub mod Since
