@@ -1,15 +1,17 @@
 //! Sessions over a state, alone and on threads, and their lock: what contracts can't say.
 //!
 //! `frames` has what sessions submit; `threads` has sessions that work at once, each on a thread of its own; `inside`
-//! has queries and changes that wait within the lock. For tests alone, `scenes` has small states and schedules,
-//! `replays` reads a history, and performs it again, and `workers` sees the threads of an advance.
+//! has queries and changes that wait within the lock. `scenes` has small states and schedules, `replays` reads a history,
+//! and performs it again, and `workers` sees the threads of an advance.
 //!
 //! Below sessions: row steps over parted tables (`row_tests`), which schemas a schedule is for (`schedule_tests`), and
 //! that phases on several threads make what they make on one (`thread_tests`). They stand here so that the crates which
 //! they try aren't proved a second time for their tests.
 #![tactic(auto)]
 
+#[cfg(test)]
 mod frames;
+#[cfg(test)]
 mod inside;
 #[cfg(test)]
 mod lock_tests;
@@ -25,10 +27,7 @@ mod schedule_tests;
 mod tests;
 #[cfg(test)]
 mod thread_tests;
+#[cfg(test)]
 mod threads;
 #[cfg(test)]
 mod workers;
-
-pub use frames::{ALL, counting_schedule, number_of, spawning};
-pub use inside::{Meeting, Stay, ask_together, try_beside};
-pub use threads::{Work, meet_in_turn, submit_one, work_at_once, work_through};

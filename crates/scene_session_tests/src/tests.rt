@@ -3,11 +3,13 @@ ghost use Rattle.std.specs.Prelude.{◌≡◌, ◌<◌, ◌≤◌, All, vec_len}
 ghost use Rattle.scene_lock.specs.Pass.{IsPassOf};
 ghost use Rattle.scene_session.specs.Session.{IsSame};
 
-use super::*;
+use crate::frames::{ALL, counting_schedule, spawning};
+use crate::inside::{Meeting, Stay, ask_together, try_beside};
 use crate::replays::{frames_in_order, play_again, shown};
 use crate::scenes::{
     crowded_editor, empty_editor, empty_schedule, empty_state, schedule_of_other_kinds, two_systems,
 };
+use crate::threads::{Work, meet_in_turn, submit_one, work_at_once};
 use crate::workers::{TwoWorkers, advance_past};
 use scene_commands::Command;
 use scene_kinds::{Entity, Fault, Refusal, Row, Value};
