@@ -1,8 +1,8 @@
 //! The one door for tools: an editor, what it takes, what it gives, and why it refuses.
 //!
-//! A tool lists this crate alone, and names nothing below it. The crate has no code but for functions whose contracts
-//! say laws: a type comes with its methods and their contracts, and `specs/` passes on the definitions that a tool's own
-//! clauses may lean on (docs/LIBRARY.md).
+//! A tool lists this crate alone, and names nothing below it. The crate has no code but `new_state`, beside functions
+//! whose contracts say laws: a type comes with its methods and their contracts, and `specs/` passes on the definitions
+//! that a tool's own clauses may lean on (docs/LIBRARY.md).
 //!
 //! A tool makes a `Schema` of its kinds and an `Editor` of a `World`; or it loads the world. A change is a `Queue` of
 //! `Command`s, in which a `Target` is an entity or the k-th that the queue spawns; `Editor::submit` does queues as one
