@@ -1,12 +1,18 @@
 """The toolchain's `rt`, from within, for tools/build and tools/wrong_bodies.
 
-    toolchain_rt.py VERB WORDS..      what `rt VERB WORDS..` does, with each crate's sum made once
+    toolchain_rt.py VERB WORDS..          what `rt VERB WORDS..` does, with each crate's sum made once
+    toolchain_rt.py statements WORDS..    what `rt lib WORDS..` does, but that the library has its statements alone
 
 `rt` knows a library by a sum of its crate's sources and of the sums of those below it, and makes each anew for every
 way that leads down to it: below the program there are some hundred thousand, minutes of one processor while the others
 wait. Where these work no source changes meanwhile, so a sum holds once it is made. The merge gate is plain `rt`.
+
+A library of statements is what `rt ci` makes: what is proved above it reads none of its proofs. It is proved by copies
+of one process, which share what that has read, and keeps nothing. Where a crate has kept work, of an `rt check`, `rt
+lib` is quicker, and is what is done.
 """
 import os
+import shutil
 import subprocess
 import sys
 from functools import cache
@@ -29,12 +35,35 @@ def loaded():
     return module
 
 
+def make_statements(rtlib):
+    """Has `rt lib` make a library of statements where nothing is kept of its crate."""
+    makes_whole = rtlib.Crate.build_rlib
+
+    def build_rlib(crate, flags, anew):
+        if anew or crate.is_built() or crate.has_kept():
+            return makes_whole(crate, flags, anew)
+        total, room = crate.stamp(), Path(crate.rlib).parent
+        shutil.rmtree(room, ignore_errors=True)
+        room.mkdir(parents=True)
+        words = crate.words(flags, keeps=False)
+        status = crate.call(rtlib.RATTLE, "build", *words, "--statements", "-o", crate.rlib)
+        if status == 0:
+            (room / "stamp").write_text(total)
+        return status
+
+    rtlib.Crate.build_rlib = build_rlib
+
+
 def main():
+    verb, *words = sys.argv[1:]
+    plain = "lib" if verb == "statements" else verb
     try:
         module = loaded()
+        if plain != verb:
+            make_statements(module.rtlib)
     except (Exception, SystemExit):
-        os.execvp("rt", ["rt", *sys.argv[1:]])
-    sys.exit(module.main(sys.argv[1:]))
+        os.execvp("rt", ["rt", plain, *words])
+    sys.exit(module.main([plain, *words]))
 
 
 if __name__ == "__main__":
