@@ -4,9 +4,10 @@
 #   bench/systems.sh [MOST [PROGRAM]]     at the top of the repository; worlds of 1,000 rows and more, up to MOST, 1000000 if none
 #                                         is given; by ./scene's program if none is given
 #
-# A row has four numbers, and each of four systems adds to one of them, so no two are in each other's way. For each size and
-# number of workers it prints the milliseconds of an advance, less those of the same script without advances, and how often they
-# take those of one worker. Each is the least of five runs. It needs python3.
+# A row has four numbers, and each of four systems adds to one of them. A column of 131,072 numbers and more is parted
+# among the workers; the calling thread alone writes others, so up to 100,000 rows further workers make no difference.
+# For each size and number of workers it prints the milliseconds of an advance, less those of the same script without
+# advances, and how often they take those of one worker. Each is the least of five runs. It needs python3.
 set -euo pipefail
 cd "$(dirname "$0")/.."
 program=${2:-crates/scene/out/scene}
@@ -42,7 +43,7 @@ print(f"{'rows':>9}{'workers':>9}{'clock':>11}{'factor':>8}{'processor':>11}{'fa
 for rows in (1000, 10000, 100000, 1000000):
     if rows > most:
         break
-    advances = max(4, 200000 // rows)
+    advances = max(40, 200000 // rows)
     with_them, without = script(rows, advances), script(rows, 0)
     alone = None
     for workers in (1, 2, 4, 8, 16):

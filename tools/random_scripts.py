@@ -10,7 +10,7 @@ NAMES = [*"ABCDEFGH", "Health", "a", "n_0", "N" * 32]
 BAD_NAMES = ["9", "_a", "a-b", "N" * 33, "é", "a.b", "A=1", "#a", '"']
 SHAPES = ["Tag", "Int", "Int", "Vec3", "Text", "Link"]
 MOST_NARROW = 200  # slots of a script whose systems spawn, so that it stays small
-WIDE = 16384  # slots from which on workers share an advance
+WIDE = 131072  # rows of a table from which on threads share its columns
 FAULTY = [
     "show x", "undo 1", "kind", "kind A", "kind A Int x", "begin x", "queue", "commit", "spawn Nothing", "get +0", "get", "as 8",
     "as -1", "as 01", "as", "slots 0", "slots 5", "calls 0", "calls 9", "depth 1", "depth 1048577", "load", "load {}", "frobnicate",
@@ -321,20 +321,25 @@ def with_bytes_changed(chance, line):
 
 
 def wide_script(chance):
-    """A script of so many entities that several threads work on its advances."""
-    count = WIDE + chance.randrange(40)
-    lines = [b"kind A Int", b"kind B Int", b"kind P Vec3", b"kind V Vec3", b"begin"]
-    sorts = ["spawn A={0}", "spawn A={0} B=1", "spawn P=1,{0},3 V=1,-1,0", "spawn B={0} V=0,0,1", "spawn"]
-    lines += [chance.choice(sorts).format(chance.randint(-9, 9)).encode() for _ in range(count)]
+    """A script with a table of so many rows that several threads write its columns, and with others beside."""
+    wide = chance.choice(["spawn A={0}", "spawn P=1,{0},3 V=1,-1,0", "spawn A={0} P=1,{0},3 V=1,-1,0"])
+    few = ["spawn A={0} B=1", "spawn B={0} V=0,0,1", "spawn P=0,0,{0} V=2,{0},0 B=9", "spawn"]
+    sorts = [wide] * (WIDE + chance.randrange(20000)) + chance.choices(few, k=1000)
+    chance.shuffle(sorts)
+    values = [chance.randint(-9, 9) for _ in sorts]
     if chance.randrange(4) == 0:
-        lines[4 + chance.randrange(count)] = f"spawn A={2**63 - 1 - chance.randrange(3)}".encode()
+        values[chance.randrange(len(values))] = 2**63 - 1 - chance.randrange(3)
+    lines = [b"kind A Int", b"kind B Int", b"kind P Vec3", b"kind V Vec3", b"begin"]
+    lines += [sort.format(value).encode() for sort, value in zip(sorts, values)]
     lines += [b"parent %dv1 %dv1" % (child, child - chance.randint(1, 50)) for child in range(51, 400)] + [b"commit"]
-    systems = [b"a need=A addint:A:%d zero:A count:as" % chance.randint(-2, 2), b"b need=B addint:B:-1 zero:B"]
-    systems += [b"c need=P,V addvec:P:V", b"d without=A count:none", b"e need=V without=P child:B=1"]
+    adding = b"a need=A addint:A:%d%s count:as" % (chance.randint(-2, 2), chance.choice([b"", b" zero:A"]))
+    others = [b"b need=B addint:B:-1 zero:B", b"d without=A count:none", b"e need=V without=P child:B=1"]
+    systems = [adding, b"c need=P,V addvec:P:V", *chance.sample(others, chance.randint(0, 3))]
     chance.shuffle(systems)
-    lines += [b"system " + system for system in systems[: chance.randint(2, 5)]]
-    lines += [chance.choice([b"advance", b"advance", b"undo", b"redo"]) for _ in range(chance.randint(2, 6))]
-    return lines + [b"show"]
+    lines += [b"system " + system for system in systems]
+    turns = [b"advance"] * 3 + [b"undo", b"redo"]
+    turns += [line % chance.randrange(len(sorts)) for line in (b"insert %dv1 A=7", b"despawnifalive %dv1")]
+    return lines + [b"advance"] * chance.randint(2, 3) + chance.choices(turns, k=chance.randint(2, 6)) + [b"show"]
 
 
 def mutated(chance, examples):

@@ -9,7 +9,11 @@
  * number of its request and the file whose code made it.
  *
  * Where REFUSE_CASE is a number, calls count only from a write of the line `case NUMBER ..` to standard output until one
- * of `called NUMBER`: so prints the program of tools/refusals, whose calls of the library these lines enclose. */
+ * of `called NUMBER`: so prints the program of tools/refusals, whose calls of the library these lines enclose.
+ *
+ * Where REFUSE_STAND is a number, the run stands at its request for memory of that number, at which it has one thread.
+ * For each REFUSE that it reads from descriptor ASKED it forks a process, which goes on by it, and writes to descriptor
+ * ENDED how that ended, as waitpid has it. */
 #define _GNU_SOURCE
 #include <dlfcn.h>
 #include <errno.h>
@@ -22,11 +26,15 @@
 #include <string.h>
 #include <sys/syscall.h>
 #include <sys/uio.h>
+#include <sys/wait.h>
 #include <unistd.h>
 
 /* A run that takes so many seconds hangs, and is ended by SIGALRM. */
 #define MOST_SECONDS 60
 #define BUCKETS 16384
+/* As in tools/refuse. */
+#define ASKED 100
+#define ENDED 101
 
 /* The C library's own, which nothing replaces. */
 extern void *__libc_malloc(size_t);
@@ -66,9 +74,46 @@ static int refused_error;
 static unsigned long first, last;
 static int counts;
 static const char *wanted_case;
+static unsigned long stand_at;
 static atomic_flag is_reported = ATOMIC_FLAG_INIT;
 static int (*real_thread)(pthread_t *, const pthread_attr_t *, void *(*)(void *), void *);
 static void (*real_abort)(void);
+
+/* Takes over which calls fail. */
+static void take(const char *asked)
+{
+    char what[16] = "", how[16] = "";
+    last = ULONG_MAX;
+    if (sscanf(asked, "%15[a-z]:%15[A-Za-z]:%lu:%lu", what, how, &first, &last) < 3)
+        return;
+    for (int at = 0; at < KINDS; at++)
+        if (!strcmp(what, names[at]))
+            refused_what = at;
+    for (size_t at = 0; at < sizeof ways / sizeof *ways; at++)
+        if (!strcmp(how, ways[at].name))
+            refused_how = ways[at].how, refused_error = ways[at].error;
+}
+
+/* Forks a process for each REFUSE that is asked for; only these go on. */
+static void stand(void)
+{
+    char asked[64];
+    ssize_t bytes;
+    int ended;
+    alarm(0);
+    while ((bytes = syscall(SYS_read, ASKED, asked, sizeof asked - 1)) > 0) {
+        asked[bytes] = '\0';
+        pid_t child = fork();
+        if (!child) {
+            take(asked);
+            alarm(MOST_SECONDS);
+            return;
+        }
+        waitpid(child, &ended, 0);
+        syscall(SYS_write, ENDED, &ended, sizeof ended);
+    }
+    syscall(SYS_exit_group, 0);
+}
 
 /* Numbers a call, and says whether it has to fail. */
 static int refuses(enum what what)
@@ -76,6 +121,8 @@ static int refuses(enum what what)
     if (!counts)
         return 0;
     unsigned long number = atomic_fetch_add(&calls[what], 1) + 1;
+    if (what == MEMORY && number == stand_at)
+        stand();
     return what == refused_what && first <= number && number <= last;
 }
 
@@ -306,22 +353,14 @@ void abort(void)
     __builtin_unreachable();
 }
 
-/* Reads REFUSE; calls count from here on. */
+/* Calls count from here on. */
 __attribute__((constructor)) static void begin(void)
 {
-    char what[16] = "", how[16] = "";
-    const char *asked = getenv("REFUSE");
+    const char *asked = getenv("REFUSE"), *at = getenv("REFUSE_STAND");
     real_thread = (int (*)(pthread_t *, const pthread_attr_t *, void *(*)(void *), void *))dlsym(RTLD_NEXT, "pthread_create");
     real_abort = (void (*)(void))dlsym(RTLD_NEXT, "abort");
-    last = ULONG_MAX;
-    if (asked && sscanf(asked, "%15[a-z]:%15[A-Za-z]:%lu:%lu", what, how, &first, &last) >= 3) {
-        for (int at = 0; at < KINDS; at++)
-            if (!strcmp(what, names[at]))
-                refused_what = at;
-        for (size_t at = 0; at < sizeof ways / sizeof *ways; at++)
-            if (!strcmp(how, ways[at].name))
-                refused_how = ways[at].how, refused_error = ways[at].error;
-    }
+    take(asked ? asked : "");
+    stand_at = at ? strtoul(at, NULL, 10) : 0;
     alarm(MOST_SECONDS);
     wanted_case = getenv("REFUSE_CASE");
     counts = !wanted_case;

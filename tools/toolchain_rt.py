@@ -2,6 +2,7 @@
 
     toolchain_rt.py VERB WORDS..          what `rt VERB WORDS..` does, with each crate's sum made once
     toolchain_rt.py statements WORDS..    what `rt lib WORDS..` does, but that the library has its statements alone
+    toolchain_rt.py passing VERB WORDS..  what `rt VERB WORDS..` makes of a program or an archive, with no work kept
 
 `rt` knows a library by a sum of its crate's sources and of the sums of those below it, and makes each anew for every
 way that leads down to it: below the program there are some hundred thousand, minutes of one processor while the others
@@ -9,7 +10,7 @@ wait. Where these work no source changes meanwhile, so a sum holds once it is ma
 
 A library of statements is what `rt ci` makes: what is proved above it reads none of its proofs. It is proved by copies
 of one process, which share what that has read, and keeps nothing. Where a crate has kept work, of an `rt check`, `rt
-lib` is quicker, and is what is done.
+lib` is quicker, and is what is done. So it is with a program or an archive that keeps nothing.
 """
 import os
 import shutil
@@ -54,16 +55,31 @@ def make_statements(rtlib):
     rtlib.Crate.build_rlib = build_rlib
 
 
+def keep_nothing(rtlib):
+    """Has a program or an archive be proved with no work kept, where none is kept of its crate."""
+    compiles, kept = rtlib.Crate.compile, rtlib.KEPT
+
+    def compile_crate(crate, *words):
+        rtlib.KEPT = kept if crate.has_kept() else []
+        try:
+            return compiles(crate, *words)
+        finally:
+            rtlib.KEPT = kept
+
+    rtlib.Crate.compile = compile_crate
+
+
 def main():
     verb, *words = sys.argv[1:]
-    plain = "lib" if verb == "statements" else verb
+    change = {"statements": make_statements, "passing": keep_nothing}.get(verb)
+    plain = ["lib", *words] if verb == "statements" else words if verb == "passing" else [verb, *words]
     try:
         module = loaded()
-        if plain != verb:
-            make_statements(module.rtlib)
+        if change:
+            change(module.rtlib)
     except (Exception, SystemExit):
-        os.execvp("rt", ["rt", plain, *words])
-    sys.exit(module.main([plain, *words]))
+        os.execvp("rt", ["rt", *plain])
+    sys.exit(module.main(plain))
 
 
 if __name__ == "__main__":

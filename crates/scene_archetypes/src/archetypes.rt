@@ -1,11 +1,13 @@
 //! The rows of all entities, and where each stands.
-ghost use Rattle.std.specs.Prelude.{◌≡◌, ◌<◌, ◌≤◌, ℕ, suc, [], length, Some, OnOk, IfOk, IfSome, IfNone, IsOk, IsSome, slice_get, false, true, vec_capacity, map as each};
+ghost use Rattle.std.specs.Prelude.{◌≡◌, ◌<◌, ◌≤◌, ℕ, suc, [], All, length, Some, OnOk, IfOk, IfSome, IfNone, IsOk, IsSome, slice_get, false, true, vec_capacity, map as each};
 ghost use Rattle.std.specs.Option.{option_map, option_flatten};
 ghost use Rattle.scene_kinds.specs.Cells.{HasKinds, AreKindsBelow, mask_of, shown};
 ghost use Rattle.scene_kinds.specs.KindSet.{has_kind, set_with, set_without};
 ghost use Rattle.scene_kinds.specs.Lists.{whole};
 ghost use Rattle.scene_kinds.specs.Map as map;
 ghost use Rattle.scene_kinds.specs.declared.cells.Row.{Row};
+ghost use Rattle.scene_table.specs.declared.run.RunColumn.{RunColumn};
+ghost use Rattle.scene_table.specs.Runs.{HoldsAt, added_in, changed_of, rows_after, rows_with_rows};
 ghost use Rattle.scene_table.specs.Table.{cell_at, row_with_cell, row_without_cell, rows_with_cell};
 ghost use Rattle.scene_table.specs.Tables.{rows_at, row_at, row_for, home_in, lives, with_row_back, with_rows, without_row, masks_of};
 ghost use Rattle.scene_archetypes.specs.KindTables.{IsWider, IsWithin, capacity_at};
@@ -14,7 +16,7 @@ ghost use Rattle.scene_table.specs.Tables.{NoneOf, StandsIn};
 
 use crate::kind_tables::KindTables;
 use scene_kinds::{Cell, CellRef, Entity, KindSet, Row, set_with, set_without};
-use scene_table::{Home, RowCells, Table};
+use scene_table::{ChangedTicks, ColumnWriter, Home, RowCells, Run, Table};
 use std::alloc::{AllocError, Global};
 use std::marker::Model;
 
@@ -262,6 +264,29 @@ impl Archetypes {
         write_left(&mut self.homes, entity, home, moved.came);
         write_come(&mut self.homes, entity, target, moved.displaced, moved.last);
         cell
+    }
+
+    /// Writes the cells of a run in the table of its kind set, as `Table::put_run` does. It takes no memory.
+    pub fn put_run<W: ColumnWriter>(
+        &mut self,
+        writer: &W,
+        run: &Run,
+        turns: i64,
+        changed: &ChangedTicks,
+    )
+        requires rows { run.now.entities ≡ each (λ row. row.entity) (rows_at self.old.tables run.now.mask) }
+        requires holds { HoldsAt run.now turns }
+        requires ticks { (number : ℕ) (c : RunColumn) → slice_get run.now.columns number ≡ Some c
+            → length (changed_of changed.now number (length run.now.entities)) ≡ length run.now.entities }
+        requires added { All (λ c. added_in (rows_at self.old.tables run.now.mask) c.kind ≡ each (λ tick. Some tick) c.added.items) run.now.columns }
+        ensures tables { self.new.tables ≡ with_rows self.old.tables run.now.mask
+            (rows_with_rows (rows_at self.old.tables run.now.mask) (rows_after run.now turns changed.now)) }
+        ensures rooms { self.new.rooms ≡ self.old.rooms }
+        ensures homes { self.new.homes ≡ self.old.homes }
+    {
+        // A run has a cell for each of its entities, so each row stays where it stands.
+        let _width = run.width();
+        self.tables.put_run(writer, run, turns, changed);
     }
 
     /// A law of every value: its room holds the rows that there are. It does nothing.

@@ -1,5 +1,5 @@
 //! The tables of a world by kind set.
-ghost use Rattle.std.specs.Prelude.{◌≡◌, ◌<◌, ◌≤◌, ◌^◌, ◌++◌, ◌∷◌, [], ℕ, length, Some, OnOk, OnErr, IfOk, IfSome, IfNone, IsOk, IsSome, slice_get, true, false, nat_eq, vec_capacity, map as each};
+ghost use Rattle.std.specs.Prelude.{◌≡◌, ◌<◌, ◌≤◌, ◌^◌, ◌++◌, ◌∷◌, [], ℕ, All, length, Some, OnOk, OnErr, IfOk, IfSome, IfNone, IsOk, IsSome, slice_get, true, false, nat_eq, vec_capacity, map as each};
 ghost use Rattle.std.specs.List.{position_from};
 ghost use Rattle.std.specs.Option.{option_map};
 ghost use Rattle.scene_kinds.specs.Cells.{HasKinds, mask_of, shown};
@@ -7,7 +7,9 @@ ghost use Rattle.scene_kinds.specs.KindSet.{has_kind, set_with, set_without};
 ghost use Rattle.scene_kinds.specs.Lists.{whole};
 ghost use Rattle.scene_kinds.specs.Map as map;
 ghost use Rattle.scene_kinds.specs.declared.cells.Row.{Row};
+ghost use Rattle.scene_table.specs.declared.run.RunColumn.{RunColumn};
 ghost use Rattle.scene_table.specs.Rows.{put_back};
+ghost use Rattle.scene_table.specs.Runs.{HoldsAt, added_in, changed_of, rows_after, rows_with_rows};
 ghost use Rattle.scene_table.specs.Table.{TableState, cell_at, row_with_cell, row_without_cell, rows_with_cell};
 ghost use Rattle.scene_table.specs.Tables.{Tables, rows_at, row_at, row_for, with_rows, with_row, without_row, masks_of};
 ghost use Rattle.scene_archetypes.specs.KindTables.{TablesState, AreListed, AreMoved, AreSound, HoldRows, NoneHas, StandsAt, IsKnown, HasRoomFor, IsWider, IsWithin, entity_at, tables_of, rooms_of};
@@ -17,7 +19,7 @@ use crate::kind_sets::{kind_sets_of, tables_by_kind_set};
 use crate::places::{Moved, drop_row, entity_in, move_with, move_without, put_row};
 use indexmap::IndexSet;
 use scene_kinds::{Cell, CellRef, Entity, KindSet, Row, set_with, set_without};
-use scene_table::{Home, RowCells, Table};
+use scene_table::{ChangedTicks, ColumnWriter, Home, RowCells, Run, Table};
 use std::alloc::{AllocError, Global};
 use std::marker::Model;
 use std::mem;
@@ -250,6 +252,30 @@ impl KindTables {
         let moved = move_without(&mut source, home.place, &mut self.tables[to], place, kind);
         self.tables[from] = source;
         moved
+    }
+
+    /// Writes the cells of a run in the table of its kind set, as `Table::put_run` does. A kind set that has no table
+    /// has no rows, and nothing is written. It takes no memory.
+    pub(crate) fn put_run<W: ColumnWriter>(
+        &mut self,
+        writer: &W,
+        run: &Run,
+        turns: i64,
+        changed: &ChangedTicks,
+    )
+        requires rows { run.now.entities ≡ each (λ row. row.entity) (rows_at self.old.tables run.now.mask) }
+        requires holds { HoldsAt run.now turns }
+        requires ticks { (number : ℕ) (c : RunColumn) → slice_get run.now.columns number ≡ Some c
+            → length (changed_of changed.now number (length run.now.entities)) ≡ length run.now.entities }
+        requires added { All (λ c. added_in (rows_at self.old.tables run.now.mask) c.kind ≡ each (λ tick. Some tick) c.added.items) run.now.columns }
+        ensures tables { self.new.tables ≡ with_rows self.old.tables run.now.mask
+            (rows_with_rows (rows_at self.old.tables run.now.mask) (rows_after run.now turns changed.now)) }
+        ensures rooms { self.new.rooms ≡ self.old.rooms }
+    {
+        let Some(at) = find_table(&self.kind_sets, self.tables.as_slice(), run.mask()) else {
+            return;
+        };
+        self.tables[at].put_run(writer, run, turns, changed);
     }
 
     /// A law of every value: each kind set has memory for the rows that it has. It does nothing.

@@ -12,7 +12,7 @@ same_others true d xs ys same = append_cancel_right xs ys (d ∷ []) same
 same_others false d xs ys same = same
 
 module _ (p : Delta → Bool) where
-  last_kept : (b : Bool) (d : Delta) (kept : List Delta) → kept ++ cond b (d ∷ []) [] ≡ with_copy b d kept
+  pub last_kept : (b : Bool) (d : Delta) (kept : List Delta) → kept ++ cond b (d ∷ []) [] ≡ with_copy b d kept
   last_kept true d kept = refl
   last_kept false d kept = append-nil kept
 
@@ -20,7 +20,7 @@ module _ (p : Delta → Bool) where
   pub kept_behind : (ds : List Delta) (d : Delta) → filter p (ds ++ d ∷ []) ≡ with_copy (p d) d (filter p ds)
   kept_behind ds d = filter-append p ds (d ∷ []) ∙ last_kept (p d) d (filter p ds)
 
-  first_turned : (b : Bool) (d : Delta) (kept : List Delta) → reverse (cond b (d ∷ kept) kept) ≡ with_copy b d (reverse kept)
+  pub first_turned : (b : Bool) (d : Delta) (kept : List Delta) → reverse (cond b (d ∷ kept) kept) ≡ with_copy b d (reverse kept)
   first_turned true d kept = reverse-append (d ∷ []) kept
   first_turned false d kept = refl
 

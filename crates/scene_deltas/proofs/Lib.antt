@@ -11,8 +11,15 @@ pub mod LastRow
 pub mod Lists
 pub mod Ready
 pub mod RowCells
+pub mod SegmentSteps
+pub mod Segments
 pub mod ShiftedKinds
 pub mod StandingRows
 pub mod TimelyCells
 pub mod Truncated
+pub mod TurnAdded
+pub mod TurnPut
+pub mod TurnRows
+pub mod TurnSteps
+pub mod TurnTexts
 pub mod Turns

@@ -6,4 +6,5 @@ pub mod Deltas
 pub mod Laws
 pub mod Notes
 pub mod Ready
+pub mod Segments
 pub mod Standing

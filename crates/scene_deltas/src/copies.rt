@@ -1,11 +1,13 @@
 //! Copies of what deltas bring, before they are taken back or made again.
-ghost use Rattle.std.specs.Prelude.{◌≡◌, false, reverse, IfOk};
+ghost use Rattle.std.specs.Prelude.{◌≡◌, ◌++◌, false, reverse, IfOk, OnOk};
 ghost use Rattle.std.specs.List.{filter};
 ghost use Rattle.scene_deltas.specs.Copies.{any_text, copies_back, copies_again};
+ghost use Rattle.scene_deltas.specs.Segments.{shown};
 
 use crate::delta::Delta;
 use crate::delta_list::Deltas;
 use crate::resource_cell::ResourceCell;
+use crate::segment::Segment;
 use scene_table::{has_text, is_text};
 use std::alloc::AllocError;
 
@@ -45,32 +47,54 @@ pub(crate) fn copies_again(delta: &Delta) -> bool
     }
 }
 
-/// Copies of the deltas that bring it where they are taken back, the first first: what `undo_all` takes. Only want of
-/// memory is an error.
-pub fn copies_to_undo(deltas: &Deltas) -> Result<Deltas, AllocError>
-    ensures { IfOk result (λ copies. copies.items ≡ filter copies_back deltas.now.items) }
+/// Puts a copy of a segment's delta last, where it is one delta that brings it when it is taken back. A turn of a run
+/// brings none.
+fn copy_to_undo(copies: &mut Vec<Delta>, segment: &Segment) -> Result<(), AllocError>
+    ensures { OnOk result (copies.new.items ≡ copies.old.items ++ filter copies_back (shown segment.now)) }
 {
-    let mut copies = Deltas::new(deltas.alloc());
-    let mut left = deltas.forward();
-    while let Some(delta) = left.next() {
+    if let Segment::One(delta) = segment {
         if copies_back(delta) {
             copies.push(delta.try_clone()?)?;
         }
+    }
+    Ok(())
+}
+
+/// Puts a copy of a segment's delta last, where it is one delta that brings it when it is made again.
+fn copy_to_redo(copies: &mut Vec<Delta>, segment: &Segment) -> Result<(), AllocError>
+    ensures { OnOk result (copies.new.items ≡ copies.old.items ++ reverse (filter copies_again (shown segment.now))) }
+{
+    if let Segment::One(delta) = segment {
+        if copies_again(delta) {
+            copies.push(delta.try_clone()?)?;
+        }
+    }
+    Ok(())
+}
+
+/// Copies of the deltas that bring it where they are taken back, the first first: what `undo_all` takes. Only want of
+/// memory is an error.
+pub fn copies_to_undo(deltas: &Deltas) -> Result<Vec<Delta>, AllocError>
+    ensures { IfOk result (λ copies. copies.items ≡ filter copies_back deltas.now.items) }
+{
+    let mut copies = Vec::new(deltas.alloc());
+    let segments = deltas.segments();
+    for segment in segments {
+        copy_to_undo(&mut copies, segment)?;
     }
     Ok(copies)
 }
 
 /// Copies of the deltas that bring it where they are made again, the last first: what `redo_all` takes. Only want of
 /// memory is an error.
-pub fn copies_to_redo(deltas: &Deltas) -> Result<Deltas, AllocError>
+pub fn copies_to_redo(deltas: &Deltas) -> Result<Vec<Delta>, AllocError>
     ensures { IfOk result (λ copies. copies.items ≡ reverse (filter copies_again deltas.now.items)) }
 {
-    let mut copies = Deltas::new(deltas.alloc());
-    let mut left = deltas.backward();
-    while let Some(delta) = left.next() {
-        if copies_again(delta) {
-            copies.push(delta.try_clone()?)?;
-        }
+    let mut copies = Vec::new(deltas.alloc());
+    let mut left = deltas.segments();
+    'left: while let Some((segment, before)) = left.split_last() {
+        copy_to_redo(&mut copies, segment)?;
+        left = before;
     }
     Ok(copies)
 }

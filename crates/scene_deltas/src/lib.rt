@@ -8,7 +8,8 @@
 //! `make_again` and `take_back` need a `World` with room; `redo_delta` and `undo_delta` make the room, and copy the
 //! cells.
 //!
-//! `Deltas` are those of a frame, which are gone through from the first or from the last on. `undo_all` and `redo_all`
+//! `Deltas` are those of a frame, which are gone through from the first or from the last on. Those that a turn of a run
+//! wrote (`scene_table::Written`) are held as one segment, and contracts see them one by one. `undo_all` and `redo_all`
 //! take them back and make them again by reference, in a `World` with room, where what only memory can copy was copied
 //! before.
 #![tactic(auto)]
@@ -23,9 +24,11 @@ mod lent;
 mod redo;
 mod resource_cell;
 mod same;
+mod segment;
 mod sound;
 mod steps;
 mod timely;
+mod turn;
 mod walks;
 
 pub use copies::{copies_to_redo, copies_to_undo};
@@ -36,6 +39,7 @@ pub use laws::{commands_are_deltas, deltas_come_back};
 pub use lent::{redo_all, undo_all};
 pub use redo::{redo_delta, undo_delta};
 pub use resource_cell::ResourceCell;
+pub use segment::DeltaRef;
 pub use sound::is_sound;
 pub use steps::{make_again, take_all_back, take_back};
 pub use timely::can_set_tick;

@@ -2,10 +2,13 @@
 ghost use Rattle.std.specs.Prelude.{◌≡◌};
 ghost use Rattle.scene_deltas.specs.Deltas.{back, fwd, FitsBack, FitsOn, back_all};
 ghost use Rattle.scene_deltas.specs.Ready.{AreReady};
+ghost use Rattle.scene_deltas.specs.Segments.{shown};
 ghost use Rattle.scene_world.specs.Room.{Holds};
 
 use crate::delta::Delta;
 use crate::delta_list::Deltas;
+use crate::segment::Segment;
+use crate::turn::take_turn_back;
 use scene_kinds::Entity;
 use scene_table::RowCells;
 use scene_world::{RawChanges, World};
@@ -99,14 +102,26 @@ pub fn make_again(world: &mut World, delta: Delta)
     }
 }
 
+/// Takes the deltas of a segment back, the last first, where each is ready at its turn.
+fn take_segment_back(world: &mut World, segment: Segment)
+    requires { AreReady world.old.room (shown segment) world.old.world }
+    ensures world { world.new.world ≡ back_all (shown segment) world.old.world }
+    ensures room { world.new.room ≡ world.old.room }
+{
+    match segment {
+        Segment::One(delta) => take_back(world, delta),
+        Segment::Written(written) => take_turn_back(world, &written),
+    }
+}
+
 /// Takes deltas back, the last first, where each is ready at its turn. It takes no memory.
 pub fn take_all_back(world: &mut World, deltas: Deltas)
     requires { AreReady world.old.room deltas.items world.old.world }
     ensures world { world.new.world ≡ back_all deltas.items world.old.world }
     ensures room { world.new.room ≡ world.old.room }
 {
-    let mut left = deltas;
-    while let Some(delta) = left.pop() {
-        take_back(world, delta);
+    let mut left = deltas.into_held();
+    'left: while let Some(segment) = left.pop() {
+        take_segment_back(world, segment);
     }
 }

@@ -37,7 +37,7 @@ impl Form for RecordForm<'_> {
         });
         let deltas = key_of(alloc, &form, path, value, "deltas")?;
         let tick = key_of(alloc, &TickForm, path, value, "tick")?;
-        Ok(FrameRecord::new(tick, Deltas::from(deltas)))
+        Ok(FrameRecord::new(tick, Deltas::from_list(alloc, deltas)?))
     }
 }
 

@@ -20,7 +20,7 @@ fn write_deltas(alloc: Global, out: &mut String, deltas: &Deltas) -> Result<(), 
     let mut left = deltas.forward();
     'deltas: while let Some(delta) = left.next() {
         write_comma(out, later)?;
-        write_delta(alloc, out, delta)?;
+        write_delta(alloc, out, delta.get())?;
         later = true;
     }
     out.push_str("]")

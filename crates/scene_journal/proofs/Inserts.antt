@@ -48,6 +48,12 @@ found_cell : (o : Option Cell) (added : ℕ) → option_map (λ (cell : Cell). c
 found_cell None added h = absurd (let no : None ≡ Some added = h in cc)
 found_cell (Some c) added h = (c, (refl, same_Some c.added added h))
 
+-- what is noted of that
+pub set_noted : (w : World) (e : Entity) (kind : ℕ) (value : Value) (c : Cell) → cell_of (cells_of w e) kind ≡ Some c → deltas_of w (Insert e kind value) ≡ CellSet e kind c (put_over (Some c) value w.tick) ∷ []
+set_noted w e kind value c there = has_cell (deltas_of w (Insert e kind value) ≡ CellSet e kind c (put_over (Some c) value w.tick) ∷ []) w e kind c there (λ h row is here.
+    ap (λ o. of_row o (λ place cells. inserted w.tick e kind value place (cell_of cells kind) ∷ [])) is
+    ∙ ap (λ o. inserted w.tick e kind value h.place o ∷ []) here)
+
 -- with the cell that was there
 module _ (w : World) (e : Entity) (kind : ℕ) (value : Value) (c : Cell) (there : cell_of (cells_of w e) kind ≡ Some c) (fits : fits_kind w.schema value kind ≡ true) where
   abbrev over : Cell
@@ -61,11 +67,6 @@ module _ (w : World) (e : Entity) (kind : ℕ) (value : Value) (c : Cell) (there
       ∙ ap (λ f. unless f (Ok (tt, record w { tables = after_insert w.tick w.tables h row kind value (cell_of row.cells kind) }))) (no_fault w.schema kind value fits)
       ∙ (λ i. Ok (tt, record w { tables = after_insert w.tick w.tables h row kind value (here i) }))
       ∙ (λ i. Ok (tt, sym set i)))
-
-  notes : deltas_of w (Insert e kind value) ≡ CellSet e kind c over ∷ []
-  notes = has_cell (deltas_of w (Insert e kind value) ≡ CellSet e kind c over ∷ []) w e kind c there (λ h row is here.
-      ap (λ o. of_row o (λ place cells. inserted w.tick e kind value place (cell_of cells kind) ∷ [])) is
-      ∙ ap (λ o. inserted w.tick e kind value h.place o ∷ []) here)
 
   can : IsValid w → can_set_cell w e kind c over ≡ true
   can valid = (subst (Inserts w (set_cell w e kind over) e kind value) there (insert_shifts_or_sets w (set_cell w e kind over) e kind value valid sets)).0
@@ -96,4 +97,4 @@ module _ (w : World) (e : Entity) (kind : ℕ) (value : Value) (added changed : 
       let first : before ≡ now.0 = same_Some before now.0 (sym old ∙ now.1.0) in
       let copied_is : ◌≡◌ {A = Cell} (record { value = copy; added = added; changed = changed }) new = λ i. record { value = copied i; added = added; changed = changed } in
       let second = copied_is ∙ sym same in
-      (λ i. CellSet e kind (first i) (second i) ∷ []) ∙ sym (notes w e kind value now.0 now.1.0 fits)
+      (λ i. CellSet e kind (first i) (second i) ∷ []) ∙ sym (set_noted w e kind value now.0 now.1.0)

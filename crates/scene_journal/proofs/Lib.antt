@@ -9,8 +9,12 @@ pub mod FrameLaws
 pub mod Inserts
 pub mod Late
 pub mod Listed
+pub mod LiveRuns
 pub mod Recorded
 pub mod Records
 pub mod SomeDeltas
 pub mod Spawns
 pub mod Stages
+pub mod StandingValues
+pub mod TurnNotes
+pub mod TurnRecords

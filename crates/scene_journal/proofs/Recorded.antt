@@ -55,6 +55,14 @@ pub stays_ready : (room wider : Room) (ds es : List Delta) (w v : World) → ∥
 stays_ready room wider ds es w v ready wide same kept =
     ∣ subst (AreReady wider es) (sym same) (subst (λ xs. AreReady wider xs w) (sym kept) (ready_wider room wider ds w wide (found_ready room ds w ready))) ∣₁
 
+-- in the same world
+pub same_ready : (room : Room) (ds es : List Delta) (w : World) → ∥ AreReady room ds w ∥₁ → es ≡ ds → ∥ AreReady room es w ∥₁
+same_ready room ds es w ready kept = subst (λ xs. ∥ AreReady room xs w ∥₁) (sym kept) ready
+
+-- where there are no deltas
+pub none_ready : (room : Room) (ds : List Delta) (w : World) → ds ≡ [] → ∥ AreReady room ds w ∥₁
+none_ready room ds w none = ∣ subst (λ xs. AreReady room xs w) (sym none) tt ∣₁
+
 -- after a command
 module _ (room wider : Room) (ds es : List Delta) (w v : World) (c : Command) (o : Option Delta) (valid : IsValid w) (noted : listed_delta o ≡ deltas_of w c)
     (lead : LeadTo (deltas_of w c) w v) (kept : es ≡ ds ++ listed_delta o) where

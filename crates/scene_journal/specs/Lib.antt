@@ -5,7 +5,9 @@ pub mod Faults
 pub mod FirstFaults
 pub mod Frames
 pub mod Laws
+pub mod LiveRuns
 pub mod Newest
 pub mod Recorder
 pub mod Records
+pub mod Turns
 pub mod Unfit

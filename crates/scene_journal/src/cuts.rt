@@ -1,5 +1,5 @@
 //! Despawns one after another, with their deltas.
-ghost use Rattle.std.specs.Prelude.{◌≡◌, ◌<◌, IfOk, OnOk, OnErr};
+ghost use Rattle.std.specs.Prelude.{◌≡◌, ◌<◌, ◌+◌, ◌^◌, IfOk, OnOk, OnErr, length};
 ghost use Rattle.scene_model.specs.Perform.{Despawn};
 ghost use Rattle.scene_deltas.specs.Ready.{AreReady};
 ghost use Rattle.scene_deltas.specs.Deltas.{back_all};
@@ -53,6 +53,7 @@ fn room_and_delta(
     ensures delta { IfOk result (λ delta. listed_delta delta ≡ deltas_of world.now.world (Despawn entity)) }
     ensures items { deltas.new.items ≡ deltas.old.items }
     ensures room { OnOk result (0 < deltas.new.room) }
+    ensures few { OnOk result (length deltas.new.items + 1 < 2 ^ 64) }
 {
     deltas.reserve(1)?;
     despawned(alloc, world, entity)

@@ -1,14 +1,35 @@
 //! Records that are made again and taken back on a draft: a world that is dropped where no memory is found.
 ghost use Rattle.std.specs.Prelude.{◌≡◌, OnOk, OnErr};
 ghost use Rattle.scene_journal.specs.Faults.{IsAfterSome, IsBeforeSome};
-ghost use Rattle.scene_deltas.specs.Deltas.{fwd_all, back_all, AllFitOn, AllFitBack};
+ghost use Rattle.scene_deltas.specs.Deltas.{fwd, back, fwd_all, back_all, AllFitOn, AllFitBack, FitsOn, FitsBack};
+ghost use Rattle.scene_deltas.specs.Segments.{seen};
 ghost use Rattle.scene_journal.specs.Records.{raised, redone, undone, RecordFitsOn, RecordFitsBack};
 ghost use Rattle.scene_world.specs.Room.{IsWider};
 
 use crate::record::FrameRecord;
-use scene_deltas::{Deltas, redo_delta, undo_delta};
+use scene_deltas::{DeltaRef, Deltas, redo_delta, undo_delta};
 use scene_world::{RawChanges, World};
 use std::alloc::AllocError;
+
+/// Makes a delta again that is lent, where it fits.
+pub(crate) fn redo_lent(draft: &mut World, delta: DeltaRef<'_>) -> Result<(), AllocError>
+    requires { FitsOn (seen delta) draft.old.world }
+    ensures done { OnOk result (draft.new.world ≡ fwd (seen delta.entry) draft.old.world) }
+    ensures full { OnErr result (draft.new.world ≡ draft.old.world) }
+    ensures wide { IsWider draft.old.room draft.new.room }
+{
+    redo_delta(draft, delta.get())
+}
+
+/// Takes a delta back that is lent, where it fits back.
+pub(crate) fn undo_lent(draft: &mut World, delta: DeltaRef<'_>) -> Result<(), AllocError>
+    requires { FitsBack (seen delta) draft.old.world }
+    ensures done { OnOk result (draft.new.world ≡ back (seen delta.entry) draft.old.world) }
+    ensures full { OnErr result (draft.new.world ≡ draft.old.world) }
+    ensures wide { IsWider draft.old.room draft.new.room }
+{
+    undo_delta(draft, delta.get())
+}
 
 /// Makes deltas again, the first first, where each fits at its turn.
 fn redo_each(draft: &mut World, deltas: &Deltas) -> Result<(), AllocError>
@@ -19,7 +40,7 @@ fn redo_each(draft: &mut World, deltas: &Deltas) -> Result<(), AllocError>
 {
     let mut left = deltas.forward();
     while let Some(delta) = left.next() {
-        redo_delta(draft, delta)?;
+        redo_lent(draft, delta)?;
     }
     Ok(())
 }
@@ -33,7 +54,7 @@ fn undo_each(draft: &mut World, deltas: &Deltas) -> Result<(), AllocError>
 {
     let mut left = deltas.backward();
     while let Some(delta) = left.next() {
-        undo_delta(draft, delta)?;
+        undo_lent(draft, delta)?;
     }
     Ok(())
 }

@@ -10,9 +10,10 @@ ghost use Rattle.scene_journal.specs.Records.{raised, redone, undone, RecordFits
 ghost use Rattle.scene_journal.specs.Newest.{Covers, KeepsAges};
 ghost use Rattle.scene_world.specs.Room.{IsWider};
 
+use crate::drafts::{redo_lent, undo_lent};
 use crate::newest::NewestCells;
 use crate::record::FrameRecord;
-use scene_deltas::{Deltas, redo_delta, undo_delta};
+use scene_deltas::Deltas;
 use scene_kinds::{Fault, Refusal};
 use scene_world::{RawChanges, World};
 
@@ -39,10 +40,10 @@ fn redo_fitting(draft: &mut World, deltas: &Deltas) -> Result<(), Refusal>
 {
     let mut left = deltas.forward();
     while let Some(delta) = left.next() {
-        if !delta.fits_on(draft) {
+        if !delta.get().fits_on(draft) {
             return Err(bad_record(deltas.len() - 1 - left.len()));
         }
-        redo_delta(draft, delta)?;
+        redo_lent(draft, delta)?;
         draft.room_holds();
     }
     Ok(())
@@ -58,10 +59,10 @@ fn undo_fitting(draft: &mut World, deltas: &Deltas) -> Result<(), Refusal>
 {
     let mut left = deltas.backward();
     while let Some(delta) = left.next() {
-        if !delta.fits_back(draft) {
+        if !delta.get().fits_back(draft) {
             return Err(bad_record(left.len()));
         }
-        undo_delta(draft, delta)?;
+        undo_lent(draft, delta)?;
         draft.room_holds();
     }
     Ok(())

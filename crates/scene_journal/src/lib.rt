@@ -23,8 +23,10 @@ mod notes;
 mod record;
 mod recorder;
 mod reserved;
+mod runs;
 mod spawned;
 mod spot;
+mod turns;
 
 pub use examples::worked_records_hold;
 pub use fault_examples::worked_faults_hold;

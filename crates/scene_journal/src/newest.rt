@@ -4,12 +4,13 @@ ghost use Rattle.std.specs.Prelude.{Some, IfOk, IfNone, IfSome, IsOk, OnOk};
 ghost use Rattle.scene_kinds.specs.declared.cells.Row.{Row};
 ghost use Rattle.scene_table.specs.Tables.{EachRow};
 ghost use Rattle.scene_model.specs.Can.{can_set_tick};
+ghost use Rattle.scene_deltas.specs.Segments.{seen};
 ghost use Rattle.scene_journal.specs.declared.spot.Spot.TheVariants.{Resource};
 ghost use Rattle.scene_journal.specs.Newest.{AreListed, AreRowsListed, Covers, CoversAny, GoesBack, HasAges, KeepsAges};
 ghost use Rattle.scene_journal.specs.Newest.{IsListed, IsNameListed, IsWider, ListsBack};
 
 use crate::spot::{Spot, Spots, were_changed_otherwise};
-use scene_deltas::{Delta, Deltas, can_set_tick};
+use scene_deltas::{Delta, DeltaRef, Deltas, can_set_tick};
 use scene_kinds::{Cell, Entity, Text};
 use scene_resources::Resources;
 use scene_table::Table;
@@ -80,7 +81,7 @@ impl NewestCells {
     {
         let mut left = deltas.forward();
         while let Some(delta) = left.next() {
-            self.add_delta(delta)?;
+            self.add_lent(delta)?;
         }
         Ok(())
     }
@@ -241,6 +242,14 @@ impl NewestCells {
     {
         let names = resources.names()?;
         self.add_names(resources, names.as_slice())
+    }
+
+    /// Lists the cells that come back where a delta that is lent is taken back.
+    fn add_lent(&mut self, delta: DeltaRef<'_>) -> Result<(), AllocError>
+        ensures listed { OnOk result (ListsBack self.new (seen delta.entry)) }
+        ensures wide { OnOk result (IsWider self.old self.new) }
+    {
+        self.add_delta(delta.get())
     }
 
     /// Lists the cells that come back where a delta is taken back.

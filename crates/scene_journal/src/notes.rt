@@ -1,5 +1,5 @@
 //! The delta of a command, as the world before it tells.
-ghost use Rattle.std.specs.Prelude.{◌≡◌, ◌<◌, ◌++◌, ◌∷◌, [], IfOk, length, slice_get};
+ghost use Rattle.std.specs.Prelude.{◌≡◌, ◌<◌, ◌+◌, ◌^◌, ◌++◌, ◌∷◌, [], IfOk, length, slice_get};
 ghost use Rattle.std.specs.Option.{option_map};
 ghost use Rattle.scene_kinds.specs.declared.cells.Row.{Row};
 ghost use Rattle.scene_kinds.specs.Cells.{put_over, shown};
@@ -195,7 +195,8 @@ pub(crate) fn taken(alloc: Global, world: &World, name: &str) -> Result<Delta, A
 
 /// Notes a delta, where there is one, for which there is room.
 pub(crate) fn keep(deltas: &mut Deltas, delta: Option<Delta>)
-    requires { 0 < deltas.old.room }
+    requires room { 0 < deltas.old.room }
+    requires few { length deltas.old.items + 1 < 2 ^ 64 }
     ensures { deltas.new.items ≡ deltas.old.items ++ listed_delta delta }
 {
     if let Some(delta) = delta {

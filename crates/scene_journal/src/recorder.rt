@@ -14,9 +14,12 @@ use crate::cuts::cut_each;
 use crate::inserted::insert;
 use crate::notes::{self, keep, last_link, link_of};
 use crate::record::FrameRecord;
+use crate::runs::Runs;
 use crate::spawned::spawn;
+use crate::turns::write_steps;
 use scene_deltas::{Delta, Deltas, is_sound, take_all_back};
-use scene_kinds::{Entity, Fault, Refusal, Value};
+use scene_kinds::{Entity, Fault, KindSet, Refusal, Value};
+use scene_table::{ColumnWriter, RowStep};
 use scene_world::{RawChanges, Stage, World};
 use std::alloc::{AllocError, Global};
 use std::marker::Model;
@@ -31,6 +34,7 @@ pub struct Recorder {
     world: World,
     tick_before: u64,
     deltas: Deltas,
+    runs: Runs,
 }
 
 impl Drop for Recorder {
@@ -40,6 +44,7 @@ impl Drop for Recorder {
             world: _,
             tick_before: _,
             deltas: _,
+            runs: _,
         } = self;
     }
 }
@@ -47,14 +52,16 @@ impl Drop for Recorder {
 impl Model for Recorder {
     ghost use Rattle.scene_deltas.specs.Ready.{AreReady};
     ghost use Rattle.scene_journal.specs.Records.{record_of};
+    ghost use Rattle.scene_journal.specs.LiveRuns.{AreKept};
     ghost use Rattle.scene_journal.specs.Recorder.{Recording, recording};
 
     ghost Value = { Recording };
 
     ghost view = { λ r. recording r.world (record_of r.tick_before r.deltas.items) };
 
-    // Each delta can be taken back at its turn, with the memory that the world has.
-    ghost invariant = { λ r. ∥ AreReady r.world.room r.deltas.items r.world.world ∥₁ };
+    // Each delta can be taken back at its turn, with the memory that the world has, and each run that is said to be live
+    // stands in the world's rows.
+    ghost invariant = { λ r. ∥ AreReady r.world.room r.deltas.items r.world.world ∥₁ × AreKept r.world.world r.runs };
 }
 
 impl Recorder {
@@ -70,6 +77,7 @@ impl Recorder {
             world,
             tick_before,
             deltas,
+            runs: Runs::new(alloc),
         }
     }
 
@@ -83,6 +91,7 @@ impl Recorder {
             tick_before,
             deltas,
             alloc: _,
+            runs: _,
         } = self;
         (world, FrameRecord::new(tick_before, deltas))
     }
@@ -98,6 +107,7 @@ impl Recorder {
             deltas,
             alloc: _,
             tick_before: _,
+            runs: _,
         } = self;
         let mut before = world;
         take_all_back(&mut before, deltas);
@@ -114,6 +124,7 @@ impl Recorder {
             world,
             tick_before,
             deltas: Deltas::new(alloc),
+            runs: Runs::new(alloc),
         }
     }
 
@@ -153,6 +164,7 @@ impl Recorder {
     {
         let mut deltas = std::mem::replace(&mut self.deltas, Deltas::new(self.alloc));
         deltas.shrink_to_fit();
+        self.runs.finish();
         FrameRecord::new(self.tick_before, deltas)
     }
 
@@ -165,6 +177,8 @@ impl Recorder {
         ensures empty { self.new.frame.deltas ≡ [] }
     {
         let deltas = std::mem::replace(&mut self.deltas, Deltas::new(self.alloc));
+        self.runs.end();
+        self.runs.finish();
         take_all_back(&mut self.world, deltas);
         self.world.set_tick(self.tick_before);
     }
@@ -179,6 +193,7 @@ impl Recorder {
         ensures room { self.new.room ≡ self.old.room }
         ensures empty { self.new.frame.deltas ≡ [] }
     {
+        self.runs.end();
         frame.undo_reserved(&mut self.world)
     }
 
@@ -192,6 +207,7 @@ impl Recorder {
         ensures room { self.new.room ≡ self.old.room }
         ensures empty { self.new.frame.deltas ≡ [] }
     {
+        self.runs.end();
         frame.redo_reserved(&mut self.world)
     }
 }
@@ -214,6 +230,7 @@ impl Stage for Recorder {
 
     fn despawn(&mut self, entity: Entity) -> Result<(), Refusal> {
         is_sound(&self.world);
+        self.runs.end();
         self.deltas.reserve(1)?;
         let delta = notes::despawned(self.alloc, &self.world, entity)?;
         self.world.despawn(entity)?;
@@ -223,6 +240,7 @@ impl Stage for Recorder {
 
     fn insert(&mut self, entity: Entity, kind: u8, value: Value) -> Result<(), Refusal> {
         is_sound(&self.world);
+        self.runs.end();
         self.deltas.reserve(1)?;
         let delta = insert(&mut self.world, entity, kind, value)?;
         keep(&mut self.deltas, delta);
@@ -231,6 +249,7 @@ impl Stage for Recorder {
 
     fn remove(&mut self, entity: Entity, kind: u8) -> Result<(), Refusal> {
         is_sound(&self.world);
+        self.runs.end();
         self.deltas.reserve(1)?;
         let delta = notes::removed(&self.world, entity, kind)?;
         self.world.remove(entity, kind)?;
@@ -287,6 +306,7 @@ impl Stage for Recorder {
 
     fn spawn(&mut self, cells: Vec<(u8, Value)>) -> Result<Entity, Refusal> {
         is_sound(&self.world);
+        self.runs.end();
         self.deltas.reserve(1)?;
         let (entity, delta) = spawn(&mut self.world, cells)?;
         self.deltas.push_reserved(delta);
@@ -295,6 +315,7 @@ impl Stage for Recorder {
 
     fn despawn_recursive(&mut self, entity: Entity) -> Result<(), Refusal> {
         is_sound(&self.world);
+        self.runs.end();
         if !self.world.is_alive(entity) {
             return Err(Refusal::from(Fault::NoSuchEntity));
         }
@@ -307,6 +328,23 @@ impl Stage for Recorder {
                 Err(Refusal::from(error))
             }
         }
+    }
+
+    fn write_steps<W: ColumnWriter>(
+        &mut self,
+        writer: &W,
+        mask: KindSet,
+        steps: &[RowStep],
+    ) -> Result<bool, AllocError> {
+        write_steps(
+            self.alloc,
+            writer,
+            &mut self.world,
+            &mut self.deltas,
+            &mut self.runs,
+            mask,
+            steps,
+        )
     }
 
     fn make_room(&mut self, cells: usize) -> Result<(), AllocError> {

@@ -3,7 +3,7 @@ use crate::frames::{framed, record_of};
 use crate::printed::same_delta;
 use crate::scenes::{T, empty_world, first, one_tag, pushed, spawn};
 use scene_commands::{Command, Target};
-use scene_deltas::{Delta, Deltas};
+use scene_deltas::{Delta, DeltaRef, Deltas};
 use scene_journal::FrameRecord;
 use scene_kinds::{Entity, Value};
 use scene_queue::Queue;
@@ -62,9 +62,13 @@ fn went(
 }
 
 /// Whether a delta is there and is the expected one.
-fn is_delta(alloc: Global, found: Option<&Delta>, expected: Result<Delta, AllocError>) -> bool {
+fn is_delta(
+    alloc: Global,
+    found: Option<DeltaRef<'_>>,
+    expected: Result<Delta, AllocError>,
+) -> bool {
     match (found, expected) {
-        (Some(found), Ok(expected)) => same_delta(alloc, found, &expected),
+        (Some(found), Ok(expected)) => same_delta(alloc, found.get(), &expected),
         _ => false,
     }
 }
@@ -141,9 +145,9 @@ fn record_has_copy(alloc: Global, record: &FrameRecord) -> bool {
 }
 
 /// Whether both deltas are there and are the same.
-fn is_same(alloc: Global, one: Option<&Delta>, other: Option<&Delta>) -> bool {
+fn is_same(alloc: Global, one: Option<DeltaRef<'_>>, other: Option<DeltaRef<'_>>) -> bool {
     match (one, other) {
-        (Some(one), Some(other)) => same_delta(alloc, one, other),
+        (Some(one), Some(other)) => same_delta(alloc, one.get(), other.get()),
         _ => false,
     }
 }
@@ -153,6 +157,7 @@ fn copies_equal_their_originals(rt: HostRuntime) -> Result<(), Fail> {
     let delta = went(rt.alloc(), 1, 1, Some((first(0), 0)))?;
     assert!(rt; has_copy(rt.alloc(), &delta));
     let deltas = vec![in rt.alloc(); delta].expect(&rt, "memory");
-    assert!(rt; record_has_copy(rt.alloc(), &FrameRecord::new(7, Deltas::from(deltas))));
+    let deltas = Deltas::from_list(rt.alloc(), deltas).expect(&rt, "memory");
+    assert!(rt; record_has_copy(rt.alloc(), &FrameRecord::new(7, deltas)));
     Ok(())
 }

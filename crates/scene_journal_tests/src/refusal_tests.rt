@@ -21,7 +21,7 @@ fn spawned_world(rt: &impl Abort, alloc: Global) -> World {
 /// The record with this delta alone.
 fn record_of(alloc: Global, tick_before: u64, delta: Delta) -> Result<FrameRecord, AllocError> {
     let deltas = vec![in alloc; delta]?;
-    Ok(FrameRecord::new(tick_before, Deltas::from(deltas)))
+    Ok(FrameRecord::new(tick_before, Deltas::from_list(alloc, deltas)?))
 }
 
 /// The record of a frame at a tick with a spawn of this number in the first frame.

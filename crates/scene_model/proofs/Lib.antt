@@ -27,9 +27,11 @@ pub mod ResourceKeeps
 pub mod RowCommands
 pub mod RowKinds
 pub mod RowOf
+pub mod RunCells
 pub mod SameTests
 pub mod ShiftBack
 pub mod ShiftedCells
 pub mod SpawnKeeps
+pub mod StandingRuns
 pub mod TakenSlots
 pub mod TimelyTests

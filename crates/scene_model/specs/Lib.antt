@@ -6,6 +6,7 @@ pub mod Perform
 pub mod Raw
 pub mod RawLaws
 pub mod RawLists
+pub mod RunRaw
 pub mod Same
 pub mod Timely
 pub mod Valid

@@ -17,5 +17,5 @@ pub use laws::{commands_keep_worlds_valid, recursive_despawn_is_never_refused_mi
 pub use raw_laws::{
     cells_come_back, commands_are_raw_changes, cut_rows_come_back, links_come_back,
     recursive_despawn_comes_back, resource_commands_are_raw_changes, resources_come_back,
-    rows_come_back, shifted_rows_come_back,
+    rows_come_back, runs_are_cells, shifted_rows_come_back,
 };

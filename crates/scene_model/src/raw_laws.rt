@@ -2,6 +2,7 @@
 //! is noted of a change, so that it can be undone and done again, rests on them.
 ghost use Rattle.scene_model.specs.CommandRaw.{SpawnPuts, DespawnCuts, InsertShiftsOrSets, RemoveShifts, SetParentSetsLink, RemoveParentSetsLink, PutSetsResource, RemoveSetsResource, RaiseSetsTick};
 ghost use Rattle.scene_model.specs.RawLists.{CutListsComeBack, DespawnRecursiveCuts};
+ghost use Rattle.scene_model.specs.RunRaw.{RunsAreCells, RunsKeep, StandingRunsCanBePut};
 ghost use Rattle.scene_model.specs.RawLaws.{CellsComeBack, CutRowsComeBack, LinksComeBack, ResourcesComeBack, RowsComeBack, ShiftedRowsComeBack, TicksComeBack};
 
 /// A law: a resource that is set to a cell or to none, and the tick, come back by being set to what they were. Both
@@ -15,6 +16,14 @@ pub fn resources_come_back()
 /// It keeps a valid world valid.
 pub fn cells_come_back()
     ensures { CellsComeBack }
+{}
+
+/// A law: the cells that a run wrote, set one after another, are the rows of its table written at once. They keep a valid
+/// world valid. A run that stands in its table may be written there after more turns.
+pub fn runs_are_cells()
+    ensures cells { RunsAreCells }
+    ensures keeps { RunsKeep }
+    ensures standing { StandingRunsCanBePut }
 {}
 
 /// A law: a link of a live entity that is set, to a place in a parent's list or to none, comes back by being set to

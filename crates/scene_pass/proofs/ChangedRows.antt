@@ -1,7 +1,13 @@
 -- The changes of rows, one after another and by their places.
-use Rattle.std.proofs.Common.{◌≡◌, ℕ, suc, ◌+◌, List, [], ◌∷◌, ◌++◌, append_assoc, length, map, drop, refl, ap, subst, sym, ◌∙◌, arith, Some}
+use Rattle.std.proofs.Common.{◌≡◌, ℕ, suc, ◌+◌, List, [], ◌∷◌, ◌++◌, append_assoc, length, map, drop, refl, ap, subst, sym, ◌∙◌, arith, Option, Some, None}
 use Rattle.std.specs.Prelude.{slice_get, Result, Ok, Err, IfOk, MatchResult}
 use Rattle.std.specs.List.{AllZip, range_with_len}
+use Rattle.scene_kinds.specs.declared.cells.Row.{Row}
+use Rattle.scene_kinds.specs.declared.entity.Entity.{Entity}
+use Rattle.scene_pass.specs.declared.row_change.RowChange.{RowChange}
+use Rattle.scene_pass.specs.declared.row_change.Outcome.{Outcome}
+use Rattle.scene_pass.specs.declared.row_change.Outcome.TheVariants.{Changed, Overflow}
+use Rattle.scene_pass.specs.Changes.{fault_or, first_fault}
 use Rattle.scene_pass.proofs.RowSteps.{drop_at}
 
 -- one more row is changed
@@ -45,3 +51,28 @@ module _ {Y : Type 0} where
 pub ok_from_match : {T E : Type 0} (r : Result T E) (P Q : T → Type 0) (R : E → Type 0) → MatchResult r P R → ((v : T) → P v → Q v) → IfOk r Q
 ok_from_match (Ok v) P Q R h f = f v h
 ok_from_match (Err e) P Q R h f = tt
+
+-- ---- the first sum that doesn't fit
+
+-- a row of which none overflows, and the rows behind it
+pub fault_passed : (f : Row → RowChange) (rows : List Row) (at : ℕ) (row : Row) (made : RowChange) (all : Option (Entity × ℕ)) → slice_get rows at ≡ Some row → made ≡ f row
+    → fault_or made.entity made.outcome None ≡ None → first_fault (map f (drop at rows)) ≡ all → first_fault (map f (drop (at + 1) rows)) ≡ all
+fault_passed f rows at row made all there is fits before =
+    let rest = first_fault (map f (drop (at + 1) rows)) in
+    sym (later (f row).entity (f row).outcome rest (ap (λ (c : RowChange). fault_or c.entity c.outcome None) (sym is) ∙ fits))
+    ∙ sym (drop_at (λ rs. first_fault (map f rs)) rows at row there) ∙ before
+  where
+    later : (e : Entity) (o : Outcome) (rest : Option (Entity × ℕ)) → fault_or e o None ≡ None → fault_or e o rest ≡ rest
+    later e (Changed cells) rest h = refl
+    later e (Overflow at) rest h = absurd (let wrong : Some (e, at) ≡ None = h in cc)
+
+-- and one that does
+pub fault_found : (f : Row → RowChange) (rows : List Row) (at : ℕ) (row : Row) (made : RowChange) (over : Entity × ℕ) (all : Option (Entity × ℕ)) → slice_get rows at ≡ Some row → made ≡ f row
+    → fault_or made.entity made.outcome None ≡ Some over → first_fault (map f (drop at rows)) ≡ all → Some over ≡ all
+fault_found f rows at row made over all there is found before =
+    sym (here (f row).entity (f row).outcome (first_fault (map f (drop (at + 1) rows))) (ap (λ (c : RowChange). fault_or c.entity c.outcome None) (sym is) ∙ found))
+    ∙ sym (drop_at (λ rs. first_fault (map f rs)) rows at row there) ∙ before
+  where
+    here : (e : Entity) (o : Outcome) (rest : Option (Entity × ℕ)) → fault_or e o None ≡ Some over → fault_or e o rest ≡ Some over
+    here e (Changed cells) rest h = absurd (let wrong : None ≡ Some over = h in cc)
+    here e (Overflow at) rest h = h

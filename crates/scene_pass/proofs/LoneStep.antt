@@ -11,8 +11,8 @@ use Rattle.scene_kinds.specs.declared.value.Value.{Value}
 use Rattle.scene_kinds.specs.Cells.{IsAscending}
 use Rattle.scene_kinds.proofs.Maps.{equal_keys}
 use Rattle.scene_kinds.proofs.Places.{eq_by_cmp-nat_eq}
-use Rattle.scene_systems.specs.declared.row_step.RowStep.{RowStep}
-use Rattle.scene_systems.specs.RowStep.{target, is_written}
+use Rattle.scene_table.specs.declared.row_step.RowStep.{RowStep}
+use Rattle.scene_table.specs.RowStep.{target, is_written}
 use Rattle.scene_pass.specs.Changes.{Values, values_of, value_sum, addend, added, unless_overflow, after_steps, outcome_of}
 use Rattle.scene_pass.specs.InPlace.{written_of}
 use Rattle.scene_pass.specs.Lone.{lone, lone_of, written_or}

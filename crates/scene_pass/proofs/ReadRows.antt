@@ -11,8 +11,8 @@ use Rattle.scene_kinds.specs.declared.value.Value.{Value}
 use Rattle.scene_kinds.specs.Cells.{cell_of}
 use Rattle.scene_kinds.proofs.Positions.{found}
 use Rattle.scene_table.specs.Table.{cell_at}
-use Rattle.scene_systems.specs.declared.row_step.RowStep.{RowStep}
-use Rattle.scene_systems.specs.RowStep.{is_written}
+use Rattle.scene_table.specs.declared.row_step.RowStep.{RowStep}
+use Rattle.scene_table.specs.RowStep.{is_written}
 use Rattle.scene_pass.specs.Changes.{Values, values_of}
 use Rattle.scene_pass.specs.InPlace.{no_row, row_in, written_of, place_of, value_at}
 use Rattle.scene_pass.proofs.RowSteps.{drop_at}

@@ -13,9 +13,9 @@ use Rattle.scene_kinds.specs.declared.cells.Row.{Row}
 use Rattle.scene_kinds.specs.declared.value.Value.{Value}
 use Rattle.scene_kinds.specs.Cells.{IsAscending}
 use Rattle.scene_kinds.proofs.Maps.{equal_keys}
-use Rattle.scene_systems.specs.declared.row_step.RowStep.{RowStep}
-use Rattle.scene_systems.specs.declared.row_step.RowStep.TheVariants.{AddVec, AddInt}
-use Rattle.scene_systems.specs.RowStep.{target, is_written}
+use Rattle.scene_table.specs.declared.row_step.RowStep.{RowStep}
+use Rattle.scene_table.specs.declared.row_step.RowStep.TheVariants.{AddVec, AddInt}
+use Rattle.scene_table.specs.RowStep.{target, is_written}
 use Rattle.scene_pass.specs.Changes.{Values, values_of, value_sum, addend, added, step_on, unless_overflow, after_steps, outcome_of}
 use Rattle.scene_pass.specs.InPlace.{written_of, place_of, value_or, addend_in, put_sum, added_in, step_in, goes_on, outcome_in}
 use Rattle.scene_pass.proofs.ByKind.{find_kept, kept_put, IsAt, at_place, at_none}

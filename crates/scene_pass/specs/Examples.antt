@@ -10,8 +10,8 @@ use Rattle.scene_kinds.specs.Map as map
 use Rattle.scene_kinds.specs.KindSet.{KindSet}
 use Rattle.scene_model.specs.World.{World}
 use Rattle.scene_systems.specs.declared.filter.Filter.{Filter}
-use Rattle.scene_systems.specs.declared.row_step.RowStep.{RowStep}
-use Rattle.scene_systems.specs.declared.row_step.RowStep.TheVariants.{AddVec, AddInt}
+use Rattle.scene_table.specs.declared.row_step.RowStep.{RowStep}
+use Rattle.scene_table.specs.declared.row_step.RowStep.TheVariants.{AddVec, AddInt}
 use Rattle.scene_pass.specs.Changes.{Values}
 use Rattle.scene_pass.specs.declared.cell_name.CellName.{CellName}
 use Rattle.scene_pass.specs.declared.row_change.RowChange.{RowChange}

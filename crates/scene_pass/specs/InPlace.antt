@@ -8,9 +8,9 @@ use Rattle.scene_kinds.specs.Cells.{IsAscending}
 use Rattle.scene_kinds.specs.declared.cells.Row.{Row}
 use Rattle.scene_kinds.specs.declared.value.Value.{Value}
 use Rattle.scene_kinds.specs.declared.value.Value.TheVariants.{Int}
-use Rattle.scene_systems.specs.declared.row_step.RowStep.{RowStep}
-use Rattle.scene_systems.specs.declared.row_step.RowStep.TheVariants.{AddVec, AddInt}
-use Rattle.scene_systems.specs.RowStep.{target, is_written}
+use Rattle.scene_table.specs.declared.row_step.RowStep.{RowStep}
+use Rattle.scene_table.specs.declared.row_step.RowStep.TheVariants.{AddVec, AddInt}
+use Rattle.scene_table.specs.RowStep.{target, is_written}
 use Rattle.scene_pass.specs.Changes.{Values, value_sum}
 use Rattle.scene_pass.specs.declared.row_change.Outcome.{Outcome}
 use Rattle.scene_pass.specs.declared.row_change.Outcome.TheVariants.{Changed, Overflow}

@@ -3,8 +3,8 @@ use Rattle.std.specs.Prelude.{ℕ, [], ◌∷◌, Option, Some, None}
 use Rattle.std.specs.Ordering.{nat_cmp}
 use Rattle.std.specs.FinMap.Entries.{find}
 use Rattle.scene_kinds.specs.declared.value.Value.{Value}
-use Rattle.scene_systems.specs.declared.row_step.RowStep.{RowStep}
-use Rattle.scene_systems.specs.RowStep.{target}
+use Rattle.scene_table.specs.declared.row_step.RowStep.{RowStep}
+use Rattle.scene_table.specs.RowStep.{target}
 use Rattle.scene_pass.specs.Changes.{Values, addend, value_sum}
 use Rattle.scene_pass.specs.declared.row_change.Outcome.{Outcome}
 use Rattle.scene_pass.specs.declared.row_change.Outcome.TheVariants.{Changed, Overflow}

@@ -1,12 +1,14 @@
 //! What row steps make of the matching rows, in one thread or in many.
 ghost use Rattle.std.specs.Prelude.{◌≡◌, ◌<◌, ◌^◌, ◌++◌, IfOk, OnOk, Some, length, map, slice_get, option_map};
-ghost use Rattle.scene_pass.specs.Changes.{change_of, changes};
+ghost use Rattle.scene_pass.specs.Changes.{change_of, changes, first_fault};
 
 use crate::change::change;
+use crate::fault::fault_of;
 use crate::row_change::RowChange;
 use crate::row_in_place::RowInPlace;
 use crate::tables::matching_tables;
 use rayon::prelude::*;
+use scene_kinds::Entity;
 use scene_systems::{Filter, RowStep};
 use scene_table::Table;
 use scene_world::World;
@@ -55,6 +57,28 @@ pub fn map_rows_alone(
         push_changes(alloc, &mut made, table, steps)?;
     }
     Ok(made)
+}
+
+/// The first row of a table of which a sum doesn't fit, by its entity, with the place of that step from 0; `None` where
+/// all fit (docs/MODEL.md, "The rule of systems"). There must be fewer than 2 ^ 32 steps.
+///
+/// An error only where no memory was found. It costs the steps over the rows up to that row.
+pub fn first_fault_in(
+    alloc: Global,
+    table: &Table,
+    steps: &[RowStep],
+) -> Result<Option<(Entity, u32)>, AllocError>
+    requires { length steps.now < 2 ^ 32 }
+    ensures { IfOk result (λ fault. fault ≡ first_fault (map (change_of steps.now) table.now.rows)) }
+{
+    'rows: for at in 0..table.len() {
+        let tested = RowInPlace::new(table, at);
+        let made = change(alloc, &tested, steps)?;
+        if let Some(fault) = fault_of(&made) {
+            return Ok(Some(fault));
+        }
+    }
+    Ok(None)
 }
 
 /// What the steps make of the row at a place of a table.

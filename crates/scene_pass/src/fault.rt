@@ -6,7 +6,7 @@ use crate::row_change::{Outcome, RowChange};
 use scene_kinds::Entity;
 
 /// The entity and the step of a row's overflow.
-fn fault_of(change: &RowChange) -> Option<(Entity, u32)>
+pub(crate) fn fault_of(change: &RowChange) -> Option<(Entity, u32)>
     ensures { result ≡ fault_or change.now.entity change.now.outcome None }
 {
     match &change.outcome {

@@ -32,10 +32,11 @@ mod written;
 
 pub use cell_name::CellName;
 pub use cells::{added_since, changed_since};
-pub use changed_rows::{PARTED_ROWS, map_rows, map_rows_alone};
+pub use changed_rows::{PARTED_ROWS, first_fault_in, map_rows, map_rows_alone};
 pub use entities::matching;
 pub use fault::first_fault;
 pub use laws::{passes_list_just_what_matches, worked_changes, worked_passes};
 pub use row_change::{Outcome, RowChange};
 pub use row_copies::rows;
 pub use scene_systems::{Filter, RowStep};
+pub use tables::matching_tables;

@@ -11,7 +11,7 @@ use std::alloc::AllocError;
 /// The tables of the matching kind sets, ascending by kind set, or an error where no memory was found.
 ///
 /// It costs the number of kind sets times its logarithm.
-pub(crate) fn matching_tables(world: &World, filter: Filter) -> Result<Vec<&Table>, AllocError>
+pub fn matching_tables(world: &World, filter: Filter) -> Result<Vec<&Table>, AllocError>
     ensures { IfOk result (λ tables. flat_map (λ table. table.now.rows) tables.items ≡ matching_rows world.now.world filter) }
 {
     let mut tables = world.tables_in_order()?;

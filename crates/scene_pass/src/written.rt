@@ -3,7 +3,7 @@ ghost use Rattle.std.specs.Prelude.{◌≡◌, ◌<◌, ◌+◌, ◌++◌, Some,
 ghost use Rattle.std.specs.Ordering.{nat_cmp};
 ghost use Rattle.std.specs.FinMap.Entries.{find};
 ghost use Rattle.scene_kinds.specs.declared.value.Value.TheVariants.{Int};
-ghost use Rattle.scene_systems.specs.RowStep.{is_written};
+ghost use Rattle.scene_table.specs.RowStep.{is_written};
 ghost use Rattle.scene_pass.specs.Changes.{values_of};
 ghost use Rattle.scene_pass.specs.InPlace.{written_of, place_of, value_or, sum_at, put_sum, added_in, step_in};
 

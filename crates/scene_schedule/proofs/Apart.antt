@@ -5,7 +5,7 @@ use Rattle.std.proofs.lemmas.Bool.{eqb-true, eq-eqb}
 use Rattle.scene_systems.specs.declared.step.Step.{Step}
 use Rattle.scene_systems.specs.declared.step.Step.TheVariants.{Row, DespawnAtZero, SpawnChild, CountInto}
 use Rattle.scene_systems.specs.declared.system_rule.SystemRule.{SystemRule}
-use Rattle.scene_systems.specs.RowStep.{target}
+use Rattle.scene_table.specs.RowStep.{target}
 use Rattle.scene_schedule.specs.Schedule.{step_writes, touches, step_disturbs, disturbs, clash}
 use Rattle.scene_schedule.specs.Sound.{AreApart}
 

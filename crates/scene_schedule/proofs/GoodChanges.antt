@@ -17,9 +17,9 @@ use Rattle.scene_kinds.specs.Ranges.{is_i64, are_three, is_in_range}
 use Rattle.scene_kinds.specs.Schema.{Kinds, shape_of, has_shape, fits_kind}
 use Rattle.scene_kinds.specs.Shape.{shape_of_value, same_shape}
 use Rattle.scene_kinds.proofs.Choices.{test_parts}
-use Rattle.scene_systems.specs.declared.row_step.RowStep.{RowStep}
-use Rattle.scene_systems.specs.declared.row_step.RowStep.TheVariants.{AddVec, AddInt}
-use Rattle.scene_systems.specs.RowStep.{is_written}
+use Rattle.scene_table.specs.declared.row_step.RowStep.{RowStep}
+use Rattle.scene_table.specs.declared.row_step.RowStep.TheVariants.{AddVec, AddInt}
+use Rattle.scene_table.specs.RowStep.{is_written}
 use Rattle.scene_pass.specs.Changes.{Values, values_of, sum, sums, value_sum, addend, added, step_on, unless_overflow, after_steps, outcome_of}
 use Rattle.scene_model.specs.Valid.{IsRowOf}
 use Rattle.scene_schedule.specs.AtOnce.{written_of}

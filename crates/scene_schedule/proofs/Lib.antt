@@ -15,7 +15,11 @@ pub mod GoodChanges
 pub mod WrittenCells
 pub mod WrittenRows
 pub mod SystemWrites
-pub mod InTurn
-pub mod Queued
+pub mod SystemsInTurn
+pub mod QueueWalks
 pub mod Outputs
 pub mod Shares
+pub mod TableWrites
+pub mod ReadyRows
+pub mod InTurnPhases
+pub mod QueuedRows

@@ -15,16 +15,15 @@ use Rattle.scene_systems.specs.declared.system_rule.SystemRule.{SystemRule}
 use Rattle.scene_schedule.specs.declared.output.PhaseOutput.{PhaseOutput}
 use Rattle.scene_schedule.specs.AtOnce.{Overflows, output_of, first_overflow, refused_or}
 use Rattle.scene_schedule.specs.Output.{IsOutputOf}
-use Rattle.scene_schedule.specs.Schedule.{knows, is_step_count}
+use Rattle.scene_schedule.specs.Schedule.{is_good_rule, knows, is_step_count}
 use Rattle.scene_schedule.specs.Sound.{IsSoundPhase}
 use Rattle.scene_schedule.specs.Systems.{SystemOutput, changes_of, systems_from}
-use Rattle.scene_schedule.proofs.InTurn.{systems_see}
-use Rattle.scene_schedule.proofs.Queued.{overflow_found}
+use Rattle.scene_schedule.proofs.SystemsInTurn.{systems_see}
+use Rattle.scene_schedule.proofs.QueueWalks.{overflow_found}
 
--- a system of a phase has at most 16 steps
-pub few_steps : (schema : Kinds) (rules : List SystemRule) (at : ℕ) (rule : SystemRule) → IsSoundPhase schema rules → at < length rules → rule ≡ get_or rules at rule → length rule.steps ≤ 16
-few_steps schema rules at rule sound h e =
-    let good = sound.good at rule (slice_get-get_or rules at rule h ∙ ap Some (sym e)) in
+-- a good system has at most 16 steps
+pub good_few : (schema : Kinds) (rule : SystemRule) → is_good_rule schema rule ≡ true → length rule.steps ≤ 16
+good_few schema rule good =
     let named = and_parts (is_good_name rule.name) _ good in
     let needs = and_parts (knows schema rule.filter.need) _ named.1 in
     let misses = and_parts (knows schema rule.filter.without) _ needs.1 in
@@ -33,6 +32,13 @@ few_steps schema rules at rule sound h e =
   where
     below : (n : ℕ) → is_step_count n ≡ true → n ≤ 16
     below n t = grind (arith, nat_tests)
+
+-- and each of a phase is good
+pub good_at : (schema : Kinds) (rules : List SystemRule) (at : ℕ) (rule : SystemRule) → IsSoundPhase schema rules → at < length rules → rule ≡ get_or rules at rule → is_good_rule schema rule ≡ true
+good_at schema rules at rule sound h e = sound.good at rule (slice_get-get_or rules at rule h ∙ ap Some (sym e))
+
+pub few_steps : (schema : Kinds) (rules : List SystemRule) (at : ℕ) (rule : SystemRule) → IsSoundPhase schema rules → at < length rules → rule ≡ get_or rules at rule → length rule.steps ≤ 16
+few_steps schema rules at rule sound h e = good_few schema rule (good_at schema rules at rule sound h e)
 
 -- the walk came to the end
 pub phase_made : (output : PhaseOutput) (w : World) (rules : List SystemRule) (at : ℕ) → IsValid w → IsSoundPhase w.schema rules → length rules ≤ at

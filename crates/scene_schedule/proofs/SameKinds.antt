@@ -12,14 +12,14 @@ use Rattle.scene_kinds.specs.Shape.{same_shape}
 use Rattle.scene_schedule.specs.Schedule.{same_kinds}
 use Rattle.scene_schedule.specs.Systems.{if_for}
 
-same_shape_self : (s : Shape) → same_shape s s ≡ true
+pub same_shape_self : (s : Shape) → same_shape s s ≡ true
 same_shape_self shape.Tag = refl
 same_shape_self shape.Int = refl
 same_shape_self shape.Vec3 = refl
 same_shape_self shape.Text = refl
 same_shape_self shape.Link = refl
 
-same_shape_is : (s t : Shape) → same_shape s t ≡ true → s ≡ t
+pub same_shape_is : (s t : Shape) → same_shape s t ≡ true → s ≡ t
 same_shape_is shape.Tag shape.Tag h = refl
 same_shape_is shape.Int shape.Int h = refl
 same_shape_is shape.Vec3 shape.Vec3 h = refl

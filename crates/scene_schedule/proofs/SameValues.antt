@@ -13,11 +13,11 @@ use Rattle.scene_kinds.specs.declared.cells.Row.{Row}
 use Rattle.scene_kinds.specs.declared.value.Value.{Value}
 use Rattle.scene_kinds.specs.Cells.{IsAscending, cell_of, with_cell}
 use Rattle.scene_kinds.proofs.Maps.{equal_keys}
-use Rattle.scene_systems.specs.declared.row_step.RowStep.{RowStep}
-use Rattle.scene_systems.specs.declared.row_step.RowStep.TheVariants.{AddVec, AddInt}
+use Rattle.scene_table.specs.declared.row_step.RowStep.{RowStep}
+use Rattle.scene_table.specs.declared.row_step.RowStep.TheVariants.{AddVec, AddInt}
 use Rattle.scene_systems.specs.declared.step.Step.{Step}
 use Rattle.scene_systems.specs.declared.step.Step.TheVariants.{Row as Writing, DespawnAtZero, SpawnChild, CountInto}
-use Rattle.scene_systems.specs.RowStep.{target, is_written}
+use Rattle.scene_table.specs.RowStep.{target, is_written}
 use Rattle.scene_pass.specs.declared.row_change.Outcome.TheVariants.{Changed}
 use Rattle.scene_pass.specs.Changes.{Values, values_of, value_sum, addend, added, step_on, unless_overflow, after_steps, outcome_of, change_of}
 use Rattle.scene_schedule.specs.Schedule.{step_touches, step_writes}

@@ -163,7 +163,7 @@ kept_all : (k : Kinds) (q : ℕ) (s : World) (es : List Entity) (r : Option (ℕ
 kept_all k q s es None h = record { same = h }
 kept_all k q s es (Some r) h = record { same = tt }
 
-queue_keeps : (q : ℕ) (rs : List Request) (w : World) → Keeps w.schema (queue perform q rs w)
+pub queue_keeps : (q : ℕ) (rs : List Request) (w : World) → Keeps w.schema (queue perform q rs w)
 queue_keeps q rs w =
     let e : Ended World = play perform rs w in
     kept_all w.schema q e.progress.state e.progress.spawned e.refused (played_schema 0 rs (reached w []))

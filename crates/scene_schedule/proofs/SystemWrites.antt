@@ -32,7 +32,7 @@ use Rattle.scene_model.proofs.MoveKeeps.{with_tables}
 use Rattle.scene_model.proofs.RowKinds.{fits_known}
 use Rattle.scene_model.proofs.RowOf.{row_stands}
 use Rattle.scene_systems.specs.declared.filter.Filter.{Filter}
-use Rattle.scene_systems.specs.declared.row_step.RowStep.{RowStep}
+use Rattle.scene_table.specs.declared.row_step.RowStep.{RowStep}
 use Rattle.scene_systems.specs.declared.step.Step.{Step}
 use Rattle.scene_systems.specs.declared.step.Step.TheVariants.{Row as Writing, DespawnAtZero, SpawnChild, CountInto}
 use Rattle.scene_systems.specs.declared.system_rule.SystemRule.{SystemRule}
@@ -48,7 +48,7 @@ use Rattle.scene_schedule.proofs.Entries.{found_passes, entry_found}
 use Rattle.scene_schedule.proofs.Zips.{zip_places, zip_same, zip_mapped, zip_keys}
 use Rattle.scene_schedule.proofs.SameValues.{IsRowAlike, row_values, alike_found, change_alike, steps_on, value_found, written_steps}
 use Rattle.scene_schedule.proofs.GoodChanges.{row_written}
-use Rattle.scene_schedule.proofs.WrittenCells.{AreTablesAlike, HasAt, home_alike, tables_over, tables_weaker}
+use Rattle.scene_schedule.proofs.WrittenCells.{AreTablesAlike, CanWrite, HasAt, home_alike, tables_over, tables_weaker}
 use Rattle.scene_schedule.proofs.WrittenRows.{Wanted, IsWantedIn, AreWritten, Write, cells_of, cells_of_all, written_in_turn, queue_accepted}
 
 -- ---- rows that match
@@ -99,20 +99,39 @@ row_listed w f h row at is =
 -- ---- what a system writes
 
 -- the cells that steps write to a row
-abbrev cells_by : List RowStep → Row → Values
+abbrev pub cells_by : List RowStep → Row → Values
 cells_by ss row = written_of (outcome_of ss (after_steps 0 ss (values_of row)))
 
 -- a cell that is written, with its row
-record IsWrittenTo (t : Tables) (ss : List RowStep) (x : Write) : Type 0 where
-  row : Row
-  home : Home
-  there : row_at t home ≡ Some row
-  same : row.entity ≡ x.0
-  found : find nat_cmp x.1.0 (cells_by ss row) ≡ Some x.1.1
+pub record IsWrittenTo (t : Tables) (ss : List RowStep) (x : Write) : Type 0 where
+  pub row : Row
+  pub home : Home
+  pub there : row_at t home ≡ Some row
+  pub same : row.entity ≡ x.0
+  pub found : find nat_cmp x.1.0 (cells_by ss row) ≡ Some x.1.1
 
 -- what the row at a home has of a kind is what was read there
 read_at : (t : Tables) (h : Home) (row : Row) (kind : ℕ) (o : Option Value) → row_at t h ≡ Some row → HasAt t h kind o → find nat_cmp kind (values_of row) ≡ o
 read_at t h row kind o now a = ap (λ (r : Row). find nat_cmp kind (values_of r)) (same_Some row a.row (sym now ∙ a.there)) ∙ a.value
+
+cell_there : (row : Row) (kind : ℕ) (o : Option Cell) → cell_of row.cells kind ≡ o → is_some (find nat_cmp kind (values_of row)) ≡ true → (c : Cell) × (o ≡ Some c)
+cell_there row kind (Some c) is h = (c, refl)
+cell_there row kind None is h =
+    absurd (let wrong : false ≡ true = sym (ap is_some (value_found row.cells kind ∙ ap (option_map (λ (c : Cell). c.value)) is)) ∙ h in cc)
+
+-- it may be written
+pub can_write : (u : World) (ss : List RowStep) → IsValid u → (x : Write) (k : IsWrittenTo u.tables ss x) → CanWrite u x.0 x.1.0 x.1.1 k.home
+can_write u ss valid x k =
+    let cells = row_written u.schema k.home.mask k.row ss (valid.rows.each k.home k.row k.there).fits in
+    let c = cell_there k.row x.1.0 (cell_of k.row.cells x.1.0) refl (cells.there x.1.0 x.1.1 k.found) in
+    record {
+      row = k.row;
+      there = k.there;
+      same = k.same;
+      old = c.0;
+      has = c.1;
+      fits = found_passes (λ (v : ℕ × Value). fits_kind u.schema v.1 v.0) (cells_by ss k.row) x.1.0 x.1.1 cells.good.fit k.found;
+    }
 
 module _ (u : World) (rule : SystemRule) (valid : IsValid u) where
   abbrev ss : List RowStep
@@ -143,28 +162,10 @@ module _ (u : World) (rule : SystemRule) (valid : IsValid u) where
         found = subst (λ (z : Write). find nat_cmp z.1.0 (cells_for r.0) ≡ Some z.1.1) v.1.1 (entry_found (cells_for r.0) v.0.0 v.0.1 cells.good.ascending v.1.0);
       }
 
-  cell_there : (row : Row) (kind : ℕ) (o : Option Cell) → cell_of row.cells kind ≡ o → is_some (find nat_cmp kind (values_of row)) ≡ true → (c : Cell) × (o ≡ Some c)
-  cell_there row kind (Some c) is h = (c, refl)
-  cell_there row kind None is h =
-      absurd (let wrong : false ≡ true = sym (ap is_some (value_found row.cells kind ∙ ap (option_map (λ (c : Cell). c.value)) is)) ∙ h in cc)
-
   writes_wanted : (x : Write) → Contains (cells_of_all (changes_of u rule)) x → IsWantedIn wanted_at u x
   writes_wanted x h =
       let k = written_to x h in
-      let cells = row_written u.schema k.home.mask k.row ss (valid.rows.each k.home k.row k.there).fits in
-      let c = cell_there k.row x.1.0 (cell_of k.row.cells x.1.0) refl (cells.there x.1.0 x.1.1 k.found) in
-      record {
-        home = k.home;
-        can = record {
-          row = k.row;
-          there = k.there;
-          same = k.same;
-          old = c.0;
-          has = c.1;
-          fits = found_passes (λ (v : ℕ × Value). fits_kind u.schema v.1 v.0) (cells_for k.row) x.1.0 x.1.1 cells.good.fit k.found;
-        };
-        is = wanted_is k.home k.row x.1.0 k.there ∙ k.found;
-      }
+      record { home = k.home; can = can_write u ss valid x k; is = wanted_is k.home k.row x.1.0 k.there ∙ k.found }
 
   -- the world after them
   pub system_written : AreWritten wanted_at u (cells_of_all (changes_of u rule))

@@ -22,7 +22,7 @@ module _ {S : Type 0} (act : Act S) where
       from (Err f) go g = absurd (let k : Some (i, f) ≡ None = ap (λ e. e.refused) g in cc)
 
   -- commands that are all accepted, and then others
-  one_then_other : (rs more : List Request) (i j : ℕ) (p q t : Progress S) → play_from act i rs p ≡ whole q → play_from act j more q ≡ whole t
+  pub one_then_other : (rs more : List Request) (i j : ℕ) (p q t : Progress S) → play_from act i rs p ≡ whole q → play_from act j more q ≡ whole t
       → play_from act i (rs ++ more) p ≡ whole t
   one_then_other [] more i j p q t h later =
       counted_anyhow more j i p t (ap (λ e. play_from act j more e.progress) h ∙ later)

@@ -120,6 +120,16 @@ row_after P t h old new g r at is here there =
       | false ↦ λ e. there (there_apart t h.mask (slice_set (rows_at t h.mask) h.place new) g r (apart g.mask h.mask e) is)
     ] refl
 
+-- the rows of other kind sets stay
+rows_elsewhere : (t : Tables) (h : Home) (new : Row) (mask : KindSet) → (h.mask ≡ mask → ⊥) → rows_at (with_row_at t h new) mask ≡ rows_at t mask
+rows_elsewhere t h new mask other =
+    let rows = slice_set (rows_at t h.mask) h.place new in
+    list_at-with_list nat_cmp_total t h.mask rows mask
+    ∙ elim (eq_by_cmp nat_cmp mask h.mask) as (λ b. eq_by_cmp nat_cmp mask h.mask ≡ b → cond b rows (rows_at t mask) ≡ rows_at t mask) [
+      | true ↦ λ e. absurd (other (sym (equal_keys nat_cmp-IsAntisymmetric mask h.mask e)))
+      | false ↦ λ e. refl
+    ] refl
+
 -- ---- a value at a home
 
 -- what the row at a home has of a kind
@@ -147,6 +157,7 @@ pub record IsWritten (w : World) (e : Entity) (kind : ℕ) (value : Value) (h : 
   pub alike : (on : ℕ → Bool) → on kind ≡ false → AreTablesAlike on tables w.tables
   pub here : HasAt tables h kind (Some value)
   pub stays : (g : Home) (q : ℕ) (o : Option Value) → HasAt w.tables g q o → (g ≡ h → q ≡ kind → o ≡ Some value) → HasAt tables g q o
+  pub elsewhere : (mask : KindSet) → (h.mask ≡ mask → ⊥) → rows_at tables mask ≡ rows_at w.tables mask
 
 no_fault_known : (schema : Kinds) (kind : ℕ) (value : Value) → fits_kind schema value kind ≡ true → insert_fault schema kind value ≡ None
 no_fault_known schema kind value fits =
@@ -211,4 +222,5 @@ module _ (w : World) (e : Entity) (kind : ℕ) (value : Value) (h : Home) (valid
       value = ap (find nat_cmp kind) new_values ∙ found_put kind value (values_of can.row);
     };
     stays = value_stays;
+    elsewhere = rows_elsewhere w.tables h new_row;
   }

@@ -9,7 +9,8 @@ use Rattle.scene_kinds.specs.declared.cell.Cell.{Cell}
 use Rattle.scene_kinds.specs.declared.cells.Row.{Row}
 use Rattle.scene_kinds.specs.declared.value.Value.{Value}
 use Rattle.scene_kinds.specs.Cells.{cell_of}
-use Rattle.scene_table.specs.Tables.{Tables, row_at}
+use Rattle.scene_kinds.specs.KindSet.{KindSet}
+use Rattle.scene_table.specs.Tables.{Tables, row_at, rows_at}
 use Rattle.scene_table.specs.declared.home.Home.{Home}
 use Rattle.scene_model.specs.World.{World}
 use Rattle.scene_model.specs.Perform.{Insert, perform}
@@ -82,6 +83,7 @@ pub record AreWritten (wanted : Wanted) (w : World) (writes : List Write) : Type
   pub stays : (h : Home) (kind : ℕ) (o : Option Value) → HasAt w.tables h kind o → IsSettled wanted h kind o → HasAt tables h kind o
   pub made : (x : Write) → Contains writes x → (h : Home) (row : Row) → row_at w.tables h ≡ Some row → row.entity ≡ x.0 → wanted h x.1.0 ≡ Some x.1.1
       → HasAt tables h x.1.0 (Some x.1.1)
+  pub elsewhere : (mask : KindSet) → ((h : Home) (kind : ℕ) (v : Value) → wanted h kind ≡ Some v → h.mask ≡ mask → ⊥) → rows_at tables mask ≡ rows_at w.tables mask
 
 -- a cell may still be written after others
 has_cell_of : (row other : Row) (kind : ℕ) (old : Cell) (o : Option Cell) → IsRowAlike (λ k. false) row other → cell_of row.cells kind ≡ Some old → cell_of other.cells kind ≡ o
@@ -111,6 +113,7 @@ written_in_turn wanted w [] valid each = record {
   alike = λ on off. tables_themselves on w.tables;
   stays = λ h kind o a settled. a;
   made = λ x g. none_in x g;
+  elsewhere = λ mask other. refl;
 }
 written_in_turn wanted w (x ∷ xs) valid each =
     let k = each x (first_in x xs) in
@@ -132,6 +135,7 @@ written_in_turn wanted w (x ∷ xs) valid each =
           (λ r.
           let o = home_alike (λ k. false) w.tables one.tables h row back at in
           rest.made y r h o.0 o.1.0 (sym o.1.1.entity ∙ same) is);
+      elsewhere = λ mask other. rest.elsewhere mask other ∙ one.elsewhere mask (other k.home x.1.0 x.1.1 k.is);
     }
 
 -- a queue of them is accepted

@@ -4,7 +4,7 @@ use Rattle.std.specs.List.{range_with_len}
 use Rattle.scene_kinds.specs.declared.shape.Shape.TheVariants as shape
 use Rattle.scene_kinds.specs.KindSet.{KindSet}
 use Rattle.scene_kinds.specs.Schema.{Kinds}
-use Rattle.scene_systems.specs.declared.row_step.RowStep.TheVariants.{AddVec, AddInt}
+use Rattle.scene_table.specs.declared.row_step.RowStep.TheVariants.{AddVec, AddInt}
 use Rattle.scene_systems.specs.declared.step.Step.{Step}
 use Rattle.scene_systems.specs.declared.step.Step.TheVariants.{Row, DespawnAtZero, CountInto}
 use Rattle.scene_systems.specs.declared.system_rule.SystemRule.{SystemRule}

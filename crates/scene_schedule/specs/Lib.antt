@@ -6,3 +6,4 @@ pub mod Output
 pub mod AtOnce
 pub mod Turns
 pub mod Calls
+pub mod TableWrites

@@ -12,11 +12,11 @@ use Rattle.scene_kinds.specs.KindSet.{KindSet, has_kind, kinds_in}
 use Rattle.scene_kinds.specs.Schema.{Kinds, is_good_name, shape_of}
 use Rattle.scene_kinds.specs.Shape.{same_shape}
 use Rattle.scene_model.specs.Commands.{spawn_fault}
-use Rattle.scene_systems.specs.declared.row_step.RowStep.TheVariants.{AddVec, AddInt}
+use Rattle.scene_table.specs.declared.row_step.RowStep.TheVariants.{AddVec, AddInt}
 use Rattle.scene_systems.specs.declared.step.Step.{Step}
 use Rattle.scene_systems.specs.declared.step.Step.TheVariants.{Row, DespawnAtZero, SpawnChild, CountInto}
 use Rattle.scene_systems.specs.declared.system_rule.SystemRule.{SystemRule}
-use Rattle.scene_systems.specs.RowStep.{target}
+use Rattle.scene_table.specs.RowStep.{target}
 
 -- ---- rules
 

@@ -20,7 +20,7 @@ use Rattle.scene_model.specs.Perform.{Act, Insert}
 use Rattle.scene_machine.specs.Queue.{Request, known}
 use Rattle.scene_machine.specs.Frame.{queue, queues_from}
 use Rattle.scene_queue.specs.Requests.{requests}
-use Rattle.scene_systems.specs.declared.row_step.RowStep.{RowStep}
+use Rattle.scene_table.specs.declared.row_step.RowStep.{RowStep}
 use Rattle.scene_systems.specs.declared.step.Step.{Step}
 use Rattle.scene_systems.specs.declared.step.Step.TheVariants.{Row, DespawnAtZero, SpawnChild, CountInto}
 use Rattle.scene_systems.specs.declared.system_rule.SystemRule.{SystemRule}

@@ -1,21 +1,22 @@
 //! An advance by a schedule, as a frame.
-ghost use Rattle.std.specs.Prelude.{◌≡◌, ◌≢◌, IfOk, IfErr, OnOk, Ok, Err};
+ghost use Rattle.std.specs.Prelude.{◌≡◌, ◌≢◌, IfOk, IfErr, Err};
 ghost use Rattle.scene_kinds.specs.Answers.{refusal_of};
 ghost use Rattle.scene_kinds.specs.declared.fault.Fault.TheVariants.{NoMemory};
 ghost use Rattle.scene_model.specs.Perform.{perform};
-ghost use Rattle.scene_world.specs.Room.{IsWider};
 ghost use Rattle.scene_world.specs.Stage.{act};
 ghost use Rattle.scene_schedule.specs.Output.{IsOutputOf};
 ghost use Rattle.scene_schedule.specs.Sound.{IsSoundPhase};
-ghost use Rattle.scene_schedule.specs.Systems.{systems_from, phase, place_in, in_phase, phases_from, advance_of};
+ghost use Rattle.scene_schedule.specs.Systems.{systems_from, advance_of};
 
 use crate::count::count_commands;
 use crate::output::PhaseOutput;
+use crate::phase_player::{PhasePlayer, play_phases};
 use crate::schedule::Schedule;
 use crate::write::write_all;
-use scene_kinds::{Entity, Fault, Place, Refusal};
+use scene_kinds::{Entity, Fault, Refusal};
 use scene_queue::apply_owned;
 use scene_systems::SystemRule;
+use scene_table::{ColumnWriter, WritesAlone};
 use scene_world::{Frame, Stage, World};
 use std::alloc::Global;
 
@@ -41,99 +42,28 @@ pub trait PhaseRunner {
         ensures refused { IfErr result (λ r. r ≢ refusal_of NoMemory → systems_from perform (λ w. w) 0 rules.now world.now.world ≡ Err r) };
 }
 
-/// The refusal of a phase, with the phase's number in its place.
-fn placed(refusal: Refusal, phase: u32) -> Refusal
-    ensures { result ≡ record refusal { place = place_in phase refusal.place } }
-{
-    match refusal.place {
-        None => refusal,
-        Some(place) => Refusal {
-            fault: refusal.fault,
-            place: Some(Place {
-                phase,
-                queue: place.queue,
-                command: place.command,
-            }),
-        },
-    }
+/// The systems of a phase all see the world as it is, then their cells are written, and then their queues are applied.
+#[derive(Clone, Copy)]
+struct OnOpeningWorld<'a, P> {
+    runner: &'a P,
 }
 
-/// Runs the systems of a phase on a stage: they all see its world as it is, then their cells are written, and then
-/// their queues are applied.
-fn play_systems<S: Stage, P: PhaseRunner>(
-    alloc: Global,
-    rules: &[SystemRule],
-    runner: &P,
-    stage: &mut S,
-) -> Result<Vec<Entity>, Refusal>
-    requires ready { P.can runner.now }
-    requires sound { IsSoundPhase (S.seen stage.old).world.schema rules.now }
-    ensures played { IfOk result (λ es. phase (act S.note) (λ t. t.world) rules.now (S.seen stage.old) ≡ Ok (es.items, S.seen stage.new)) }
-    ensures refused { IfErr result (λ r. r ≢ refusal_of NoMemory → phase perform (λ w. w) rules.now (S.seen stage.old).world ≡ Err r) }
-    ensures opening { S.opening stage.new ≡ S.opening stage.old }
-    ensures wide { IsWider (S.room stage.old) (S.room stage.new) }
-{
-    let output = runner.run_phase(alloc, stage.world(), rules)?;
-    let (rows, queues) = output.into_parts();
-    let more = count_commands(queues.as_slice());
-    write_all(rows.as_slice(), more, stage)?;
-    apply_owned(alloc, queues, stage)
-}
+impl<P: PhaseRunner> PhasePlayer for OnOpeningWorld<'_, P> {
+    ghost can = { λ p. P.can p.runner.now };
 
-/// Runs a phase of this number on a stage.
-fn play_phase<S: Stage, P: PhaseRunner>(
-    alloc: Global,
-    rules: &[SystemRule],
-    number: u32,
-    runner: &P,
-    stage: &mut S,
-) -> Result<Vec<Entity>, Refusal>
-    requires ready { P.can runner.now }
-    requires sound { IsSoundPhase (S.seen stage.old).world.schema rules.now }
-    ensures played { IfOk result (λ es. in_phase number (phase (act S.note) (λ t. t.world) rules.now (S.seen stage.old))
-        ≡ Ok (es.items, S.seen stage.new)) }
-    ensures refused { IfErr result (λ r. r ≢ refusal_of NoMemory
-        → in_phase number (phase perform (λ w. w) rules.now (S.seen stage.old).world) ≡ Err r) }
-    ensures schema { OnOk result ((S.seen stage.new).world.schema ≡ (S.seen stage.old).world.schema) }
-    ensures opening { S.opening stage.new ≡ S.opening stage.old }
-    ensures wide { IsWider (S.room stage.old) (S.room stage.new) }
-{
-    match play_systems(alloc, rules, runner, stage) {
-        Ok(spawned) => Ok(spawned),
-        Err(refusal) => Err(placed(refusal, number)),
+    fn play_systems<S: Stage, W: ColumnWriter>(
+        &self,
+        alloc: Global,
+        _writer: &W,
+        rules: &[SystemRule],
+        stage: &mut S,
+    ) -> Result<Vec<Entity>, Refusal> {
+        let output = self.runner.run_phase(alloc, stage.world(), rules)?;
+        let (rows, queues) = output.into_parts();
+        let more = count_commands(queues.as_slice());
+        write_all(rows.as_slice(), more, stage)?;
+        apply_owned(alloc, queues, stage)
     }
-}
-
-/// Runs the phases of a schedule, one after another, on a stage whose world has the schedule's kinds.
-fn play_phases<S: Stage, P: PhaseRunner>(
-    alloc: Global,
-    schedule: &Schedule,
-    runner: &P,
-    stage: &mut S,
-) -> Result<Vec<Entity>, Refusal>
-    requires ready { P.can runner.now }
-    requires kinds { (S.seen stage.old).world.schema ≡ schedule.now.schema }
-    ensures played { IfOk result (λ es. phases_from (act S.note) (λ t. t.world) 0 schedule.now.phases (S.seen stage.old)
-        ≡ Ok (es.items, S.seen stage.new)) }
-    ensures refused { IfErr result (λ r. r ≢ refusal_of NoMemory
-        → phases_from perform (λ w. w) 0 schedule.now.phases (S.seen stage.old).world ≡ Err r) }
-    ensures opening { S.opening stage.new ≡ S.opening stage.old }
-    ensures wide { IsWider (S.room stage.old) (S.room stage.new) }
-{
-    let mut spawned = Vec::new(alloc);
-    let mut at: u32 = 0;
-    'phases: for phase in schedule.phases() {
-        match play_phase(alloc, phase.systems(), at, runner, stage) {
-            Ok(mut made) => {
-                if spawned.append(&mut made).is_err() {
-                    return Err(Refusal::from(Fault::NoMemory));
-                }
-            }
-            Err(refusal) => return Err(refusal),
-        }
-        at += 1;
-    }
-    Ok(spawned)
 }
 
 /// An advance by a schedule (docs/MODEL.md, "The rule of schedules"): its phases one after another.
@@ -158,6 +88,9 @@ impl<P: PhaseRunner> Frame for Advance<'_, P> {
         if !self.schedule.is_for(stage.world().schema()) {
             return Err(Refusal::from(Fault::OtherSchema));
         }
-        play_phases(alloc, self.schedule, &self.runner, stage)
+        let player = OnOpeningWorld {
+            runner: &self.runner,
+        };
+        play_phases(alloc, self.schedule, &player, &WritesAlone, stage)
     }
 }

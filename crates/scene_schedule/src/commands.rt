@@ -19,7 +19,7 @@ use std::alloc::Global;
 
 /// Puts a command last. A queue takes more commands than a system has, since a world has at most 1,048,576 rows and a
 /// system 16 steps; so only want of memory is answered.
-fn put(queue: &mut Queue, command: Command) -> Result<(), Refusal>
+pub(crate) fn put(queue: &mut Queue, command: Command) -> Result<(), Refusal>
     ensures put { OnOk result (queue.new.commands ≡ queue.old.commands ++ command ∷ []) }
     ensures refused { IfErr result (λ r. r ≡ refusal_of NoMemory) }
 {
@@ -78,7 +78,11 @@ fn push_spawn(queue: &mut Queue, cells: &Components) -> Result<Target, Refusal>
 }
 
 /// Puts the child of a row.
-fn push_child(queue: &mut Queue, cells: &Components, parent: Entity) -> Result<(), Refusal>
+pub(crate) fn push_child(
+    queue: &mut Queue,
+    cells: &Components,
+    parent: Entity,
+) -> Result<(), Refusal>
     ensures put { OnOk result (queue.new.commands
         ≡ queue.old.commands ++ Spawn cells.now ∷ SetParent (New (spawns queue.old.commands)) (Id parent) ∷ []) }
     ensures refused { IfErr result (λ r. r ≡ refusal_of NoMemory) }

@@ -5,7 +5,7 @@ ghost use Rattle.scene_kinds.specs.declared.value.Value.TheVariants.{Int};
 ghost use Rattle.scene_commands.specs.declared.command.Command.TheVariants.{Spawn, DespawnAllIfAlive, SetParent, PutResource};
 ghost use Rattle.scene_commands.specs.declared.target.Target.TheVariants.{Id, New};
 ghost use Rattle.scene_pass.specs.Examples.{three_tables, ent};
-ghost use Rattle.scene_systems.specs.declared.row_step.RowStep.TheVariants.{AddVec, AddInt};
+ghost use Rattle.scene_table.specs.declared.row_step.RowStep.TheVariants.{AddVec, AddInt};
 ghost use Rattle.scene_systems.specs.declared.step.Step.TheVariants.{Row, DespawnAtZero, SpawnChild, CountInto};
 ghost use Rattle.scene_schedule.specs.Examples.{three_kinds, doing, move, count_down, end_at_zero, idle, empty_phases};
 ghost use Rattle.scene_schedule.specs.AtOnce.{SystemsSeeTheOpeningWorld, output_of, first_overflow};

@@ -11,6 +11,9 @@
 //! `Advance` is the frame: phase by phase a `PhaseRunner` makes the output, its rows are written, and its queues are
 //! applied. `Alone` runs phases on the calling thread, and `RunBy` by a closure, as one that calls `run_shared` with
 //! threads (docs/MODEL.md, "Many threads, one answer").
+//!
+//! `InTurn` is the same frame by a writer of columns: each system writes to its tables before the next one reads, a whole
+//! column at a time where its steps allow it. `specs/TableWrites.antt` says what is written to the tables.
 #![tactic(auto)]
 
 mod advance;
@@ -19,8 +22,11 @@ mod commands;
 mod conflict;
 mod count;
 mod gate;
+mod in_turn;
 mod laws;
 mod output;
+mod phase_player;
+mod queued;
 mod rule;
 mod runner;
 mod schedule;
@@ -33,6 +39,7 @@ mod zero;
 
 pub use advance::{Advance, PhaseRunner};
 pub use gate::{Gate, OpenGate};
+pub use in_turn::InTurn;
 pub use laws::{
     schedules_are_just_what_is_sound, systems_see_the_opening_world, worked_schedules,
     worked_systems,

@@ -1,9 +1,10 @@
 //! What the systems of a phase make of the opening world.
-ghost use Rattle.std.specs.Prelude.{◌≡◌, ◌≢◌, ◌≤◌, ◌++◌, [], ◌∷◌, Err, IfOk, IfErr, OnOk, length};
+ghost use Rattle.std.specs.Prelude.{◌≡◌, ◌≢◌, ◌≤◌, ◌++◌, [], ◌∷◌, Err, IfOk, IfErr, OnOk, All, length};
 ghost use Rattle.scene_kinds.specs.Answers.{refusal_of};
 ghost use Rattle.scene_kinds.specs.declared.fault.Fault.TheVariants.{NoMemory};
 ghost use Rattle.scene_model.specs.Perform.{perform};
 ghost use Rattle.scene_schedule.specs.Systems.{changes_of, overflow_at, row_steps, systems_from};
+ghost use Rattle.scene_schedule.specs.TableWrites.{AddsInRange};
 ghost use Rattle.scene_schedule.specs.AtOnce.{IsMadeOf, Overflows};
 ghost use Rattle.scene_schedule.specs.Output.{IsOutputOf};
 ghost use Rattle.scene_schedule.specs.Sound.{IsSoundPhase};
@@ -17,20 +18,34 @@ use scene_systems::{RowStep, Step, SystemRule};
 use scene_world::World;
 use std::alloc::{AllocError, Global};
 
+/// The same step. And a number that it adds is one that its type can hold.
+#[tactic(auto, using(scene_kinds::proofs::Ranges::int_in_range))]
+fn in_range(step: RowStep) -> RowStep
+    ensures same { result ≡ step }
+    ensures range { AddsInRange step }
+{
+    match step {
+        RowStep::AddVec { .. } => step,
+        RowStep::AddInt { to, by } => RowStep::AddInt { to, by },
+    }
+}
+
 /// Adds a step, if it writes.
 fn push_row(list: &mut Vec<RowStep>, step: &Step) -> Result<(), AllocError>
-    ensures { OnOk result (list.new.items ≡ list.old.items ++ row_steps (step.now ∷ [])) }
+    ensures pushed { OnOk result (list.new.items ≡ list.old.items ++ row_steps (step.now ∷ [])) }
+    ensures range { All AddsInRange list.old.items → OnOk result (All AddsInRange list.new.items) }
 {
     if let Step::Row(row_step) = step {
-        list.push(*row_step)?;
+        list.push(in_range(*row_step))?;
     }
     Ok(())
 }
 
 /// The steps that write, first to last, or an error where no memory was found.
-fn row_steps(alloc: Global, steps: &[Step]) -> Result<Vec<RowStep>, AllocError>
+pub(crate) fn row_steps(alloc: Global, steps: &[Step]) -> Result<Vec<RowStep>, AllocError>
     ensures steps { IfOk result (λ list. list.items ≡ row_steps steps.now) }
     ensures few { IfOk result (λ list. length list.items ≤ length steps.now) }
+    ensures range { IfOk result (λ list. All AddsInRange list.items) }
 {
     let mut list = Vec::new(alloc);
     'steps: for at in 0..steps.len() {
@@ -40,7 +55,7 @@ fn row_steps(alloc: Global, steps: &[Step]) -> Result<Vec<RowStep>, AllocError>
 }
 
 /// An overflow of a system, by its place in the phase.
-fn overflow_at(system: u32, fault: (Entity, u32)) -> Refusal
+pub(crate) fn overflow_at(system: u32, fault: (Entity, u32)) -> Refusal
     ensures { result ≡ overflow_at system fault }
 {
     Refusal {
@@ -54,7 +69,11 @@ fn overflow_at(system: u32, fault: (Entity, u32)) -> Refusal
 }
 
 /// What a system makes of its rows, or want of memory.
-fn changes_of(alloc: Global, world: &World, rule: &SystemRule) -> Result<Vec<RowChange>, Refusal>
+pub(crate) fn changes_of(
+    alloc: Global,
+    world: &World,
+    rule: &SystemRule,
+) -> Result<Vec<RowChange>, Refusal>
     requires { length rule.now.steps ≤ 16 }
     ensures made { IfOk result (λ made. made.items ≡ changes_of world.now.world rule.now) }
     ensures refused { IfErr result (λ r. r ≡ refusal_of NoMemory) }

@@ -68,7 +68,7 @@ fn write_row<S: Stage>(row: &RowChange, stage: &mut S) -> Result<(), Refusal>
 }
 
 /// Writes the rows of a system one after another.
-fn write_rows<S: Stage>(rows: &[RowChange], stage: &mut S) -> Result<(), Refusal>
+pub(crate) fn write_rows<S: Stage>(rows: &[RowChange], stage: &mut S) -> Result<(), Refusal>
     ensures written { OnOk result (play (act S.note) (writes_of rows.now) (S.seen stage.old) ≡ whole (reached (S.seen stage.new) [])) }
     ensures refused { IfErr result (λ r. r ≡ refusal_of NoMemory) }
     ensures opening { S.opening stage.new ≡ S.opening stage.old }

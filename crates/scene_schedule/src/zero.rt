@@ -11,7 +11,7 @@ use scene_pass::{Outcome, RowChange};
 use scene_world::World;
 
 /// Whether a value is the number 0.
-fn is_zero(value: &Value) -> bool
+pub(crate) fn is_zero(value: &Value) -> bool
     ensures { result ≡ is_zero_value value.now }
 {
     match value {

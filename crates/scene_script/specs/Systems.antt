@@ -6,7 +6,7 @@ use Rattle.scene_kinds.specs.declared.value.Value.{Value}
 use Rattle.scene_kinds.specs.KindSet.{KindSet, set_with}
 use Rattle.scene_kinds.specs.Schema.{Kinds}
 use Rattle.scene_systems.specs.declared.filter.Filter.{Filter}
-use Rattle.scene_systems.specs.declared.row_step.RowStep.TheVariants.{AddVec, AddInt}
+use Rattle.scene_table.specs.declared.row_step.RowStep.TheVariants.{AddVec, AddInt}
 use Rattle.scene_systems.specs.declared.step.Step.{Step}
 use Rattle.scene_systems.specs.declared.step.Step.TheVariants.{Row, DespawnAtZero, SpawnChild, CountInto}
 use Rattle.scene_systems.specs.declared.system_rule.SystemRule.{SystemRule}

@@ -11,13 +11,12 @@
 mod filter;
 mod laws;
 mod phase;
-mod row_step;
 mod step;
 mod system_rule;
 
 pub use filter::Filter;
 pub use laws::filters_say_each_kind;
 pub use phase::Phase;
-pub use row_step::RowStep;
+pub use scene_table::RowStep;
 pub use step::{Step, Steps};
 pub use system_rule::SystemRule;

@@ -1,9 +1,9 @@
 //! The steps of a system.
 ghost use Rattle.std.specs.Prelude.{◌≡◌, IfOk};
 
-use crate::row_step::RowStep;
 use scene_commands::Components;
 use scene_kinds::Text;
+use scene_table::RowStep;
 use std::alloc::AllocError;
 use std::marker::Model;
 

@@ -1,8 +1,9 @@
 -- The cells of a column, when each of its lists changes at a place.
-use Rattle.std.proofs.Common.{◌≡◌, ℕ, ◌<◌, ◌≤◌, List, [], ◌∷◌, ◌++◌, length, get_or, refl, ap, sym, ◌∙◌, arith, Some}
+use Rattle.std.proofs.Common.{◌≡◌, ℕ, ◌<◌, ◌≤◌, List, [], ◌∷◌, ◌++◌, length, get_or, refl, ap, sym, ◌∙◌, arith, Some, map}
 use Rattle.std.specs.Prelude.{slice_get, slice_set}
 use Rattle.std.specs.List.{swap, swap_remove}
 use Rattle.std.proofs.lemmas.Option.{slice_get_read}
+use Rattle.scene_kinds.specs.declared.cell.Cell.{Cell}
 use Rattle.scene_kinds.specs.declared.value.Value.{Value}
 use Rattle.scene_table.specs.Rows.{swap_out, put_back}
 use Rattle.scene_table.specs.Columns.{zip_with, stamped, ticks, cells_of, IsColumn}
@@ -46,3 +47,11 @@ module _ (values : List Value) (added changed : List ℕ) (is : IsColumn values 
   cells_of-get i v a c within x y z =
       zip-get stamped values _ i v (a, c) (slice_get_read values (length values) i v refl within x)
       (zip-get ticks added changed i a c (slice_get_read added (length added) i a refl (omega (arith, is.ticks_added)) y) (slice_get_read changed (length changed) i c refl (omega (arith, is.ticks_changed)) z))
+
+-- the ticks at which cells were added
+pub added_of : (values : List Value) (added changed : List ℕ) → length added ≡ length values → length changed ≡ length values → map (λ (cell : Cell). cell.added) (cells_of values added changed) ≡ added
+added_of [] [] changed e f = refl
+added_of [] (a ∷ added) changed e f = absurd (omega (arith, e))
+added_of (v ∷ values) [] changed e f = absurd (omega (arith, e))
+added_of (v ∷ values) (a ∷ added) [] e f = absurd (omega (arith, f))
+added_of (v ∷ values) (a ∷ added) (c ∷ changed) e f = ap (λ t. a ∷ t) (added_of values added changed (omega (arith, e)) (omega (arith, f)))

@@ -20,17 +20,7 @@ use Rattle.scene_kinds.specs.Cells.{HasKinds, cell_of, mask_of}
 use Rattle.scene_kinds.specs.KindSet.{has_kind}
 use Rattle.scene_kinds.proofs.KindSets.{has_kind-mask_of}
 use Rattle.scene_kinds.proofs.Masks.{mask-cons}
-use Rattle.scene_table.specs.Columns.{ColumnState, kinds_of, kinds_in, AreLong, AreColumnsOf}
-
--- a kind is below each of a list
-abbrev pub is_below : ℕ → List ℕ → Bool
-is_below k [] = true
-is_below k (j ∷ js) = is_lt (nat_cmp k j) && is_below k js
-
--- kinds strictly rise
-abbrev pub rises : List ℕ → Bool
-rises [] = true
-rises (k ∷ ks) = is_below k ks && rises ks
+use Rattle.scene_table.specs.Columns.{ColumnState, kinds_of, kinds_in, AreLong, AreColumnsOf, is_below, rises}
 
 -- their set
 abbrev pub bits : List ℕ → ℕ
@@ -179,7 +169,7 @@ alike None (Some b) e = absurd (let g : false ≡ true = e in cc)
 alike (Some a) None e = absurd (let g : true ≡ false = e in cc)
 alike (Some a) (Some b) e = refl
 
-same_key : (x y : ℕ) → nat_cmp x y ≡ Equal → x ≡ y
+pub same_key : (x y : ℕ) → nat_cmp x y ≡ Equal → x ≡ y
 same_key x y e = grind (arith, nat_tests)
 
 -- two rows with just the kinds of a set have the same kinds, in one order

@@ -63,7 +63,7 @@ length-rows_of entities (column ∷ columns) long =
     zip-length (with_first column.kind) column.cells (rows_of entities columns) (first ∙ sym rest) ∙ first
 
 -- the first column is as long as the rows of the others
-same_length : (entities : List Entity) (column : ColumnState) (columns : List ColumnState) → AreLong (length entities) (column ∷ columns) → length column.cells ≡ length (rows_of entities columns)
+pub same_length : (entities : List Entity) (column : ColumnState) (columns : List ColumnState) → AreLong (length entities) (column ∷ columns) → length column.cells ≡ length (rows_of entities columns)
 same_length entities column columns long = first_long (length entities) column columns long ∙ sym (length-rows_of entities columns (rest_long (length entities) column columns long))
 
 -- a row leaves, with its entity and a cell of each column
@@ -189,14 +189,14 @@ entities_of entities (column ∷ columns) long = second column.cells (rows_of en
     second (c ∷ cells) (r ∷ rows) e = ap (λ t. r.entity ∷ t) (second cells rows (omega arith))
 
 -- a first cell of the kind is the cell of the kind
-kind_here : (kind k : ℕ) (cells : List Cell) (rows : List Row) → nat_eq kind k ≡ true → length cells ≡ length rows → map (λ (row : Row). cell_of row.cells kind) (zip_with (with_first k) cells rows) ≡ map (λ (cell : Cell). Some cell) cells
+pub kind_here : (kind k : ℕ) (cells : List Cell) (rows : List Row) → nat_eq kind k ≡ true → length cells ≡ length rows → map (λ (row : Row). cell_of row.cells kind) (zip_with (with_first k) cells rows) ≡ map (λ (cell : Cell). Some cell) cells
 kind_here kind k [] rows t e = refl
 kind_here kind k (c ∷ cells) [] t e = absurd (omega arith)
 kind_here kind k (c ∷ cells) (r ∷ rows) t e =
     λ i. cond ((eq_by_cmp-nat_eq kind k ∙ t) i) (Some c) (cell_of r.cells kind) ∷ kind_here kind k cells rows t (omega arith) i
 
 -- of another kind it changes nothing
-kind_later : (kind k : ℕ) (cells : List Cell) (rows : List Row) → nat_eq kind k ≡ false → length cells ≡ length rows → map (λ (row : Row). cell_of row.cells kind) (zip_with (with_first k) cells rows) ≡ map (λ (row : Row). cell_of row.cells kind) rows
+pub kind_later : (kind k : ℕ) (cells : List Cell) (rows : List Row) → nat_eq kind k ≡ false → length cells ≡ length rows → map (λ (row : Row). cell_of row.cells kind) (zip_with (with_first k) cells rows) ≡ map (λ (row : Row). cell_of row.cells kind) rows
 kind_later kind k [] [] t e = refl
 kind_later kind k [] (r ∷ rows) t e = absurd (omega arith)
 kind_later kind k (c ∷ cells) [] t e = absurd (omega arith)

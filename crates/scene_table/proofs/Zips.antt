@@ -1,5 +1,5 @@
 -- Two lists made one: what is done to both is done to the one.
-use Rattle.std.proofs.Common.{◌≡◌, ◌≤◌, ℕ, zero, suc, List, [], ◌∷◌, ◌++◌, length, refl, ap, arith, Some, None}
+use Rattle.std.proofs.Common.{◌≡◌, ◌≤◌, ℕ, zero, suc, List, [], ◌∷◌, ◌++◌, length, take, drop, refl, ap, sym, arith, Some, None}
 use Rattle.std.specs.Prelude.{slice_get, slice_set}
 use Rattle.scene_table.specs.Rows.{last_of, front_of, last_first, swap_out, put_back}
 use Rattle.scene_table.specs.Columns.{zip_with}
@@ -17,8 +17,25 @@ module _ {X Y Z : Type 0} (f : X → Y → Z) where
   zip-low (x ∷ xs) [] = (omega arith, omega arith)
   zip-low (x ∷ xs) (y ∷ ys) = let rest = zip-low xs ys in (omega (arith, rest.0), omega (arith, rest.1))
 
+  -- the first of both, and those behind them
+  pub zip-take : (n : ℕ) (xs : List X) (ys : List Y) → take n (zip_with f xs ys) ≡ zip_with f (take n xs) (take n ys)
+  zip-take zero xs ys = refl
+  zip-take (suc n) [] ys = refl
+  zip-take (suc n) (x ∷ xs) [] = refl
+  zip-take (suc n) (x ∷ xs) (y ∷ ys) = ap (λ t. f x y ∷ t) (zip-take n xs ys)
+
+  zip-none : (xs : List X) → zip_with f xs [] ≡ []
+  zip-none [] = refl
+  zip-none (x ∷ xs) = refl
+
+  pub zip-drop : (n : ℕ) (xs : List X) (ys : List Y) → drop n (zip_with f xs ys) ≡ zip_with f (drop n xs) (drop n ys)
+  zip-drop zero xs ys = refl
+  zip-drop (suc n) [] ys = refl
+  zip-drop (suc n) (x ∷ xs) [] = sym (zip-none (drop n xs))
+  zip-drop (suc n) (x ∷ xs) (y ∷ ys) = zip-drop n xs ys
+
   -- one more of each
-  zip-last : (xs : List X) (ys : List Y) (x : X) (y : Y) → length xs ≡ length ys → zip_with f (xs ++ x ∷ []) (ys ++ y ∷ []) ≡ zip_with f xs ys ++ f x y ∷ []
+  pub zip-last : (xs : List X) (ys : List Y) (x : X) (y : Y) → length xs ≡ length ys → zip_with f (xs ++ x ∷ []) (ys ++ y ∷ []) ≡ zip_with f xs ys ++ f x y ∷ []
   zip-last [] [] x y e = refl
   zip-last [] (v ∷ ys) x y e = absurd (omega arith)
   zip-last (u ∷ xs) [] x y e = absurd (omega arith)

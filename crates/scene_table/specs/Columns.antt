@@ -1,6 +1,7 @@
 -- Columns: the cells of one kind, and the rows that a table's columns make.
-use Rattle.std.specs.Prelude.{◌≡◌, ℕ, ◌<◌, ◌≤◌, min, length, List, [], ◌∷◌, map, All, Some, slice_get}
+use Rattle.std.specs.Prelude.{◌≡◌, ℕ, ◌<◌, ◌≤◌, min, length, List, [], ◌∷◌, map, All, Some, slice_get, nat_eq, cond, Bool, true, ◌&&◌}
 use Rattle.std.specs.Option.{option_map}
+use Rattle.std.specs.Ordering.{nat_cmp, is_lt}
 use Rattle.scene_kinds.specs.Cells.{HasKinds}
 use Rattle.scene_kinds.specs.declared.cell.Cell.{Cell}
 use Rattle.scene_kinds.specs.declared.cells.Row.{Row}
@@ -52,6 +53,11 @@ put_each at [] columns = columns
 put_each at (cell ∷ cells) [] = []
 put_each at (cell ∷ cells) (column ∷ columns) = back_in_column at column cell.1 ∷ put_each at cells columns
 
+-- the columns, the first of a kind with other cells
+abbrev pub with_cells_of : ℕ → (ColumnState → List Cell) → List ColumnState → List ColumnState
+with_cells_of kind cells [] = []
+with_cells_of kind cells (column ∷ columns) = cond (nat_eq kind column.kind) (record column { cells = cells column } ∷ columns) (column ∷ with_cells_of kind cells columns)
+
 -- the kinds of columns
 abbrev pub kinds_of : List ColumnState → List ℕ
 kinds_of columns = map (λ column. column.kind) columns
@@ -59,6 +65,16 @@ kinds_of columns = map (λ column. column.kind) columns
 -- the kinds of a row's cells
 abbrev pub kinds_in : List (ℕ × Cell) → List ℕ
 kinds_in cells = map (λ cell. cell.0) cells
+
+-- a kind is below each of a list
+abbrev pub is_below : ℕ → List ℕ → Bool
+is_below k [] = true
+is_below k (j ∷ js) = is_lt (nat_cmp k j) && is_below k js
+
+-- kinds strictly rise
+abbrev pub rises : List ℕ → Bool
+rises [] = true
+rises (k ∷ ks) = is_below k ks && rises ks
 
 -- the cells that columns have at a place
 abbrev pub AreCellsAt : List ColumnState → ℕ → List (ℕ × Cell) → Type 0

@@ -1,6 +1,12 @@
+pub mod CellWrites
 pub mod Columns
+pub mod LiveRuns
 pub mod Plain
 pub mod RowCells
+pub mod RowStep
 pub mod Rows
+pub mod Runs
+pub mod Steps
+pub mod Stored
 pub mod Table
 pub mod Tables

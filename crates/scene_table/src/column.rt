@@ -1,8 +1,12 @@
 //! A column of a table: the cells of one kind, as lists of values, of added ticks and of changed ticks.
-ghost use Rattle.std.specs.Prelude.{◌≡◌, ◌+◌, ◌<◌, ◌≤◌, [], length, slice_get, slice_set, Some, IsOk, OnOk, IfOk};
+ghost use Rattle.std.specs.Prelude.{◌≡◌, ◌+◌, ◌<◌, ◌≤◌, [], length, map, slice_get, slice_set, Some, IsOk, OnOk, IfOk};
 ghost use Rattle.scene_kinds.specs.Cells.{shown};
 ghost use Rattle.scene_table.specs.Columns.{out_of_column, back_in_column, cells_of};
+ghost use Rattle.scene_table.specs.Runs.{AreInRange, changed_of, grown};
 
+use crate::changed::ChangedTicks;
+use crate::series::Series;
+use crate::writer::ColumnWriter;
 use scene_kinds::{Cell, CellRef, Value};
 use std::alloc::{AllocError, Global};
 use std::marker::Model;
@@ -132,6 +136,27 @@ impl Column {
             added: self.added.as_slice(),
             changed: self.changed.as_slice(),
         }
+    }
+
+    /// Writes the values of a series after so many turns, and the ticks of its number.
+    pub(crate) fn put_series<W: ColumnWriter>(
+        &mut self,
+        writer: &W,
+        series: &Series,
+        turns: i64,
+        number: usize,
+        changed: &ChangedTicks,
+    )
+        requires range { AreInRange (grown series.now turns) }
+        requires values { length (grown series.now turns) ≡ length self.old.cells }
+        requires ticks { length (changed_of changed.now number (length self.old.cells)) ≡ length self.old.cells }
+        ensures kind { self.new.kind ≡ self.old.kind }
+        ensures capacity { self.new.capacity ≡ self.old.capacity }
+        ensures cells { self.new.cells ≡ cells_of (grown series.now turns) (map (λ cell. cell.added) self.old.cells)
+            (changed_of changed.now number (length self.old.cells)) }
+    {
+        series.put(writer, self.values.as_mut_slice(), turns);
+        changed.put(number, self.changed.as_mut_slice());
     }
 
     /// A column with an equal kind and equal cells, or an error where no memory was found.

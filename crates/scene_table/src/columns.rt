@@ -5,11 +5,16 @@ ghost use Rattle.std.specs.Option.{option_map};
 ghost use Rattle.scene_kinds.specs.Cells.{cell_of, with_cell};
 ghost use Rattle.scene_kinds.specs.declared.cell.Cell.{Cell};
 ghost use Rattle.scene_table.specs.Plain.{has_text};
-ghost use Rattle.scene_table.specs.Columns.{AreColumnsOf, AreLong, AreCellsAt, HasRoomAt, IsGrown, IsSameColumn, kinds_of, kinds_in, put_each, out_of_column};
+ghost use Rattle.scene_table.specs.Columns.{AreColumnsOf, AreLong, AreCellsAt, HasRoomAt, IsGrown, IsSameColumn, kinds_of, kinds_in, put_each, out_of_column, with_cells_of};
+ghost use Rattle.scene_table.specs.Runs.{AreInRange, all_turned, changed_of, grown, turned};
+ghost use Rattle.scene_table.specs.declared.run.RunColumn.{RunColumn};
 
+use crate::changed::ChangedTicks;
 use crate::column::Column;
 use crate::plain::plain_cell;
 use crate::row_cells::{RowCells, Source};
+use crate::run::RunColumn;
+use crate::writer::ColumnWriter;
 use scene_kinds::{Cell, KindSet, has_kind};
 use std::alloc::{AllocError, Global};
 
@@ -94,6 +99,45 @@ pub(crate) fn put_row(columns: &mut [Column], at: usize, cells: RowCells<'_>)
     match cells.into_source() {
         Source::Own(cells) => put_cells(columns, at, cells.into_vec()),
         Source::Lent(cells) => put_copies(columns, at, cells.as_slice()),
+    }
+}
+
+/// Writes what a run's column of a number has after so many turns into the column of its kind. A table that never had
+/// rows may have none yet.
+fn put_column<W: ColumnWriter>(
+    writer: &W,
+    columns: &mut [Column],
+    of_run: &RunColumn,
+    turns: i64,
+    number: usize,
+    changed: &ChangedTicks,
+)
+    requires range { AreInRange (grown of_run.now.series turns) }
+    requires long { AreLong (length (grown of_run.now.series turns)) columns.old }
+    requires ticks { length (changed_of changed.now number (length (grown of_run.now.series turns))) ≡ length (grown of_run.now.series turns) }
+    ensures { columns.new ≡ with_cells_of of_run.now.kind (turned number of_run.now turns changed.now) columns.old }
+{
+    if let Some(at) = number_of(columns, of_run.kind) {
+        columns[at].put_series(writer, &of_run.series, turns, number, changed);
+    }
+}
+
+/// Writes what a run's columns have after so many turns, each into the column of its kind.
+pub(crate) fn put_columns<W: ColumnWriter>(
+    writer: &W,
+    columns: &mut [Column],
+    of_run: &[RunColumn],
+    turns: i64,
+    changed: &ChangedTicks,
+)
+    requires range { All (λ c. AreInRange (grown c.series turns)) of_run.now }
+    requires long { All (λ c. AreLong (length (grown c.series turns)) columns.old) of_run.now }
+    requires ticks { (number : ℕ) (c : RunColumn) → slice_get of_run.now number ≡ Some c
+        → length (changed_of changed.now number (length (grown c.series turns))) ≡ length (grown c.series turns) }
+    ensures { columns.new ≡ all_turned 0 of_run.now turns changed.now columns.old }
+{
+    for number in 0..of_run.len() {
+        put_column(writer, columns, &of_run[number], turns, number, changed);
     }
 }
 

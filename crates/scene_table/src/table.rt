@@ -1,21 +1,26 @@
 //! A table, as the list of its rows.
-ghost use Rattle.std.specs.Prelude.{◌≡◌, ◌+◌, ◌^◌, ◌<◌, ◌≤◌, [], ◌∷◌, ◌++◌, length, map, slice_get, vec_capacity, Some, IsTrue, ◌↔◌, IsSome, IsOk, OnOk, OnErr, IfOk, IfErr, IfSome, IfNone, true, false};
+ghost use Rattle.std.specs.Prelude.{◌≡◌, ◌+◌, ◌^◌, ◌<◌, ◌≤◌, ℕ, All, [], ◌∷◌, ◌++◌, length, map, slice_get, vec_capacity, Some, IsTrue, ◌↔◌, IsSome, IsOk, OnOk, OnErr, IfOk, IfErr, IfSome, IfNone, true, false};
 ghost use Rattle.std.specs.Option.{option_map};
 ghost use Rattle.scene_kinds.specs.Cells.{HasKinds, shown};
 ghost use Rattle.scene_kinds.specs.KindSet.{has_kind, set_with, set_without};
 ghost use Rattle.scene_kinds.specs.declared.cells.Row.{Row};
 ghost use Rattle.scene_table.specs.Rows.{swap_out, put_back};
 ghost use Rattle.scene_table.specs.Columns.{cells_of};
+ghost use Rattle.scene_table.specs.Runs.{HoldsAt, added_in, changed_of, rows_after, rows_with_rows};
 ghost use Rattle.scene_table.specs.Tables.{row_for};
+ghost use Rattle.scene_table.specs.declared.run.RunColumn.{RunColumn};
 ghost use Rattle.scene_table.specs.Table.{AllHave, HasRoom, cell_at, cells_of_kind, row_with_cell, row_without_cell, rows_with_cell};
 
+use crate::changed::ChangedTicks;
 use crate::column::{Column, ColumnRef};
 use crate::columns::{
     clone_columns, drop_cells, make_columns, move_gaining, move_losing, number_for, number_of,
-    put_row, reserve_each, take_cells,
+    put_columns, put_row, reserve_each, take_cells,
 };
 use crate::entities::move_entity;
 use crate::row_cells::RowCells;
+use crate::run::Run;
+use crate::writer::ColumnWriter;
 use scene_kinds::{Cell, CellRef, Cells, Entity, KindSet, KindSetMethods, Row};
 use std::alloc::{AllocError, AllocFailed, Global};
 use std::marker::Model;
@@ -321,6 +326,28 @@ impl Table {
             Some(number) => self.columns[number].set(at, cell),
             None => unreachable!(),
         }
+    }
+
+    /// Writes the cells of a run after so many of its turns, with these changed ticks, its values by a writer. The rows
+    /// must be those of the run. It takes no memory, and costs a walk over the cells of the run.
+    pub fn put_run<W: ColumnWriter>(
+        &mut self,
+        writer: &W,
+        run: &Run,
+        turns: i64,
+        changed: &ChangedTicks,
+    )
+        requires mask { run.now.mask ≡ self.old.mask }
+        requires rows { run.now.entities ≡ map (λ row. row.entity) self.old.rows }
+        requires holds { HoldsAt run.now turns }
+        requires ticks { (number : ℕ) (c : RunColumn) → slice_get run.now.columns number ≡ Some c
+            → length (changed_of changed.now number (length self.old.rows)) ≡ length self.old.rows }
+        requires added { All (λ c. added_in self.old.rows c.kind ≡ map (λ tick. Some tick) c.added.items) run.now.columns }
+        ensures mask { self.new.mask ≡ self.old.mask }
+        ensures rows { self.new.rows ≡ rows_with_rows self.old.rows (rows_after run.now turns changed.now) }
+        ensures capacity { self.new.capacity ≡ self.old.capacity }
+    {
+        put_columns(writer, &mut self.columns, run.columns(), turns, changed);
     }
 
     /// Moves the row at a place to a place of the table that has one kind more, with a cell of that kind

@@ -6,8 +6,6 @@ ghost use Rattle.scene_model.specs.Perform.{perform};
 ghost use Rattle.scene_world.specs.Stage.{act};
 ghost use Rattle.scene_deltas.specs.Notes.{deltas_of};
 ghost use Rattle.scene_journal.specs.Records.{Record};
-ghost use Rattle.scene_schedule.specs.Calls.{IsRunOf};
-ghost use Rattle.scene_schedule.specs.Sound.{IsSoundPhase};
 ghost use Rattle.scene_schedule.specs.Systems.{advance_of};
 ghost use Rattle.scene_undo.specs.Editor.{IsRecordOf, entities_of, machine_of};
 ghost use Rattle.scene_undo.specs.Size.{IsNewestWithin, advance_size};
@@ -15,10 +13,12 @@ ghost use Rattle.scene_undo.specs.Size.{IsNewestWithin, advance_size};
 use crate::editor::Editor;
 use crate::made::Made;
 use scene_kinds::Refusal;
-use scene_schedule::{Advance, Alone, OpenGate, PhaseOutput, RunBy, Schedule, run_shared};
-use scene_systems::SystemRule;
-use scene_world::World;
+use scene_schedule::{InTurn, Schedule};
+use scene_table::{WritesAlone, WritesShared};
 use std::thread::Threads;
+
+/// The most workers that an advance has.
+const MOST_WORKERS: usize = 16;
 
 impl Editor {
     /// Advances by a schedule, all or nothing, on this thread: it raises the world's tick by one and runs the phases in
@@ -39,12 +39,12 @@ impl Editor {
         ensures few { OnOk result (IsNewestWithin (advance_size schedule.now self.old.world) self.new.past) }
         ensures same { OnErr result (self.new ≡ self.old) }
     {
-        let runner = Alone;
-        self.run(&Advance { schedule, runner })
+        let writer = WritesAlone;
+        self.run(&InTurn { schedule, writer })
     }
 
-    /// Advances by a schedule, on as many threads as there are workers; a number below 1 is taken as 1, and one above
-    /// 16 as 16. The answer, the world after it and what is kept of it are those of `advance_alone` (docs/MODEL.md,
+    /// Advances by a schedule. Columns of 131,072 values and more are written by as many threads as there are workers; a
+    /// number below 1 is taken as 1, and one above 16 as 16. The answer, the world after it and what is kept of it are those of `advance_alone` (docs/MODEL.md,
     /// "Many threads, one answer"), and so are the refusals and what stays after them.
     pub fn advance<R: Threads + Sync>(
         &mut self,
@@ -61,12 +61,8 @@ impl Editor {
         ensures few { OnOk result (IsNewestWithin (advance_size schedule.now self.old.world) self.new.past) }
         ensures same { OnErr result (self.new ≡ self.old) }
     {
-        let alloc = self.alloc;
-        let call = |world: &World, rules: &[SystemRule]| -> Result<PhaseOutput, Refusal>
-            requires { IsSoundPhase world.now.world.schema rules.now }
-            ensures { IsRunOf world.now.world rules.now result }
-        { run_shared(rt, alloc, world, rules, workers, &OpenGate) };
-        let runner = RunBy { call };
-        self.run(&Advance { schedule, runner })
+        let workers = workers.min(MOST_WORKERS);
+        let writer = WritesShared { rt, workers };
+        self.run(&InTurn { schedule, writer })
     }
 }

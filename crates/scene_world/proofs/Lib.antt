@@ -10,3 +10,7 @@ pub mod BuiltNames
 pub mod BuiltRows
 pub mod BuiltLinks
 pub mod BuiltWorlds
+pub mod StepInserts
+pub mod StepRuns
+pub mod RunPut
+pub mod StepNotes

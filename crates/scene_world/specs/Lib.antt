@@ -7,3 +7,4 @@ pub mod Room
 pub mod Spawned
 pub mod Stage
 pub mod Stored
+pub mod Written

@@ -1,16 +1,18 @@
 //! The raw changes of a world: those of which the commands are made, and those that take them back.
 //! `World` has them in `world/raw`, each with the contract that stands here.
 ghost use Rattle.std.specs.Prelude.{◌≡◌, ◌<◌, [], true, Some, IsSome, IfOk, OnOk, OnErr, IsOk};
+ghost use Rattle.std.specs.Thread.{IsSync};
 ghost use Rattle.scene_kinds.specs.Cells.{cell_of};
 ghost use Rattle.scene_links.specs.Forest.{children_of, link_in};
 ghost use Rattle.scene_resources.specs.Resources.{cell_of as cell_at_name};
 ghost use Rattle.scene_model.specs.World.{is_live};
 ghost use Rattle.scene_model.specs.Raw.{cells_of, put_row, drop_last, cut_row, uncut_row, shift_row, unshift_row, set_cell, set_link, set_resource, set_tick};
 ghost use Rattle.scene_model.specs.Can.{can_put, can_drop, can_uncut, can_move, can_unshift, is_good_cell, can_set_link, can_set_resource, can_set_tick};
+ghost use Rattle.scene_model.specs.RunRaw.{CanPutRun, with_run};
 ghost use Rattle.scene_world.specs.Room.{Housed, Holds, IsWider};
 
 use scene_kinds::{Cell, Entity};
-use scene_table::RowCells;
+use scene_table::{ChangedTicks, ColumnWriter, RowCells, Run};
 use std::alloc::AllocError;
 
 /// The raw changes of a world (docs/MODEL.md, "Raw changes"). They are for scene_journal, and for whoever takes deltas
@@ -169,6 +171,21 @@ pub trait RawChanges {
         requires good { is_good_cell (whole self.old).world kind cell ≡ true }
         ensures old { cell_of (cells_of (whole self.old).world entity) kind ≡ Some result }
         ensures world { (whole self.new).world ≡ set_cell (whole self.old).world entity kind cell }
+        ensures room { (whole self.new).room ≡ (whole self.old).room };
+
+    /// Writes the cells of a run after so many of its turns, with these changed ticks: all at once what `set_cell` would
+    /// write one after another (docs/MODEL.md, "Raw changes"). The rows of the table must be those of the run. It takes
+    /// no memory.
+    fn put_run<W: ColumnWriter>(
+        &mut self,
+        writer: &W,
+        run: &Run,
+        turns: i64,
+        changed: &ChangedTicks,
+    )
+        requires sync { IsSync W.Runtime.row }
+        requires can { CanPutRun (whole self.old).world run.now turns changed.now }
+        ensures world { (whole self.new).world ≡ with_run (whole self.old).world run.now turns changed.now }
         ensures room { (whole self.new).room ≡ (whole self.old).room };
 
     /// Takes a live entity out of its parent's list, if it stands in one, and puts it at a place of another's, or

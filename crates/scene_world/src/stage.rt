@@ -1,12 +1,18 @@
 //! What commands can be applied to: a world, or whatever keeps notes of what is done to one.
-ghost use Rattle.std.specs.Prelude.{◌≡◌, List, [], Option, None};
+ghost use Rattle.std.specs.Prelude.{◌≡◌, true, false, List, [], Option, None, Ok, All, OnErr};
+ghost use Rattle.std.specs.Thread.{IsSync};
 ghost use Rattle.scene_model.specs.Commands.{spawn, despawn, despawn_recursive, insert, remove, set_parent, remove_parent, put_resource, remove_resource};
 ghost use Rattle.scene_model.specs.Perform.{Spawn, Despawn, DespawnRecursive, Insert, Remove, SetParent, RemoveParent, PutResource, RemoveResource};
+ghost use Rattle.scene_table.specs.Runs.{AreApart};
+ghost use Rattle.scene_table.specs.Tables.{rows_at};
 ghost use Rattle.scene_world.specs.Room.{IsWider, Room};
-ghost use Rattle.scene_world.specs.Stage.{Opening, Staged, Note as NoteOf, AnswersNoted};
+ghost use Rattle.scene_world.specs.Stage.{Opening, Staged, Note as NoteOf, AnswersNoted, act};
+ghost use Rattle.scene_world.specs.Written.{FitAll, HasKindsOf, acted, inserts};
 
+use crate::raw_changes::RawChanges;
 use crate::world::World;
-use scene_kinds::{Entity, Refusal, Value};
+use scene_kinds::{Entity, KindSet, Refusal, Value};
+use scene_table::{ChangedTicks, ColumnWriter, RowStep, Run};
 use std::alloc::AllocError;
 use std::convert::Infallible;
 
@@ -90,6 +96,27 @@ pub trait Stage {
         ensures opening { opening self.new ≡ opening self.old }
         ensures wide { IsWider (room self.old) (room self.new) };
 
+    /// Writes what row steps make of each row of the table of a kind set, by row, and in a row by kind: the world's tick
+    /// is that at which the cells are changed (docs/MODEL.md, "The rule of systems"). Each row must have the kinds that
+    /// the steps name, of which each writes its own, and none is added that is written. Whether all sums fit: where one
+    /// doesn't, world and notes are as they were, as they are where no memory was found.
+    fn write_steps<W: ColumnWriter>(
+        &mut self,
+        writer: &W,
+        mask: KindSet,
+        steps: &[RowStep],
+    ) -> Result<bool, AllocError>
+        requires sync { IsSync W.Runtime.row }
+        requires apart { AreApart steps.now }
+        requires kinds { All (λ row. HasKindsOf (seen self.old).world.schema steps.now row) (rows_at (seen self.old).world.tables mask) }
+        ensures fit { result ≡ Ok true → FitAll steps.now (rows_at (seen self.old).world.tables mask)
+            × (acted (act note) (inserts (seen self.old).world mask steps.now) (seen self.old) ≡ Ok (tt, seen self.new)) }
+        ensures unfit { result ≡ Ok false → (FitAll steps.now (rows_at (seen self.old).world.tables mask) → ⊥)
+            × (seen self.new ≡ seen self.old) }
+        ensures full { OnErr result (seen self.new ≡ seen self.old) }
+        ensures opening { opening self.new ≡ opening self.old }
+        ensures wide { IsWider (room self.old) (room self.new) };
+
     /// Makes room for the notes of so many inserts of kinds that are there, which then take no memory for their notes
     /// (docs/JOURNAL.md, "The recorder"). World and notes are as they were, also where no memory was found.
     fn make_room(&mut self, cells: usize) -> Result<(), AllocError>
@@ -148,6 +175,25 @@ impl Stage for World {
 
     fn remove_resource(&mut self, name: &str) -> Result<(), Refusal> {
         World::remove_resource(self, name)
+    }
+
+    fn write_steps<W: ColumnWriter>(
+        &mut self,
+        writer: &W,
+        mask: KindSet,
+        steps: &[RowStep],
+    ) -> Result<bool, AllocError> {
+        let tick = self.tick();
+        let Some(table) = self.rows_of(mask) else {
+            return Ok(true);
+        };
+        match Run::new(self.alloc(), table, steps)? {
+            Some(run) => {
+                self.put_run(writer, &run, 1, &ChangedTicks::same(tick));
+                Ok(true)
+            }
+            None => Ok(false),
+        }
     }
 
     fn make_room(&mut self, _cells: usize) -> Result<(), AllocError> {

@@ -124,6 +124,11 @@ impl World {
         self.tick
     }
 
+    /// Where the world has its memory from.
+    pub(crate) fn alloc(&self) -> Global {
+        self.alloc
+    }
+
     /// Raises the tick by one, as each frame does before its commands. It takes no memory.
     ///
     /// Refused: `TickFull` where the tick is the greatest of 64 bits; then the world is as it was.

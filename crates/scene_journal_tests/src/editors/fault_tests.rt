@@ -38,7 +38,7 @@ fn spawned(alloc: Global, tick_before: u64, number: i64) -> Result<FrameRecord, 
         fresh: true,
     };
     let deltas = vec![in alloc; delta]?;
-    Ok(FrameRecord::new(tick_before, Deltas::from(deltas)))
+    Ok(FrameRecord::new(tick_before, Deltas::from_list(alloc, deltas)?))
 }
 
 /// A record of a frame without commands.
@@ -54,7 +54,7 @@ fn linked_to_itself(alloc: Global) -> Result<FrameRecord, Refusal> {
         after: Some((first(0), 0)),
     };
     let deltas = vec![in alloc; delta]?;
-    Ok(FrameRecord::new(1, Deltas::from(deltas)))
+    Ok(FrameRecord::new(1, Deltas::from_list(alloc, deltas)?))
 }
 
 /// Why an editor of a copy of this one's world is refused with these records, if it is.

@@ -5,7 +5,7 @@ use crate::moves::{move_row, moved_mask};
 use crate::raw_changes::RawChanges;
 use crate::world::World;
 use scene_kinds::{Cell, Entity};
-use scene_table::RowCells;
+use scene_table::{ChangedTicks, ColumnWriter, RowCells, Run};
 use std::alloc::AllocError;
 
 impl RawChanges for World {
@@ -118,6 +118,18 @@ impl RawChanges for World {
     fn set_cell(&mut self, entity: Entity, kind: u8, cell: Cell) -> Cell {
         let home = self.home_of_live(entity);
         self.tables.set_cell(home, kind, cell)
+    }
+
+    fn put_run<W: ColumnWriter>(
+        &mut self,
+        writer: &W,
+        run: &Run,
+        turns: i64,
+        changed: &ChangedTicks,
+    ) {
+        // A run has a cell of each of its columns for each of its entities.
+        let _width = run.width();
+        self.tables.put_run(writer, run, turns, changed);
     }
 
     fn set_link_reserved(&mut self, entity: Entity, link: Option<(Entity, usize)>) {

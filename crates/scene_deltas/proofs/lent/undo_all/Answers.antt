@@ -3,40 +3,38 @@ use Rattle.std.specs.List.{filter}
 use Rattle.scene_deltas.specs.Copies.{copies_back}
 use Rattle.scene_deltas.specs.Deltas.{back_all}
 use Rattle.scene_deltas.specs.Ready.{AreReady}
-use Rattle.scene_deltas.proofs.Copied.{kept_behind, same_others}
-use Rattle.scene_deltas.proofs.Ready.{back_pushed, ready_pushed}
+use Rattle.scene_deltas.specs.Segments.{flat, shown}
+use Rattle.scene_deltas.proofs.SegmentSteps.{back_ready, back_rest, kept_parts, left_over}
+use Rattle.scene_deltas.proofs.Segments.{flat_pushed}
 use Rattle.scene_deltas.proofs.lent.undo_all.Goals as goal
 
-pub step_back-requires-clause-fits : goal.step_back-requires-clause-fits
-step_back-requires-clause-fits c =
-    let room = c.loop-delta.world.room in
-    let w = c.loop-delta.world.world in
-    (ready_pushed room c.next.new.self c.in-Some.delta.now w (subst (λ ds. AreReady room ds w) c.in-Some.ensures c.loop-delta.invariant.ready)).0.fits
+pub segment_back-requires-clause-ready : goal.segment_back-requires-clause-ready
+segment_back-requires-clause-ready c =
+    let before = c.in-Some.before.now in
+    let segment = c.in-Some.segment.now in
+    let cut = ap flat c.in-Some.ensures.cases.0 ∙ flat_pushed before segment in
+    (back_ready c.left.world.room c.left.world.world (flat c.left.left.now) (flat before) (shown segment) cut c.left.invariant.ready).0
 
-pub step_back-requires-clause-room : goal.step_back-requires-clause-room
-step_back-requires-clause-room c =
-    let room = c.loop-delta.world.room in
-    let w = c.loop-delta.world.world in
-    (ready_pushed room c.next.new.self c.in-Some.delta.now w (subst (λ ds. AreReady room ds w) c.in-Some.ensures c.loop-delta.invariant.ready)).0.held
+pub segment_back-requires-clause-copies : goal.segment_back-requires-clause-copies
+segment_back-requires-clause-copies c =
+    let before = c.in-Some.before.now in
+    let segment = c.in-Some.segment.now in
+    let cut = ap flat c.in-Some.ensures.cases.0 ∙ flat_pushed before segment in
+    (filter copies_back (flat before), c.left.invariant.copies ∙ kept_parts copies_back (flat c.left.left.now) (flat before) (shown segment) cut)
 
-pub step_back-requires-clause-copy : goal.step_back-requires-clause-copy
-step_back-requires-clause-copy c = (
-  filter copies_back c.next.new.self,
-  c.loop-delta.invariant.copies ∙ ap (filter copies_back) c.in-Some.ensures ∙ kept_behind copies_back c.next.new.self c.in-Some.delta.now,
-)
-
-pub loop-delta-preserved : goal.loop-delta-preserved
-loop-delta-preserved c =
-    let room = c.loop-delta.world.room in
-    let w = c.loop-delta.world.world in
-    let left = c.next.new.self in
-    let d = c.in-Some.delta.now in
-    let ready = (ready_pushed room left d w (subst (λ ds. AreReady room ds w) c.in-Some.ensures c.loop-delta.invariant.ready)).1 in record {
-      ready = subst (λ r. AreReady r left c.step_back.new.world.world) (sym c.step_back.ensures.room)
-          (subst (AreReady room left) (sym c.step_back.ensures.world) ready);
-      rest = ap (back_all left) c.step_back.ensures.world ∙ sym (back_pushed left d w) ∙ ap (λ ds. back_all ds w) (sym c.in-Some.ensures)
-          ∙ c.loop-delta.invariant.rest;
-      room = c.step_back.ensures.room ∙ c.loop-delta.invariant.room;
-      copies = same_others (copies_back d) d c.step_back.new.copies.items (filter copies_back left)
-          (sym c.step_back.ensures.copies ∙ c.loop-delta.invariant.copies ∙ ap (filter copies_back) c.in-Some.ensures ∙ kept_behind copies_back left d);
+pub left-preserved : goal.left-preserved
+left-preserved c =
+    let room = c.left.world.room in
+    let w = c.left.world.world in
+    let before = c.in-Some.before.now in
+    let segment = c.in-Some.segment.now in
+    let cut = ap flat c.in-Some.ensures.cases.0 ∙ flat_pushed before segment in
+    let ready = (back_ready room w (flat c.left.left.now) (flat before) (shown segment) cut c.left.invariant.ready).1 in record {
+      ready = subst (λ r. AreReady r (flat before) c.segment_back.new.world.world) (sym c.segment_back.ensures.room)
+          (subst (AreReady room (flat before)) (sym c.segment_back.ensures.world) ready);
+      rest = ap (back_all (flat before)) c.segment_back.ensures.world ∙ sym (back_rest room w (flat c.left.left.now) (flat before) (shown segment) cut)
+          ∙ c.left.invariant.rest;
+      room = c.segment_back.ensures.room ∙ c.left.invariant.room;
+      copies = left_over c.left.copies.items c.segment_back.new.copies.items (filter copies_back (shown segment)) (filter copies_back (flat before))
+          (c.left.invariant.copies ∙ kept_parts copies_back (flat c.left.left.now) (flat before) (shown segment) cut) c.segment_back.ensures.copies;
     }

@@ -2,6 +2,8 @@ use Rattle.std.proofs.Common.{◌∷◌, ◌∙◌, ap, length, sym}
 use Rattle.scene_kinds.specs.Answers.{refusal_of}
 use Rattle.scene_kinds.specs.declared.fault.Fault.TheVariants.{BadRecord}
 use Rattle.scene_world.proofs.Room.{wider_wider}
+use Rattle.scene_deltas.specs.Deltas.{fits_back}
+use Rattle.scene_deltas.specs.Segments.{seen}
 use Rattle.scene_journal.proofs.SomeDeltas.{ready_taken, taken_next, unfit_next}
 use Rattle.scene_deltas.proofs.Turns.{ready_fits_back}
 use Rattle.scene_journal.proofs.faults.undo_fitting.Goals as goal
@@ -12,9 +14,9 @@ returns-then-not-fits_back-clause-refused c = λ other.
       length c.next.new.self,
       (
         c.bad_record.ensures ∙ ap (λ k. refusal_of (BadRecord 0 k)) c.len.ensures,
-        unfit_next c.args.deltas.now.items c.args.draft.now.world c.loop-delta.draft.world c.loop-delta.left c.next.new.self now.0 c.in-Some.delta.now
+        unfit_next c.args.deltas.now.items c.args.draft.now.world c.loop-delta.draft.world c.loop-delta.left c.next.new.self now.0 (seen c.in-Some.delta)
             c.in-Some.ensures now.1.0 (ready_fits_back c.loop-delta.draft.room now.0 c.args.draft.now.world now.1.1)
-            (sym c.fits_back.ensures ∙ c.if-not-fits_back.true),
+            (ap (λ x. fits_back x c.loop-delta.draft.world) (sym c.get.ensures) ∙ sym c.fits_back.ensures ∙ c.if-not-fits_back.true),
       ),
     )
 
@@ -23,16 +25,16 @@ loop-delta-preserved c =
     let now = c.loop-delta.invariant.0 in
     let w = c.args.draft.now.world in
     let v = c.loop-delta.draft in
-    let next = c.undo_delta.new.world in
-    let d = c.in-Some.delta.now in (
+    let next = c.undo_lent.new.draft in
+    let d = seen c.in-Some.delta in (
       (
         d ∷ now.0,
         (
           taken_next c.args.deltas.now.items w v.world c.loop-delta.left c.next.new.self now.0 d c.in-Some.ensures now.1.0 next.world
-              c.in_ok-undo_delta.ensures.done,
+              c.in_ok-undo_lent.ensures.done,
           ready_taken c.args.deltas.now.items w v.world c.loop-delta.left c.next.new.self now.0 d c.in-Some.ensures now.1.0 v.room next.room next.world
-              c.in_ok-undo_delta.ensures.done (sym c.fits_back.ensures ∙ c.if-not-fits_back.false) c.room_holds.ensures c.undo_delta.ensures.wide now.1.1,
+              c.in_ok-undo_lent.ensures.done (ap (λ x. fits_back x c.loop-delta.draft.world) (sym c.get.ensures) ∙ sym c.fits_back.ensures ∙ c.if-not-fits_back.false) c.room_holds.ensures c.undo_lent.ensures.wide now.1.1,
         ),
       ),
-      wider_wider c.args.draft.now.room v.room next.room c.loop-delta.invariant.1 c.undo_delta.ensures.wide,
+      wider_wider c.args.draft.now.room v.room next.room c.loop-delta.invariant.1 c.undo_lent.ensures.wide,
     )

@@ -3,7 +3,7 @@ use Rattle.scene_commands.specs.declared.command.Command.TheVariants.{Spawn, Set
 use Rattle.scene_commands.specs.declared.target.Target.TheVariants.{Id, New}
 use Rattle.scene_pass.specs.declared.row_change.RowChange.{RowChange}
 use Rattle.scene_queue.specs.Queue.{spawns}
-use Rattle.scene_schedule.proofs.Queued.{children_step}
+use Rattle.scene_schedule.proofs.QueueWalks.{children_step}
 use Rattle.scene_schedule.proofs.commands.push_children.Goals as goal
 
 pub changes-preserved : goal.changes-preserved

@@ -1,5 +1,5 @@
 use Rattle.std.proofs.Common.{◌++◌, ap, sym, ◌∙◌, arith}
-use Rattle.scene_schedule.proofs.Queued.{pushed_on, despawns_step}
+use Rattle.scene_schedule.proofs.QueueWalks.{pushed_on, despawns_step}
 use Rattle.scene_schedule.proofs.commands.push_despawns.Goals as goal
 
 pub changes-preserved : goal.changes-preserved

@@ -1,5 +1,5 @@
 use Rattle.std.proofs.Common.{arith}
-use Rattle.scene_schedule.proofs.Queued.{commands_step}
+use Rattle.scene_schedule.proofs.QueueWalks.{commands_step}
 use Rattle.scene_schedule.proofs.commands.queue_of.Goals as goal
 
 pub steps-preserved : goal.steps-preserved

@@ -1,6 +1,6 @@
 use Rattle.std.proofs.Common.{ℕ, ap, sym, ◌∙◌, arith}
 use Rattle.scene_kinds.specs.declared.value.Value.{Value}
-use Rattle.scene_schedule.proofs.Queued.{zero_later}
+use Rattle.scene_schedule.proofs.QueueWalks.{zero_later}
 use Rattle.scene_schedule.proofs.zero.zero_among.Goals as goal
 
 pub cells-preserved : goal.cells-preserved

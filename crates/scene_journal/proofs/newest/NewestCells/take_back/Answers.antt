@@ -1,6 +1,7 @@
 use Rattle.std.proofs.Common.{◌≡◌, [], ◌∷◌, ◌++◌, ap, append_assoc, subst, sym, ◌∙◌}
 use Rattle.std.proofs.lemmas.List.{append-nil}
 use Rattle.scene_journal.specs.Newest.{ListsBack}
+use Rattle.scene_deltas.specs.Segments.{seen}
 use Rattle.scene_journal.proofs.Covers.{goes_back, lists_wider}
 use Rattle.scene_journal.proofs.Listed.{EachOf, each_more, wider_wider}
 use Rattle.scene_journal.proofs.newest.NewestCells.take_back.Goals as goal
@@ -8,15 +9,15 @@ use Rattle.scene_journal.proofs.newest.NewestCells.take_back.Goals as goal
 pub loop-delta-preserved : goal.loop-delta-preserved
 loop-delta-preserved c =
     let n = c.loop-delta.self in
-    let m = c.add_delta.new.self in
+    let m = c.add_lent.new.self in
     let now = c.loop-delta.invariant.0 in
-    let d = c.in-Some.delta.now in
-    let wide = c.in_ok-add_delta.ensures.wide in (
+    let d = seen c.in-Some.delta in
+    let wide = c.in_ok-add_lent.ensures.wide in (
       (
         now.0 ++ d ∷ [],
         (
           now.1.0 ∙ ap (λ ds. now.0 ++ ds) c.in-Some.ensures ∙ sym (append_assoc now.0 (d ∷ []) c.next.new.self),
-          each_more (ListsBack n) (ListsBack m) now.0 d (λ x. lists_wider n m x wide) c.in_ok-add_delta.ensures.listed now.1.1,
+          each_more (ListsBack n) (ListsBack m) now.0 d (λ x. lists_wider n m x wide) c.in_ok-add_lent.ensures.listed now.1.1,
         ),
       ),
       wider_wider c.args.self.now n m c.loop-delta.invariant.1 wide,

@@ -1,7 +1,9 @@
-use Rattle.std.proofs.Common.{◌≡◌, ◌++◌, ap, subst, sym, ◌∙◌, Some, Ok}
+use Rattle.std.proofs.Common.{◌≡◌, ◌++◌, refl, ap, subst, sym, ◌∙◌, Some, Ok}
 use Rattle.scene_links.specs.Forest.{post}
 use Rattle.scene_model.specs.Commands.{despawn_recursive}
 use Rattle.scene_model.specs.Perform.{DespawnRecursive}
+use Rattle.scene_world.specs.Room.{IsWider}
+use Rattle.scene_world.proofs.Room.{wider_self}
 use Rattle.scene_world.specs.Stage.{noting}
 use Rattle.scene_deltas.specs.Notes.{deltas_of, despawned_each, cut_each, CanCutEach}
 use Rattle.scene_deltas.specs.Ready.{AreReady}
@@ -10,7 +12,7 @@ use Rattle.scene_journal.specs.Records.{record_of}
 use Rattle.scene_journal.specs.Recorder.{Recording, began, began_with, staged_of}
 use Rattle.scene_journal.proofs.CutRows.{recursive_each}
 use Rattle.scene_deltas.proofs.Ready.{back_appended, ready_appended}
-use Rattle.scene_journal.proofs.Recorded.{noted_ok}
+use Rattle.scene_journal.proofs.Recorded.{noted_ok, stays_ready}
 use Rattle.scene_deltas.proofs.Truncated.{found_ready}
 use Rattle.scene_journal.proofs.recorder.RecorderStage.despawn_recursive.Goals as goal
 
@@ -27,10 +29,12 @@ invariant_of-self-in-Ok c =
     let ds = c.self.inside.deltas.items in
     let es = c.in_ok-made.made.items in
     let kept = c.in-Ok.ensures.done in
-    let before = found_ready w.room ds w.world c.self.invariant in
-    ∣ subst (λ xs. AreReady v.room xs v.world) (sym kept)
-    (ready_appended v.room ds es v.world c.in_ok-made.ensures.ready
-    (subst (AreReady v.room ds) (sym c.in_ok-made.ensures.opening) (subst (λ r. AreReady r ds w.world) (sym c.cut_each.ensures.room) before))) ∣₁
+    let before = found_ready w.room ds w.world c.self.invariant.0 in (
+      ∣ subst (λ xs. AreReady v.room xs v.world) (sym kept)
+          (ready_appended v.room ds es v.world c.in_ok-made.ensures.ready
+          (subst (AreReady v.room ds) (sym c.in_ok-made.ensures.opening) (subst (λ r. AreReady r ds w.world) (sym c.cut_each.ensures.room) before))) ∣₁,
+      c.end.ensures v.world,
+    )
 
 pub returns-in-Ok-clause-answer : goal.returns-in-Ok-clause-answer
 returns-in-Ok-clause-answer c =
@@ -55,3 +59,26 @@ returns-in-Ok-clause-opening c =
     let kept = c.in-Ok.ensures.done in
     ap (λ u. Some (began_with c.self.inside.tick_before u)) (ap (λ xs. back_all xs v) kept ∙ back_appended ds es v ∙ ap (back_all ds) c.in_ok-made.ensures.opening)
     ∙ ap (λ (r : Recording). Some (began r)) c.self.view_is
+
+pub invariant_of-self : goal.invariant_of-self
+invariant_of-self c = (c.self.invariant.0, c.end.ensures c.self.inside.world.world)
+
+pub invariant_of-self-in_err-order : goal.invariant_of-self-in_err-order
+invariant_of-self-in_err-order c = (c.self.invariant.0, c.end.ensures c.self.inside.world.world)
+
+pub invariant_of-self-in_err-made : goal.invariant_of-self-in_err-made
+invariant_of-self-in_err-made c =
+    let w = c.self.inside.world in
+    let v = c.cut_each.new.world in
+    let ds = c.self.inside.deltas.items in
+    (stays_ready w.room v.room ds ds w.world v.world c.self.invariant.0 (subst (IsWider w.room) (sym c.cut_each.ensures.room) (wider_self w.room)) c.in_err-made.ensures.back refl, c.end.ensures v.world)
+
+pub invariant_of-self-in-Err : goal.invariant_of-self-in-Err
+invariant_of-self-in-Err c =
+    let w = c.self.inside.world in
+    let v = c.cut_each.new.world in
+    let u = c.take_all_back.new.world in
+    let full = c.in-Err.ensures.full in
+    let same = c.take_all_back.ensures.world ∙ ap (λ xs. back_all xs v.world) full.1 ∙ c.in_ok-made.ensures.opening in
+    let wide = subst (IsWider w.room) (sym (c.take_all_back.ensures.room ∙ c.cut_each.ensures.room)) (wider_self w.room) in
+    (stays_ready w.room u.room c.self.inside.deltas.items c.append.new.self.items w.world u.world c.self.invariant.0 wide same full.0, c.end.ensures u.world)

@@ -3,21 +3,27 @@ use Rattle.scene_model.specs.Perform.{RemoveParent}
 use Rattle.scene_deltas.specs.declared.delta.Delta.TheVariants.{Linked}
 use Rattle.scene_journal.specs.Recorder.{Recording, began, began_with}
 use Rattle.scene_deltas.proofs.Commands.{remove_parent_leads}
+use Rattle.scene_model.specs.World.{World}
+use Rattle.scene_journal.proofs.LiveRuns.{kept_tables}
 use Rattle.scene_journal.proofs.Recorded.{stays_ready, goes_ready, goes_back}
 use Rattle.scene_journal.proofs.recorder.RecorderStage.remove_parent.Goals as goal
 
 pub invariant_of-self-in_err-remove_parent : goal.invariant_of-self-in_err-remove_parent
-invariant_of-self-in_err-remove_parent c =
-    stays_ready c.self.inside.world.room c.remove_parent.new.self.room c.self.inside.deltas.items c.reserve.new.self.items c.self.inside.world.world c.remove_parent.new.self.world
-    c.self.invariant c.remove_parent.ensures.wide c.in_err-remove_parent.ensures.answer.0 c.reserve.ensures.items
+invariant_of-self-in_err-remove_parent c = (
+  stays_ready c.self.inside.world.room c.remove_parent.new.self.room c.self.inside.deltas.items c.reserve.new.self.items c.self.inside.world.world c.remove_parent.new.self.world
+      c.self.invariant.0 c.remove_parent.ensures.wide c.in_err-remove_parent.ensures.answer.0 c.reserve.ensures.items,
+  kept_tables c.self.inside.world.world c.remove_parent.new.self.world c.self.inside.runs (ap (λ (u : World). u.tables) c.in_err-remove_parent.ensures.answer.0) c.self.invariant.1,
+)
 
 pub invariant_of-self-2 : goal.invariant_of-self-2
 invariant_of-self-2 c =
     let w = c.self.inside.world in
-    let v = c.remove_parent.new.self in
-    goes_ready w.room v.room c.self.inside.deltas.items c.push_reserved.new.self.items w.world v.world (RemoveParent c.args.child) (Some (Linked c.args.child c.link_of-lost.result None))
-    c.is_sound.ensures.valid (λ i. Linked c.args.child (c.link_of-lost.ensures i) None ∷ []) (remove_parent_leads w.world v.world c.args.child c.is_sound.ensures.valid c.in_ok-remove_parent.ensures.answer)
-    (c.push_reserved.ensures.items ∙ ap (λ xs. xs ++ Linked c.args.child c.link_of-lost.result None ∷ []) c.reserve.ensures.items) c.is_sound.ensures.held c.remove_parent.ensures.wide c.self.invariant
+    let v = c.remove_parent.new.self in (
+      goes_ready w.room v.room c.self.inside.deltas.items c.push_reserved.new.self.items w.world v.world (RemoveParent c.args.child) (Some (Linked c.args.child c.link_of-lost.result None))
+          c.is_sound.ensures.valid (λ i. Linked c.args.child (c.link_of-lost.ensures i) None ∷ []) (remove_parent_leads w.world v.world c.args.child c.is_sound.ensures.valid c.in_ok-remove_parent.ensures.answer)
+          (c.push_reserved.ensures.items ∙ ap (λ xs. xs ++ Linked c.args.child c.link_of-lost.result None ∷ []) c.reserve.ensures.items) c.is_sound.ensures.held c.remove_parent.ensures.wide c.self.invariant.0,
+      kept_tables w.world v.world c.self.inside.runs (ap (λ (u : World). u.tables) (remove_parent_leads w.world v.world c.args.child c.is_sound.ensures.valid c.in_ok-remove_parent.ensures.answer).made) c.self.invariant.1,
+    )
 
 pub returns-clause-opening : goal.returns-clause-opening
 returns-clause-opening c =
