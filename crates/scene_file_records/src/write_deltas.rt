@@ -1,5 +1,5 @@
 //! Deltas as JSON.
-ghost use Rattle.std.specs.Prelude.{OnOk};
+ghost use Rattle.std.specs.Prelude.{OnOk, codes, if◌then◌else◌};
 ghost use Rattle.serde_json.specs.Written.{compact_text};
 ghost use Rattle.scene_json.specs.Texts.{Adds};
 ghost use Rattle.scene_file_records.specs.Text.{spawned_text, despawned_text, shifted_text, cell_set_text, linked_text, resource_set_text, delta_text};
@@ -10,6 +10,17 @@ use scene_json::write_json_text;
 use scene_json_forms::write_entity;
 use scene_kinds::{Cell, Cells, Entity, Text};
 use std::alloc::{AllocError, Global};
+
+/// Adds `true` or `false`.
+fn write_bool(out: &mut String, yes: bool) -> Result<(), AllocError>
+    ensures { OnOk result (Adds out.old out.new (if yes then codes "true" else codes "false")) }
+{
+    if yes {
+        out.push_str("true")
+    } else {
+        out.push_str("false")
+    }
+}
 
 /// Adds the delta of a spawn.
 fn write_spawned(
@@ -25,8 +36,9 @@ fn write_spawned(
     write_kcells(alloc, out, cells)?;
     out.push_str(",\"entity\":")?;
     write_entity(out, entity)?;
-    write!(out, ",\"fresh\":{fresh},\"op\":\"spawned\"}}")?;
-    Ok(())
+    out.push_str(",\"fresh\":")?;
+    write_bool(out, fresh)?;
+    out.push_str(",\"op\":\"spawned\"}")
 }
 
 /// Adds the delta of a despawn.

@@ -8,6 +8,7 @@ ghost use Rattle.scene_file_records.specs.Text.{delta_text, record_text, records
 use crate::write_deltas::write_delta;
 use scene_deltas::Deltas;
 use scene_journal::FrameRecord;
+use scene_json::write_count;
 use scene_json_forms::write_comma;
 use std::alloc::{AllocError, Global};
 
@@ -32,8 +33,9 @@ fn write_record(alloc: Global, out: &mut String, frame: &FrameRecord) -> Result<
 {
     out.push_str("{\"deltas\":")?;
     write_deltas(alloc, out, frame.deltas())?;
-    write!(out, ",\"tick\":{}}}", frame.tick_before())?;
-    Ok(())
+    out.push_str(",\"tick\":")?;
+    write_count(out, frame.tick_before())?;
+    out.push_str("}")
 }
 
 /// Adds to a text the list of records in this order, as the past or the future of a scene text has them

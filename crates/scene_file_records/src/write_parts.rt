@@ -5,7 +5,8 @@ ghost use Rattle.scene_json.specs.Texts.{Adds};
 ghost use Rattle.scene_file_records.specs.Text.{kcell_text, kcells_text, link_text, maybe_resource_cell_text};
 
 use scene_deltas::ResourceCell;
-use scene_json_forms::{write_comma, write_entity, write_resource_cell, write_value};
+use scene_json::write_count;
+use scene_json_forms::{write_comma, write_entity, write_resource_cell, write_ticks, write_value};
 use scene_kinds::{Cell, Cells, Entity};
 use std::alloc::{AllocError, Global};
 
@@ -18,10 +19,11 @@ pub(crate) fn write_kcell(
 ) -> Result<(), AllocError>
     ensures { OnOk result (Adds out.old out.new (compact_text (kcell_text (kind, cell.now)))) }
 {
-    write!(out, "[{kind},")?;
+    out.push_str("[")?;
+    write_count(out, kind as u64)?;
+    out.push_str(",")?;
     write_value(alloc, out, &cell.value)?;
-    write!(out, ",{},{}]", cell.added, cell.changed)?;
-    Ok(())
+    write_ticks(out, cell.added, cell.changed)
 }
 
 /// Adds a list of cells with their kinds.
@@ -47,8 +49,9 @@ pub(crate) fn write_link(out: &mut String, link: Option<(Entity, u32)>) -> Resul
         Some((parent, place)) => {
             out.push_str("[")?;
             write_entity(out, parent)?;
-            write!(out, ",{place}]")?;
-            Ok(())
+            out.push_str(",")?;
+            write_count(out, place as u64)?;
+            out.push_str("]")
         }
     }
 }

@@ -6,3 +6,4 @@ pub mod Unknown
 pub mod Levels
 pub mod Whole
 pub mod Numbers
+pub mod Plain

@@ -5,9 +5,11 @@
 //! data (`specs/View.antt`), so each look answers what the same look into a `Value` does, by the words of its `Find`. A
 //! look never fails, as the document was read whole. It takes no memory.
 //!
-//! `write_json_text` adds a text as a JSON string, as `serde_json` writes it.
+//! `write_json_text` adds a text as a JSON string, as `serde_json` writes it, and `write_count` and `write_int` whole
+//! numbers.
 #![tactic(auto)]
 
+mod decimal;
 mod document;
 mod examples;
 mod number;
@@ -16,6 +18,7 @@ mod parts;
 mod sound;
 mod text;
 
+pub use decimal::{write_count, write_int};
 pub use document::{Document, DocumentError};
 pub use examples::worked_texts;
 pub use part::Part;

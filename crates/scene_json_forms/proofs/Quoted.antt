@@ -1,6 +1,6 @@
 -- Texts that stand in a string as they are, and whole numbers in decimal.
 use Rattle.std.proofs.Common.{arith, ◌≡◌, ◌<◌, ◌≤◌, ◌^◌, ◌+◌, ◌%◌, ℕ, List, [], ◌∷◌, ◌++◌, refl, ap, sym, ◌∙◌, append_assoc}
-use Rattle.std.specs.Prelude.{ℤ, pos, negsuc, decimal, false, ◌==◌, nat_lt}
+use Rattle.std.specs.Prelude.{ℤ, pos, negsuc, codes, decimal, false, ◌==◌, nat_lt}
 use Rattle.std.specs.Fmt.{signed_decimal}
 use Rattle.std.proofs.lemmas.Bool.Decides.{nat_tests}
 use Rattle.std.proofs.lemmas.Fmt.{decimal_by_steps}
@@ -8,12 +8,17 @@ use Rattle.json.specs.Print.{escape_byte, escape}
 use Rattle.serde_json.specs.Written.{compact_text}
 use Rattle.scene_kinds.specs.declared.entity.Entity.{Entity}
 use Rattle.scene_kinds.specs.Entity.{entity_text}
-use Rattle.scene_json_forms.specs.Text.{entity_json, int_text}
+use Rattle.scene_json_forms.specs.Text.{entity_json, int_text, list_text}
+use Rattle.scene_json_forms.specs.Printing.{three_text}
 
 -- a whole number stands in decimal
 pub int_digits : (z : ℤ) → compact_text (int_text z) ≡ signed_decimal z
 int_digits (pos n) = refl
 int_digits (negsuc n) = refl
+
+-- three whole numbers in a list
+pub three_listed : (x y z : ℤ) → compact_text (list_text int_text (x ∷ y ∷ z ∷ [])) ≡ codes "[" ++ (three_text x y z ++ codes "]")
+three_listed x y z = simp (int_digits, append_assoc) refl
 
 -- bytes that a string holds as they are
 abbrev IsPlain : List ℕ → Type 0

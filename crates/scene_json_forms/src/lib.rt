@@ -28,6 +28,6 @@ pub use read_texts::{EntityForm, NameForm, ShapeForm, string_at};
 pub use read_values::{CellForm, ResourceCellForm, ValueForm, cell_from};
 pub use rising::{Ordered, Rising};
 pub use write_values::{
-    write_cell, write_comma, write_counts, write_entities, write_entity, write_resource_cell,
-    write_value,
+    write_cell, write_comma, write_counts, write_entities, write_entity, write_entity_text,
+    write_resource_cell, write_three, write_ticks, write_value,
 };

@@ -6,3 +6,4 @@ pub mod Listed
 pub mod Printed
 pub mod ShowSteps
 pub mod Shown
+pub mod Ticks

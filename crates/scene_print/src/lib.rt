@@ -12,6 +12,7 @@ mod json_rows;
 mod json_world;
 mod listed;
 mod show;
+mod ticks;
 mod values;
 
 pub use json_listed::write_json_listed;

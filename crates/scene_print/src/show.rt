@@ -10,7 +10,10 @@ ghost use Rattle.scene_print.specs.Printed.{cells_text, row_text};
 ghost use Rattle.scene_print.specs.Shown.{numbers_text, names_from, more_names, names_text, rows_text, table_text, tables_text, entities_text, link_text, links_text, resource_text, resources_text, head_text, show_text};
 ghost use Rattle.scene_print.specs.ShowSteps.{name_in, one_name, one_resource, named_text};
 
-use crate::values::{write_cell, write_row_cell, write_row_head};
+use crate::ticks::PrintedTicks;
+use crate::values::{write_cell, write_next_cell, write_row_head};
+use scene_json::write_count;
+use scene_json_forms::write_entity_text;
 use scene_kinds::{Cell, Entity, KindSet, KindSetMethods, Schema};
 use scene_links::Links;
 use scene_resources::Resources;
@@ -23,7 +26,8 @@ fn write_numbers(out: &mut String, numbers: &[u32]) -> Result<(), AllocError>
     ensures { OnOk result (Adds out.old out.new (numbers_text numbers.now)) }
 {
     'numbers: for n in numbers {
-        write!(out, " {n}")?;
+        out.push_str(" ")?;
+        write_count(out, *n as u64)?;
     }
     Ok(())
 }
@@ -98,6 +102,7 @@ fn write_row_cells(
     schema: &Schema,
     table: &Table,
     at: usize,
+    ticks: &mut PrintedTicks,
 ) -> Result<(), AllocError>
     requires { at < length table.now.rows }
     ensures { OnOk result ((row : Row) → slice_get table.now.rows at ≡ Some row
@@ -105,9 +110,26 @@ fn write_row_cells(
 {
     'cells: for number in 0..table.cell_count(at) {
         let (kind, cell) = table.nth_cell(at, number);
-        write_row_cell(alloc, out, schema, kind, cell)?;
+        write_next_cell(alloc, out, schema, kind, cell, ticks)?;
     }
     Ok(())
+}
+
+/// Adds the row at a place of a table as `write_row` does, where these ticks were printed last.
+fn write_next_row(
+    alloc: Global,
+    out: &mut String,
+    schema: &Schema,
+    table: &Table,
+    at: usize,
+    ticks: &mut PrintedTicks,
+) -> Result<(), AllocError>
+    requires { at < length table.now.rows }
+    ensures { OnOk result ((row : Row) → slice_get table.now.rows at ≡ Some row
+        → Adds out.old out.new (row_text schema.now row)) }
+{
+    write_row_head(out, table.entity_at(at))?;
+    write_row_cells(alloc, out, schema, table, at, ticks)
 }
 
 /// Adds the row at a place of a table, from 0: `row`, its entity, and its cells by kind, each after a space
@@ -124,8 +146,8 @@ pub fn write_row(
     ensures { OnOk result ((row : Row) → slice_get table.now.rows at ≡ Some row
         → Adds out.old out.new (row_text schema.now row)) }
 {
-    write_row_head(out, table.entity_at(at))?;
-    write_row_cells(alloc, out, schema, table, at)
+    let mut ticks = PrintedTicks::new(alloc);
+    write_next_row(alloc, out, schema, table, at, &mut ticks)
 }
 
 /// Adds the rows of a table, a line each.
@@ -134,11 +156,12 @@ fn write_rows(
     out: &mut String,
     schema: &Schema,
     table: &Table,
+    ticks: &mut PrintedTicks,
 ) -> Result<(), AllocError>
     ensures { OnOk result (Adds out.old out.new (rows_text schema.now table.now.rows)) }
 {
     'rows: for at in 0..table.len() {
-        write_row(alloc, out, schema, table, at)?;
+        write_next_row(alloc, out, schema, table, at, ticks)?;
         out.push('\n')?;
     }
     Ok(())
@@ -150,11 +173,12 @@ fn write_rows_of(
     out: &mut String,
     world: &World,
     mask: KindSet,
+    ticks: &mut PrintedTicks,
 ) -> Result<(), AllocError>
     ensures { OnOk result (Adds out.old out.new (rows_text world.now.world.schema (rows_at world.now.world.tables mask))) }
 {
     match world.rows_of(mask) {
-        Some(table) => write_rows(alloc, out, world.schema(), table),
+        Some(table) => write_rows(alloc, out, world.schema(), table, ticks),
         None => Ok(()),
     }
 }
@@ -165,6 +189,7 @@ fn write_table(
     out: &mut String,
     world: &World,
     mask: KindSet,
+    ticks: &mut PrintedTicks,
 ) -> Result<(), AllocError>
     ensures { OnOk result (Adds out.old out.new (table_text world.now.world.schema mask
         (rows_at world.now.world.tables mask))) }
@@ -173,7 +198,7 @@ fn write_table(
     out.push_str("table ")?;
     write_names(out, names.as_slice())?;
     out.push('\n')?;
-    write_rows_of(alloc, out, world, mask)
+    write_rows_of(alloc, out, world, mask, ticks)
 }
 
 /// Adds tables.
@@ -182,11 +207,12 @@ fn write_tables(
     out: &mut String,
     world: &World,
     masks: &[KindSet],
+    ticks: &mut PrintedTicks,
 ) -> Result<(), AllocError>
     ensures { OnOk result (Adds out.old out.new (tables_text world.now.world masks.now)) }
 {
     'masks: for mask in masks {
-        write_table(alloc, out, world, *mask)?;
+        write_table(alloc, out, world, *mask, ticks)?;
     }
     Ok(())
 }
@@ -196,7 +222,8 @@ pub fn write_entities(out: &mut String, entities: &[Entity]) -> Result<(), Alloc
     ensures { OnOk result (Adds out.old out.new (entities_text entities.now)) }
 {
     'entities: for entity in entities {
-        write!(out, " {entity}")?;
+        out.push_str(" ")?;
+        write_entity_text(out, *entity)?;
     }
     Ok(())
 }
@@ -205,7 +232,8 @@ pub fn write_entities(out: &mut String, entities: &[Entity]) -> Result<(), Alloc
 fn write_link(out: &mut String, links: &Links, parent: Entity) -> Result<(), AllocError>
     ensures { OnOk result (Adds out.old out.new (link_text links.now.forest parent)) }
 {
-    write!(out, "link {parent}")?;
+    out.push_str("link ")?;
+    write_entity_text(out, parent)?;
     write_entities(out, links.children_of(parent))?;
     out.push('\n')
 }
@@ -236,7 +264,8 @@ fn write_archetypes(alloc: Global, out: &mut String, world: &World) -> Result<()
     ensures { OnOk result (Adds out.old out.new (tables_text world.now.world (kind_sets world.now.world))) }
 {
     let masks = world.tables()?;
-    write_tables(alloc, out, world, masks.as_slice())
+    let mut ticks = PrintedTicks::new(alloc);
+    write_tables(alloc, out, world, masks.as_slice(), &mut ticks)
 }
 
 /// Adds all links, by the indices of the parents.

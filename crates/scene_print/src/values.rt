@@ -4,7 +4,9 @@ ghost use Rattle.scene_json.specs.Texts.{Adds};
 ghost use Rattle.scene_kinds.specs.Cells.{shown};
 ghost use Rattle.scene_print.specs.Printed.{vec3_text, value_text, assigned_text, cell_text, row_head, row_cell_text, refusal_line};
 
-use scene_json::write_json_text;
+use crate::ticks::PrintedTicks;
+use scene_json::{write_int, write_json_text};
+use scene_json_forms::{write_entity_text, write_three};
 use scene_kinds::{Cell, CellRef, Entity, Place, Refusal, Schema, Value};
 use std::alloc::{AllocError, Global};
 
@@ -13,8 +15,7 @@ fn write_vec3(out: &mut String, v: &[i64; 3]) -> Result<(), AllocError>
     ensures { OnOk result (Adds out.old out.new (vec3_text v.now)) }
 {
     let [x, y, z] = *v;
-    write!(out, "{x},{y},{z}")?;
-    Ok(())
+    write_three(out, x, y, z)
 }
 
 /// Adds a value (docs/SCRIPTS.md, "Output"): whole numbers in decimal, the three of a `Vec3` with commas
@@ -24,10 +25,10 @@ pub fn write_value(alloc: Global, out: &mut String, value: &Value) -> Result<(),
 {
     match value {
         Value::Tag => Ok(()),
-        Value::Int(n) => Ok(write!(out, "{n}")?),
+        Value::Int(n) => write_int(out, *n),
         Value::Vec3(v) => write_vec3(out, v),
         Value::Text(text) => write_json_text(alloc, out, text.as_str()),
-        Value::Link(entity) => Ok(write!(out, "{entity}")?),
+        Value::Link(entity) => write_entity_text(out, *entity),
     }
 }
 
@@ -48,13 +49,13 @@ fn write_lent_cell(
     out: &mut String,
     name: &str,
     cell: CellRef<'_>,
+    ticks: &mut PrintedTicks,
 ) -> Result<(), AllocError>
     ensures { OnOk result (Adds out.old out.new (cell_text name.now (shown cell.entry))) }
 {
     out.push_str(name)?;
     write_assigned(alloc, out, cell.value)?;
-    write!(out, "@{}/{}", cell.added, cell.changed)?;
-    Ok(())
+    ticks.write(out, cell.added, cell.changed)
 }
 
 /// Adds a cell with its name: `NAME=VALUE@ADDED/CHANGED`, or `NAME@ADDED/CHANGED` for a tag (docs/SCRIPTS.md,
@@ -72,7 +73,8 @@ pub fn write_cell(
         added: cell.added,
         changed: cell.changed,
     };
-    write_lent_cell(alloc, out, name, lent)
+    let mut ticks = PrintedTicks::new(alloc);
+    write_lent_cell(alloc, out, name, lent, &mut ticks)
 }
 
 /// Adds what a row begins with: `row ENTITY` (docs/SCRIPTS.md, "Output"). Its cells follow, each by
@@ -80,8 +82,24 @@ pub fn write_cell(
 pub fn write_row_head(out: &mut String, entity: Entity) -> Result<(), AllocError>
     ensures { OnOk result (Adds out.old out.new (row_head entity)) }
 {
-    write!(out, "row {entity}")?;
-    Ok(())
+    out.push_str("row ")?;
+    write_entity_text(out, entity)
+}
+
+/// Adds a cell of a row as `write_row_cell` does, where these ticks were printed last.
+pub(crate) fn write_next_cell(
+    alloc: Global,
+    out: &mut String,
+    schema: &Schema,
+    kind: u8,
+    cell: CellRef<'_>,
+    ticks: &mut PrintedTicks,
+) -> Result<(), AllocError>
+    ensures { OnOk result (Adds out.old out.new (row_cell_text schema.now kind (shown cell.entry))) }
+{
+    out.push(' ')?;
+    let name = schema.name_of(kind).unwrap_or("");
+    write_lent_cell(alloc, out, name, cell, ticks)
 }
 
 /// Adds a cell of a row: a space, and the cell with the name that the schema has for its kind (docs/SCRIPTS.md,
@@ -95,9 +113,8 @@ pub fn write_row_cell(
 ) -> Result<(), AllocError>
     ensures { OnOk result (Adds out.old out.new (row_cell_text schema.now kind (shown cell.entry))) }
 {
-    out.push(' ')?;
-    let name = schema.name_of(kind).unwrap_or("");
-    write_lent_cell(alloc, out, name, cell)
+    let mut ticks = PrintedTicks::new(alloc);
+    write_next_cell(alloc, out, schema, kind, cell, &mut ticks)
 }
 
 /// Adds a refusal: the fault by number and name with its fields, and ` at PHASE.QUEUE.COMMAND` where it has a place

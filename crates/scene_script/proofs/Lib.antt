@@ -1,3 +1,5 @@
+pub mod CountLaws
+pub mod DigitLaws
 pub mod KindLaws
 pub mod LineLaws
 pub mod NumberLaws

@@ -4,7 +4,7 @@ use Rattle.std.specs.Prelude.{IfOk, decimal, ◌==◌, ◌&&◌, FitsSigned}
 use Rattle.std.specs.Result.{result_ok}
 use Rattle.std.specs.Fmt.{signed_decimal}
 use Rattle.std.specs.Str.{bytes_eq}
-use Rattle.std.specs.Str.Parse.{digits_value, signed_digits_value, ParsesSigned}
+use Rattle.std.specs.Str.Parse.{IsNumeral, digits_value, signed_digits_value, ParsesSigned}
 use Rattle.std.proofs.lemmas.Bool.Decides.{nat_tests}
 use Rattle.std.proofs.lemmas.Slice.Eq.{bytes_eq-Decides}
 use Rattle.std.proofs.lemmas.Str.Parse.{parse_signed_minus, parse_signed_plain}
@@ -114,6 +114,41 @@ pub number_elsewhere : (bs : List ℕ) → ¬ (BeginsWhole bs) → number_in bs 
 number_elsewhere bs h =
     not_there (bytes_eq bs (signed_decimal (signed_digits_value 10 bs)) && is_i64 (signed_digits_value 10 bs)) (signed_digits_value 10 bs)
     (λ t. let was = if_whole-was bs (signed_digits_value 10 bs) t in h (begins_text bs (signed_digits_value 10 bs) was.1 was.0))
+
+-- at most 18 digits fit, also below zero
+fits_plain : (n : ℕ) → n < 10 ^ 18 → FitsSigned w64 (pos n)
+fits_plain n h = let small : n < 2 ^ 63 = omega arith in record { sfits = small }
+
+fits_minus : (n : ℕ) → n < 10 ^ 18 → FitsSigned w64 (neg_ℤ (pos n))
+fits_minus zero h = let small : 0 < 2 ^ 63 = omega arith in record { sfits = small }
+fits_minus (suc n) h = let small : n < 2 ^ 63 = omega arith in record { sfits = small }
+
+-- digits behind a - are parsed as their number below zero
+pub minus_parsed : (E : Type 0) (bs ds : List ℕ) (n : ℕ) → bs ≡ 45 ∷ ds → IsNumeral 10 ds → n ≡ digits_value 10 ds → n < 10 ^ 18 → ParsesSigned {E = E} w64 10 bs (Ok (neg_ℤ (pos n)))
+minus_parsed E bs ds n e digits value small =
+    subst (λ (l : List ℕ). ParsesSigned {E = E} w64 10 l (Ok (neg_ℤ (pos n)))) (sym e)
+    ((digits, subst (λ (k : ℕ). FitsSigned w64 (neg_ℤ (pos k))) value (fits_minus n small)), ap (λ k. neg_ℤ (pos k)) value)
+
+-- what stands behind a - and is no numeral isn't parsed
+pub minus_refused : {E : Type 0} (bs ds : List ℕ) (x : E) → bs ≡ 45 ∷ ds → (IsNumeral 10 ds → ⊥) → ParsesSigned w64 10 bs (Err x)
+minus_refused {E} bs ds x e none = subst (λ (l : List ℕ). ParsesSigned {E = E} w64 10 l (Err x)) (sym e) (λ q. none q.0)
+
+-- digits without a sign are parsed as their number
+pub plain_parsed : (E : Type 0) (bs : List ℕ) (n : ℕ) → get_or bs 0 0 ≢ 45 → get_or bs 0 0 ≢ 43 → IsNumeral 10 bs → n ≡ digits_value 10 bs → n < 10 ^ 18
+    → ParsesSigned {E = E} w64 10 bs (Ok (pos n))
+plain_parsed E bs n minus plus digits value small =
+    let no_minus : (get_or bs 0 0 == 45) ≡ false = grind (arith, nat_tests) in
+    let no_plus : (get_or bs 0 0 == 43) ≡ false = grind (arith, nat_tests) in
+    rw (no_minus, no_plus) ((digits, subst (λ (k : ℕ). FitsSigned w64 (pos k)) value (fits_plain n small)), ap pos value)
+
+-- what has no sign and is no numeral isn't parsed
+pub plain_refused : {E : Type 0} (bs : List ℕ) (x : E) → get_or bs 0 0 ≢ 45 → get_or bs 0 0 ≢ 43 → (IsNumeral 10 bs → ⊥) → ParsesSigned w64 10 bs (Err x)
+plain_refused bs x minus plus none =
+    let no_minus : (get_or bs 0 0 == 45) ≡ false = grind (arith, nat_tests) in
+    let no_plus : (get_or bs 0 0 == 43) ≡ false = grind (arith, nat_tests) in
+    rw (no_minus, no_plus) (λ q. none q.0)
+
+pub ruleset short_laws = (minus_parsed, minus_refused, plain_parsed, plain_refused)
 
 -- what the reader of whole numbers stands on
 pub ruleset whole_laws = (whole_found, whole_only, number_elsewhere)

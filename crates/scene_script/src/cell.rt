@@ -1,5 +1,7 @@
 //! Values, cells, kinds and shapes as words.
-ghost use Rattle.std.specs.Prelude.{◌≡◌};
+ghost use Rattle.std.specs.Prelude.{◌≡◌, Err};
+ghost use Rattle.scene_kinds.specs.Schema.{number_of};
+ghost use Rattle.scene_script.specs.declared.bad_line.BadLine.TheVariants as bad;
 ghost use Rattle.scene_script.specs.Cells.{vec3_said, value_said, is_text, kind_said, lone_name, cell_said, cell_name, next_cell, cells_said, shape_said, lone_shape, shaped_value_said};
 ghost use Rattle.scene_script.specs.Reading.{Reads};
 
@@ -32,6 +34,7 @@ fn vec3(alloc: Global, text: &str) -> Result<[i64; 3], LineError>
 
 /// The value of a shape that a text behind a name is (docs/SCRIPTS.md, "Words"): a whole number, three of them joined
 /// by commas, the text itself, also an empty one, or an entity text. A tag has no value.
+#[inline(always)]
 fn value(alloc: Global, name: &str, shape: Shape, text: &str) -> Result<Value, LineError>
     ensures { Reads result (value_said name.now shape text.now) }
 {
@@ -44,13 +47,53 @@ fn value(alloc: Global, name: &str, shape: Shape, text: &str) -> Result<Value, L
     }
 }
 
+/// So many kinds are looked at sooner than a name is hashed.
+const KINDS_AT_ONCE: usize = 8;
+
+/// The first byte of a name, or 0.
+fn first_byte(name: &str) -> u8 {
+    match name.as_bytes() {
+        [] => 0,
+        [first, ..] => *first,
+    }
+}
+
+/// Whether it is worth it to compare two names whole.
+fn may_be_same(one: &str, other: &str) -> bool {
+    one.len() == other.len() && first_byte(one) == first_byte(other)
+}
+
+/// The number of the kind with a name, as `Schema::number_of`, sooner where there are few kinds.
+#[tactic(auto, using(crate::proofs::KindLaws::kind_here))]
+fn kind_named(schema: &Schema, name: &str) -> Option<u8>
+    ensures { result ≡ number_of schema.now name.now }
+{
+    for kind in 0..schema.len().min(KINDS_AT_ONCE) as u8 {
+        match schema.name_of(kind) {
+            Some(known) if may_be_same(known, name) && known == name => return Some(kind),
+            _ => {}
+        }
+    }
+    schema.number_of(name)
+}
+
+/// The mistake of a name that no kind has.
+#[cold]
+#[inline(never)]
+fn unknown_kind(alloc: Global, name: &str) -> Result<u8, LineError>
+    ensures { Reads result (Err (bad.UnknownKind name.now)) }
+{
+    Err(LineError::Bad(BadLine::UnknownKind(text_of(alloc, name)?)))
+}
+
 /// The kind of a name.
+#[inline(always)]
 pub(crate) fn kind_word(alloc: Global, schema: &Schema, name: &str) -> Result<u8, LineError>
     ensures { Reads result (kind_said schema.now name.now) }
 {
-    match schema.number_of(name) {
+    match kind_named(schema, name) {
         Some(kind) => Ok(kind),
-        None => Err(LineError::Bad(BadLine::UnknownKind(text_of(alloc, name)?))),
+        None => unknown_kind(alloc, name),
     }
 }
 

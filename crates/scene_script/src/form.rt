@@ -1,6 +1,5 @@
 //! The forms of lines.
-ghost use Rattle.std.specs.Prelude.{◌≡◌};
-ghost use Rattle.scene_script.specs.Forms as the;
+ghost use Rattle.std.specs.Prelude.{◌≡◌, ◌<◌, ◌⊎◌, length};
 ghost use Rattle.scene_script.specs.Forms.{form_named};
 
 use std::fmt;
@@ -44,82 +43,110 @@ pub enum LineForm {
 }
 
 impl LineForm {
-    /// The form that a first word names, or `None` only where it names none. It tries those first that long scripts
-    /// have most.
+    /// The form that a first word names, or `None` only where it names none.
     pub fn named(word: &str) -> Option<LineForm>
         ensures { result ≡ form_named word.now }
     {
-        command_named(word).or_else(|| frame_named(word).or_else(|| question_named(word).or_else(
-            || setup_named(word),
-        )))
+        match word.len() {
+            3 => named_by_three(word),
+            4 => named_by_four(word),
+            5 => named_by_five(word),
+            6 => named_by_six(word),
+            7 => named_by_seven(word),
+            _ => named_otherwise(word),
+        }
     }
 }
 
-/// The form of a command that a first word names.
-fn command_named(word: &str) -> Option<LineForm>
-    ensures { result ≡ the.command_named word.now }
+/// The form that a word of three bytes names. It tries those first that long scripts have most.
+fn named_by_three(word: &str) -> Option<LineForm>
+    requires { length word.now ≡ 3 }
+    ensures { result ≡ form_named word.now }
 {
     match word {
-        "spawn" => Some(LineForm::Spawn),
-        "insert" => Some(LineForm::Insert),
-        "despawn" => Some(LineForm::Despawn),
-        "parent" => Some(LineForm::Parent),
-        "remove" => Some(LineForm::Remove),
-        "unparent" => Some(LineForm::Unparent),
-        "despawnall" => Some(LineForm::DespawnAll),
-        "despawnifalive" => Some(LineForm::DespawnIfAlive),
         "put" => Some(LineForm::Put),
-        "drop" => Some(LineForm::Drop),
+        "get" => Some(LineForm::Get),
         _ => None,
     }
 }
 
-/// The form of a line that begins, ends, or takes back frames.
-fn frame_named(word: &str) -> Option<LineForm>
-    ensures { result ≡ the.frame_named word.now }
+/// The form that a word of four bytes names. It tries those first that long scripts have most.
+fn named_by_four(word: &str) -> Option<LineForm>
+    requires { length word.now ≡ 4 }
+    ensures { result ≡ form_named word.now }
 {
     match word {
         "undo" => Some(LineForm::Undo),
         "redo" => Some(LineForm::Redo),
-        "begin" => Some(LineForm::Begin),
-        "queue" => Some(LineForm::Queue),
-        "commit" => Some(LineForm::Commit),
-        "as" => Some(LineForm::As),
-        "advance" => Some(LineForm::Advance),
+        "drop" => Some(LineForm::Drop),
+        "show" => Some(LineForm::Show),
+        "mark" => Some(LineForm::Mark),
+        "dump" => Some(LineForm::Dump),
+        "kind" => Some(LineForm::Kind),
+        "load" => Some(LineForm::Load),
         _ => None,
     }
 }
 
-/// The form of a question.
-fn question_named(word: &str) -> Option<LineForm>
-    ensures { result ≡ the.question_named word.now }
+/// The form that a word of five bytes names. It tries those first that long scripts have most.
+fn named_by_five(word: &str) -> Option<LineForm>
+    requires { length word.now ≡ 5 }
+    ensures { result ≡ form_named word.now }
 {
     match word {
-        "get" => Some(LineForm::Get),
-        "mark" => Some(LineForm::Mark),
-        "changed" => Some(LineForm::Changed),
+        "spawn" => Some(LineForm::Spawn),
+        "begin" => Some(LineForm::Begin),
+        "queue" => Some(LineForm::Queue),
         "added" => Some(LineForm::Added),
-        "show" => Some(LineForm::Show),
+        "phase" => Some(LineForm::Phase),
+        "clear" => Some(LineForm::Clear),
+        "slots" => Some(LineForm::Slots),
+        "calls" => Some(LineForm::Calls),
+        "depth" => Some(LineForm::Depth),
+        _ => None,
+    }
+}
+
+/// The form that a word of six bytes names. It tries those first that long scripts have most.
+fn named_by_six(word: &str) -> Option<LineForm>
+    requires { length word.now ≡ 6 }
+    ensures { result ≡ form_named word.now }
+{
+    match word {
+        "insert" => Some(LineForm::Insert),
+        "parent" => Some(LineForm::Parent),
+        "remove" => Some(LineForm::Remove),
+        "commit" => Some(LineForm::Commit),
+        "system" => Some(LineForm::System),
+        _ => None,
+    }
+}
+
+/// The form that a word of seven bytes names. It tries those first that long scripts have most.
+fn named_by_seven(word: &str) -> Option<LineForm>
+    requires { length word.now ≡ 7 }
+    ensures { result ≡ form_named word.now }
+{
+    match word {
+        "despawn" => Some(LineForm::Despawn),
+        "changed" => Some(LineForm::Changed),
+        "advance" => Some(LineForm::Advance),
         "history" => Some(LineForm::History),
-        "dump" => Some(LineForm::Dump),
         "dumpall" => Some(LineForm::DumpAll),
         _ => None,
     }
 }
 
-/// The form of a line of the setup, or of systems.
-fn setup_named(word: &str) -> Option<LineForm>
-    ensures { result ≡ the.setup_named word.now }
+/// The form that a shorter or a longer word names.
+fn named_otherwise(word: &str) -> Option<LineForm>
+    requires { (length word.now < 3) ⊎ (7 < length word.now) }
+    ensures { result ≡ form_named word.now }
 {
     match word {
-        "phase" => Some(LineForm::Phase),
-        "system" => Some(LineForm::System),
-        "clear" => Some(LineForm::Clear),
-        "kind" => Some(LineForm::Kind),
-        "slots" => Some(LineForm::Slots),
-        "load" => Some(LineForm::Load),
-        "calls" => Some(LineForm::Calls),
-        "depth" => Some(LineForm::Depth),
+        "unparent" => Some(LineForm::Unparent),
+        "as" => Some(LineForm::As),
+        "despawnall" => Some(LineForm::DespawnAll),
+        "despawnifalive" => Some(LineForm::DespawnIfAlive),
         _ => None,
     }
 }

@@ -6,11 +6,17 @@ ghost use Rattle.std.specs.Int.{w64};
 ghost use Rattle.std.specs.List.{list_all};
 ghost use Rattle.std.specs.Char.{is_ascii_digit};
 ghost use Rattle.scene_script.specs.Numbers.{number_in, is_digits, is_whole, bad_number, number_said, entity_said};
+ghost use Rattle.std.specs.Prelude.{◌≢◌, ◌≤◌, ◌<◌, ◌^◌, length, slice_index, Err, pos, negsuc};
+ghost use Rattle.std.specs.Result.{OkIff};
+ghost use Rattle.std.specs.Str.Parse.{IsNumeral, digits_value, ParsesSigned};
+ghost use Rattle.scene_kinds.specs.EntityReading.{count_in, entity_in};
+ghost use Rattle.scene_script.specs.declared.bad_line.BadLine.TheVariants as bad;
 ghost use Rattle.scene_script.specs.Begins.{BeginsWhole};
 ghost use Rattle.scene_script.specs.Reading.{Reads};
 
 use crate::bad_line::{BadLine, LineError, text_of};
-use scene_kinds::{Entity, read_entity};
+use crate::word::cut;
+use scene_kinds::Entity;
 use std::alloc::{AllocError, Global};
 
 /// Whether a text begins as a whole number does that is written the one way.
@@ -25,6 +31,51 @@ fn begins_whole(bytes: &[u8]) -> bool
     }
 }
 
+/// A byte that is no digit, or no byte.
+#[derive(Drop)]
+struct NoDigits;
+
+/// So many digits are a number of 64 bits, whatever they are.
+const SURE_DIGITS: usize = 18;
+
+/// The number that digits are.
+fn digits_number(bytes: &[u8]) -> Result<u64, NoDigits>
+    requires { length bytes.now ≤ 18 }
+    ensures value { OkIff result (IsNumeral 10 bytes.now) (digits_value 10 bytes.now) }
+    ensures small { IfOk result (λ n. n < 10 ^ 18) }
+{
+    if bytes.is_empty() {
+        return Err(NoDigits);
+    }
+    let mut number = 0u64;
+    for byte in bytes {
+        if !byte.is_ascii_digit() {
+            return Err(NoDigits);
+        }
+        number = number * 10 + (*byte - b'0') as u64;
+    }
+    Ok(number)
+}
+
+/// The whole number that a few bytes are, as `parse` reads it, but for a `+`.
+#[tactic(auto, using(crate::proofs::NumberLaws::short_laws))]
+fn short_number(bytes: &[u8]) -> Result<i64, NoDigits>
+    requires few { length bytes.now ≤ 18 }
+    requires no_plus { slice_index bytes.now 0 ≢ 43 }
+    ensures { ParsesSigned w64 10 bytes.now result }
+{
+    match bytes {
+        [b'-', digits @ ..] => {
+            let number = digits_number(digits)?;
+            Ok(-(number as i64))
+        }
+        _ => {
+            let number = digits_number(bytes)?;
+            Ok(number as i64)
+        }
+    }
+}
+
 /// The whole number of 64 bits whose text this is (docs/SCRIPTS.md, "Words"): digits, perhaps after one `-`,
 /// with no `+`, no leading zero, and no `-0`. `None` only where the text is no such number.
 #[tactic(auto, using(crate::proofs::NumberLaws::whole_laws))]
@@ -33,10 +84,47 @@ pub fn read_number(text: &str) -> Option<i64>
     ensures found { IfSome result (λ z. text.now ≡ signed_decimal z) }
     ensures only { (z : ℤ) → FitsSigned w64 z → text.now ≡ signed_decimal z → result ≡ Some z }
 {
-    if !begins_whole(text.as_bytes()) {
+    let bytes = text.as_bytes();
+    if !begins_whole(bytes) {
         return None;
     }
+    if bytes.len() <= SURE_DIGITS {
+        return short_number(bytes).ok();
+    }
     text.parse::<i64>().ok()
+}
+
+/// The number of 32 bits that bytes are, as `read_count` of scene_kinds, sooner.
+#[tactic(auto, using(crate::proofs::CountLaws::count_laws))]
+pub(crate) fn count(bytes: &[u8]) -> Option<u32>
+    ensures { result ≡ count_in bytes.now }
+{
+    if bytes.len() > 10 || !begins_whole(bytes) {
+        return None;
+    }
+    let Ok(number) = digits_number(bytes) else {
+        return None;
+    };
+    if number > 4_294_967_295 {
+        return None;
+    }
+    Some(number as u32)
+}
+
+/// The entity that a text is, as `read_entity` of scene_kinds, sooner.
+pub(crate) fn entity(text: &str) -> Option<Entity>
+    ensures { result ≡ entity_in text.now }
+{
+    let Some((index, generation)) = cut(text, 'v') else {
+        return None;
+    };
+    let Some(index) = count(index.as_bytes()) else {
+        return None;
+    };
+    let Some(generation) = count(generation.as_bytes()) else {
+        return None;
+    };
+    Some(Entity { index, generation })
 }
 
 /// Whether each byte is a digit.
@@ -84,22 +172,42 @@ pub(crate) fn bad_number(
     }
 }
 
+/// The mistake of a word that is no whole number of 64 bits.
+#[cold]
+#[inline(never)]
+fn no_number(alloc: Global, word: &str) -> Result<i64, LineError>
+    ensures { Reads result (Err (bad_number word.now (negsuc 9223372036854775807) (pos 9223372036854775807))) }
+{
+    Err(LineError::Bad(bad_number(alloc, word, i64::MIN, i64::MAX)?))
+}
+
 /// The whole number of 64 bits that a word is.
+#[inline(always)]
 pub(crate) fn number_word(alloc: Global, word: &str) -> Result<i64, LineError>
     ensures { Reads result (number_said word.now) }
 {
     match read_number(word) {
         Some(number) => Ok(number),
-        None => Err(LineError::Bad(bad_number(alloc, word, i64::MIN, i64::MAX)?)),
+        None => no_number(alloc, word),
     }
 }
 
+/// The mistake of a word that is no entity.
+#[cold]
+#[inline(never)]
+fn no_entity(alloc: Global, word: &str) -> Result<Entity, LineError>
+    ensures { Reads result (Err (bad.NoEntity word.now)) }
+{
+    Err(LineError::Bad(BadLine::NoEntity(text_of(alloc, word)?)))
+}
+
 /// The entity that a word is.
+#[inline(always)]
 pub(crate) fn entity_word(alloc: Global, word: &str) -> Result<Entity, LineError>
     ensures { Reads result (entity_said word.now) }
 {
-    match read_entity(word) {
+    match entity(word) {
         Some(entity) => Ok(entity),
-        None => Err(LineError::Bad(BadLine::NoEntity(text_of(alloc, word)?))),
+        None => no_entity(alloc, word),
     }
 }

@@ -1,6 +1,7 @@
 //! What a line of a script says, or why it is bad.
-ghost use Rattle.std.specs.Prelude.{◌≡◌};
+ghost use Rattle.std.specs.Prelude.{◌≡◌, Err};
 ghost use Rattle.scene_script.specs.Reading.{Reads, ended, ended_behind};
+ghost use Rattle.scene_script.specs.declared.bad_line.BadLine.TheVariants as bad;
 ghost use Rattle.scene_script.specs.Script.{line_in, line_of_words, named_line, line_of_form, kind_line, limit_said, slots_line, load_line, calls_line, depth_line, spawn_line, insert_line, despawn_line, remove_line, parent_line, unparent_line, despawnall_line, despawnifalive_line, put_line, drop_line, get_line, system_line, session_said, as_line};
 
 use crate::bad_line::{BadLine, LineError, text_of};
@@ -66,17 +67,37 @@ pub enum Line {
     History,
 }
 
-/// A line that ends here says this.
+/// The mistake of a word too many.
+#[cold]
+#[inline(never)]
+fn extra_word(alloc: Global, form: LineForm, word: &str) -> Result<Line, LineError>
+    ensures { Reads result (Err (bad.ExtraWord word.now form)) }
+{
+    Err(LineError::Bad(BadLine::ExtraWord(text_of(alloc, word)?, form)))
+}
+
+/// The mistake of a word behind a text, which was meant as a part of it.
+#[cold]
+#[inline(never)]
+fn word_behind_text(alloc: Global, word: &str) -> Result<Line, LineError>
+    ensures { Reads result (Err (bad.BehindText word.now)) }
+{
+    Err(LineError::Bad(BadLine::BehindText(text_of(alloc, word)?)))
+}
+
+/// A line that ends here says this. Inlined, since a line is much to hand through a call.
+#[inline(always)]
 fn ended(alloc: Global, form: LineForm, words: Words, line: Line) -> Result<Line, LineError>
     ensures { Reads result (ended form words.entry line) }
 {
     match words.split_first() {
         None => Ok(line),
-        Some((word, _)) => Err(LineError::Bad(BadLine::ExtraWord(text_of(alloc, word)?, form))),
+        Some((word, _)) => extra_word(alloc, form, word),
     }
 }
 
 /// A line that ends here, behind a value, says this. Behind a text, a further word was meant as a part of it.
+#[inline(always)]
 fn ended_behind(
     alloc: Global,
     behind_text: bool,
@@ -87,14 +108,16 @@ fn ended_behind(
     ensures { Reads result (ended_behind behind_text form words.entry line) }
 {
     match words.split_first() {
-        Some((word, _)) if behind_text => {
-            Err(LineError::Bad(BadLine::BehindText(text_of(alloc, word)?)))
-        }
-        _ => ended(alloc, form, words, line),
+        None => Ok(line),
+        Some((word, _)) if behind_text => word_behind_text(alloc, word),
+        Some((word, _)) => extra_word(alloc, form, word),
     }
 }
 
+// Each form is read by a function of its own, so that a line pays only for the room that its form takes.
+
 /// `kind NAME SHAPE`.
+#[inline(never)]
 fn kind_line(alloc: Global, words: Words) -> Result<Line, LineError>
     ensures { Reads result (kind_line words.entry) }
 {
@@ -120,6 +143,7 @@ fn limit_word(alloc: Global, word: &str) -> Result<Limit, LineError>
 }
 
 /// `slots N`.
+#[inline(never)]
 fn slots_line(alloc: Global, words: Words) -> Result<Line, LineError>
     ensures { Reads result (slots_line words.entry) }
 {
@@ -131,6 +155,7 @@ fn slots_line(alloc: Global, words: Words) -> Result<Line, LineError>
 }
 
 /// `load TEXT`.
+#[inline(never)]
 fn load_line(alloc: Global, line: &str) -> Result<Line, LineError>
     ensures { Reads result (load_line line.now) }
 {
@@ -138,6 +163,7 @@ fn load_line(alloc: Global, line: &str) -> Result<Line, LineError>
 }
 
 /// `calls N`.
+#[inline(never)]
 fn calls_line(alloc: Global, words: Words) -> Result<Line, LineError>
     ensures { Reads result (calls_line words.entry) }
 {
@@ -149,6 +175,7 @@ fn calls_line(alloc: Global, words: Words) -> Result<Line, LineError>
 }
 
 /// `depth N`.
+#[inline(never)]
 fn depth_line(alloc: Global, words: Words) -> Result<Line, LineError>
     ensures { Reads result (depth_line words.entry) }
 {
@@ -160,6 +187,7 @@ fn depth_line(alloc: Global, words: Words) -> Result<Line, LineError>
 }
 
 /// `spawn CELL..`.
+#[inline(never)]
 fn spawn_line(alloc: Global, schema: &Schema, words: Words) -> Result<Line, LineError>
     ensures { Reads result (spawn_line schema.now words.entry) }
 {
@@ -168,6 +196,7 @@ fn spawn_line(alloc: Global, schema: &Schema, words: Words) -> Result<Line, Line
 }
 
 /// `insert T CELL`.
+#[inline(never)]
 fn insert_line(alloc: Global, schema: &Schema, words: Words) -> Result<Line, LineError>
     ensures { Reads result (insert_line schema.now words.entry) }
 {
@@ -190,6 +219,7 @@ fn insert_line(alloc: Global, schema: &Schema, words: Words) -> Result<Line, Lin
 }
 
 /// `despawn T`.
+#[inline(never)]
 fn despawn_line(alloc: Global, words: Words) -> Result<Line, LineError>
     ensures { Reads result (despawn_line words.entry) }
 {
@@ -206,6 +236,7 @@ fn despawn_line(alloc: Global, words: Words) -> Result<Line, LineError>
 }
 
 /// `remove T NAME`.
+#[inline(never)]
 fn remove_line(alloc: Global, schema: &Schema, words: Words) -> Result<Line, LineError>
     ensures { Reads result (remove_line schema.now words.entry) }
 {
@@ -226,6 +257,7 @@ fn remove_line(alloc: Global, schema: &Schema, words: Words) -> Result<Line, Lin
 }
 
 /// `parent T T`, the child and then its parent.
+#[inline(never)]
 fn parent_line(alloc: Global, words: Words) -> Result<Line, LineError>
     ensures { Reads result (parent_line words.entry) }
 {
@@ -246,6 +278,7 @@ fn parent_line(alloc: Global, words: Words) -> Result<Line, LineError>
 }
 
 /// `unparent T`.
+#[inline(never)]
 fn unparent_line(alloc: Global, words: Words) -> Result<Line, LineError>
     ensures { Reads result (unparent_line words.entry) }
 {
@@ -262,6 +295,7 @@ fn unparent_line(alloc: Global, words: Words) -> Result<Line, LineError>
 }
 
 /// `despawnall T`.
+#[inline(never)]
 fn despawnall_line(alloc: Global, words: Words) -> Result<Line, LineError>
     ensures { Reads result (despawnall_line words.entry) }
 {
@@ -278,6 +312,7 @@ fn despawnall_line(alloc: Global, words: Words) -> Result<Line, LineError>
 }
 
 /// `despawnifalive T`.
+#[inline(never)]
 fn despawnifalive_line(alloc: Global, words: Words) -> Result<Line, LineError>
     ensures { Reads result (despawnifalive_line words.entry) }
 {
@@ -294,6 +329,7 @@ fn despawnifalive_line(alloc: Global, words: Words) -> Result<Line, LineError>
 }
 
 /// `put NAME SHAPE` for a tag, else `put NAME SHAPE=VALUE`.
+#[inline(never)]
 fn put_line(alloc: Global, words: Words) -> Result<Line, LineError>
     ensures { Reads result (put_line words.entry) }
 {
@@ -316,6 +352,7 @@ fn put_line(alloc: Global, words: Words) -> Result<Line, LineError>
 }
 
 /// `drop NAME`.
+#[inline(never)]
 fn drop_line(alloc: Global, words: Words) -> Result<Line, LineError>
     ensures { Reads result (drop_line words.entry) }
 {
@@ -332,6 +369,7 @@ fn drop_line(alloc: Global, words: Words) -> Result<Line, LineError>
 }
 
 /// `get T`.
+#[inline(never)]
 fn get_line(alloc: Global, words: Words) -> Result<Line, LineError>
     ensures { Reads result (get_line words.entry) }
 {
@@ -343,6 +381,7 @@ fn get_line(alloc: Global, words: Words) -> Result<Line, LineError>
 }
 
 /// `system NAME [need=N,N] [without=N,N] STEP..`.
+#[inline(never)]
 fn system_line(alloc: Global, schema: &Schema, words: Words) -> Result<Line, LineError>
     ensures { Reads result (system_line schema.now words.entry) }
 {
@@ -363,6 +402,7 @@ fn session_word(alloc: Global, word: &str) -> Result<SessionNumber, LineError>
 }
 
 /// `as N`.
+#[inline(never)]
 fn as_line(alloc: Global, words: Words) -> Result<Line, LineError>
     ensures { Reads result (as_line words.entry) }
 {
@@ -374,6 +414,7 @@ fn as_line(alloc: Global, words: Words) -> Result<Line, LineError>
 }
 
 /// A line by its form and the words behind the first.
+#[inline(always)]
 fn line_of_form(
     alloc: Global,
     schema: &Schema,
@@ -421,6 +462,7 @@ fn line_of_form(
 }
 
 /// A line by its first word and the others.
+#[inline(always)]
 fn named_line(
     alloc: Global,
     schema: &Schema,
@@ -437,6 +479,7 @@ fn named_line(
 }
 
 /// A line by its words.
+#[inline(always)]
 fn line_of_words(
     alloc: Global,
     schema: &Schema,

@@ -10,5 +10,5 @@ cells-preserved c = λ row there.
     let kinds = c.args.schema.now in
     let cell = c.nth_cell-kind.result in
     let rest = cells_text kinds (drop (c.cells.number + 1) row.cells) in
-    moved (string_bytes c.cells.out) (row_cell_text kinds cell.0 (shown cell.1)) (cells_text kinds (drop c.cells.number row.cells)) rest _ (string_bytes c.write_row_cell.new.out) (c.cells.invariant row there)
-    (drop_at (cells_text kinds) row.cells c.cells.number (cell.0, shown cell.1) (c.nth_cell-kind.ensures row there)) c.in_ok-write_row_cell.ensures
+    moved (string_bytes c.cells.out) (row_cell_text kinds cell.0 (shown cell.1)) (cells_text kinds (drop c.cells.number row.cells)) rest _ (string_bytes c.write_next_cell.new.out) (c.cells.invariant row there)
+    (drop_at (cells_text kinds) row.cells c.cells.number (cell.0, shown cell.1) (c.nth_cell-kind.ensures row there)) c.in_ok-write_next_cell.ensures

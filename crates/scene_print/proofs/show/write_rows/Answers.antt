@@ -14,4 +14,4 @@ rows-preserved c =
     let rest = rows_text kinds (drop (c.rows.at + 1) rows) in
     moved (string_bytes c.rows.out) (text ++ 10 ∷ []) (rows_text kinds (drop c.rows.at rows)) rest _ (string_bytes c.push.new.self) c.rows.invariant
     (drop_at (rows_text kinds) rows c.rows.at r.0 r.1 ∙ sym (append_assoc text (10 ∷ []) rest))
-    (c.in_ok-push.ensures.bytes ∙ ap (λ b. string_bytes c.write_row.new.out ++ b) (c.in_ok-push.ensures.ascii (omega arith)) ∙ ap (λ b. b ++ 10 ∷ []) (c.in_ok-write_row.ensures r.0 r.1) ∙ append_assoc (string_bytes c.rows.out) text (10 ∷ []))
+    (c.in_ok-push.ensures.bytes ∙ ap (λ b. string_bytes c.write_next_row.new.out ++ b) (c.in_ok-push.ensures.ascii (omega arith)) ∙ ap (λ b. b ++ 10 ∷ []) (c.in_ok-write_next_row.ensures r.0 r.1) ∙ append_assoc (string_bytes c.rows.out) text (10 ∷ []))
