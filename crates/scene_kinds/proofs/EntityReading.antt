@@ -8,7 +8,7 @@ use Rattle.std.proofs.lemmas.Bool.Decides.{nat_tests}
 use Rattle.std.proofs.lemmas.Slice.Eq.{bytes_eq-Decides}
 use Rattle.std.proofs.lemmas.Fmt.{digits_value-decimal}
 use Rattle.scene_kinds.specs.declared.entity.Entity.{Entity}
-use Rattle.scene_kinds.specs.Entity.{entity_text}
+use Rattle.scene_kinds.specs.Entity.{SaysEntity, entity_text}
 use Rattle.scene_kinds.specs.EntityReading.{cut_at, if_count, count_in, entity_of, entity_in}
 use Rattle.scene_kinds.proofs.Numbers.{own, no_v}
 
@@ -134,12 +134,9 @@ entity_of_parts bytes (Some p) e h k =
 pub entity_in-was : (bytes : List ℕ) (e : Entity) → entity_in bytes ≡ Some e → (e.index < 2 ^ 32) × (e.generation < 2 ^ 32) × (bytes ≡ entity_text e.index e.generation)
 entity_in-was bytes e h = entity_of_parts bytes (cut_at 118 bytes) e refl h
 
--- what has just the texts of entities is `entity_in`
-pub entity_is : (bytes : List ℕ) (r : Option Entity) → IfSome r (λ e. (e.index < 2 ^ 32) × (e.generation < 2 ^ 32)) → IfSome r (λ e. bytes ≡ entity_text e.index e.generation)
-    → ((i g : ℕ) → i < 2 ^ 32 → g < 2 ^ 32 → bytes ≡ entity_text i g → r ≡ Some (record { index = i; generation = g })) → r ≡ entity_in bytes
-entity_is bytes (Some e) small found only = sym (entity_in-text bytes e.index e.generation small.0 small.1 found)
-entity_is bytes None small found only =
-    elim (entity_in bytes) as (λ o. entity_in bytes ≡ o → None ≡ o) [
-      | None ↦ λ h. refl
-      | Some e ↦ λ h. let was = entity_in-was bytes e h in absurd (let k : None ≡ Some (record { index = e.index; generation = e.generation }) = only e.index e.generation was.0 was.1 was.2 in cc)
-    ] refl
+-- what `entity_in` gives says the entity, and nothing else does
+pub says_entity : (bytes : List ℕ) (r : Option Entity) → r ≡ entity_in bytes → SaysEntity bytes r
+says_entity bytes None e = record { found = tt; only = λ i g hi hg text. e ∙ entity_in-text bytes i g hi hg text }
+says_entity bytes (Some entity) e =
+    let was = entity_in-was bytes entity (sym e) in
+    record { found = was.2; only = λ i g hi hg text. e ∙ entity_in-text bytes i g hi hg text }

@@ -1,7 +1,11 @@
 pub mod CellLaws
 pub mod Choices
+pub mod CountLaws
+pub mod Cuts
+pub mod DigitLaws
 pub mod Elements
 pub mod EntityReading
+pub mod KindNames
 pub mod KindSets
 pub mod Lists
 pub mod Maps

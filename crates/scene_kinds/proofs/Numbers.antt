@@ -1,33 +1,19 @@
 -- The one text of a number, and where the text of an entity is cut.
-use Rattle.std.proofs.Common.{◌≡◌, ◌≢◌, true, false, subst, ℕ, zero, suc, ◌<◌, ◌^◌, List, [], ◌∷◌, length, get_or, Result, Option, Ok, Err, IfOk, arith, refl, sym, lit<, MatchOption}
+use Rattle.std.proofs.Common.{◌≡◌, ◌≢◌, true, false, subst, ℕ, zero, suc, ◌<◌, ◌^◌, List, [], ◌∷◌, ◌++◌, length, get_or, Result, Ok, Err, arith, refl, sym, lit<}
 use Rattle.std.specs.Prelude.{MatchResult, is_ok}
 use Rattle.std.specs.Str.{IsUtf8}
 use Rattle.std.proofs.lemmas.Str.{IsUtf8-from_ascii, IsAscii-append}
 use Rattle.std.proofs.lemmas.Fmt.{IsAscii-decimal}
-use denote.Ref.{Bor}
-use Rattle.std.proofs.lemmas.Str.Pattern.{IsSplitOnceResult, split_after}
 use Rattle.std.specs.Prelude.{decimal}
-use Rattle.std.specs.Str.Parse.{AllDigits, digits_value, ParsesUnsigned}
-use Rattle.std.proofs.lemmas.Str.Parse.{IsNumeralModel, numerals_by_value, tells_digits, parse_plain, not_in_digits}
-use Rattle.std.proofs.lemmas.Fmt.{decimal-digits_value, parse-decimal, decimal_digit, first_decimal, decimal_nonempty, digits_decimal}
+use Rattle.std.specs.Str.Parse.{AllDigits, digits_value}
+use Rattle.std.proofs.lemmas.Str.Parse.{IsNumeralModel, numerals_by_value, tells_digits, not_in_digits}
+use Rattle.std.proofs.lemmas.Fmt.{decimal_digit, first_decimal, decimal_nonempty, digits_decimal}
 use Rattle.scene_kinds.specs.Number.{BeginsPlainly}
 use Rattle.scene_kinds.specs.Entity.{entity_text}
 
 -- numerals are digits with their value
 pub own : IsNumeralModel (AllDigits 10) (digits_value 10)
 own = numerals_by_value (AllDigits 10) tells_digits
-
--- a number that is read from a plain text has that text
-pub number_found : {E : Type 0} (bs : List ℕ) (r : Result ℕ E) → ParsesUnsigned 32 10 bs r → BeginsPlainly bs → IfOk r (λ n. bs ≡ decimal n)
-number_found {E} bs (Err e) h b = tt
-number_found {E} bs (Ok n) h b =
-    let q = parse_plain own {E = E} 32 bs (Ok n) h b.1 in
-    let small : digits_value 10 bs < 2 ^ 64 = omega (arith, q.0.2) in
-    rw q.1 (sym (decimal-digits_value own bs q.0.0 q.0.1 b.2 small))
-
--- the text of a number is read as that number
-pub number_only : {E : Type 0} (bs : List ℕ) (r : Result ℕ E) (n : ℕ) → n < 2 ^ 32 → bs ≡ decimal n → ParsesUnsigned 32 10 bs r → r ≡ Ok n
-number_only bs r n small e h = parse-decimal 32 n bs r small (omega arith) e h
 
 -- the text of a number begins plainly
 begins : (n : ℕ) → n < 2 ^ 64 → BeginsPlainly (decimal n)
@@ -43,13 +29,6 @@ begins_decimal bs n small e = rw e (begins n small)
 -- a decimal number holds no `v`
 pub no_v : (n : ℕ) → n < 2 ^ 64 → (i : ℕ) → i < length (decimal n) → get_or (decimal n) i 0 ≢ 118
 no_v n small = not_in_digits own (decimal n) 118 (digits_decimal own n small) (λ h. omega (arith, h.1))
-
--- where `split_once('v')` cuts an entity text
-pub splits_at_v : (bs : List ℕ) (i g : ℕ) (r : Option (Bor (List ℕ) × Bor (List ℕ))) → IsSplitOnceResult 118 bs r → i < 2 ^ 32 → bs ≡ entity_text i g
-    → MatchOption r ⊥ (λ x. (x.0.now ≡ decimal i) × (x.1.now ≡ decimal g))
-splits_at_v bs i g r h small e = split_after 118 bs (decimal i) (decimal g) r h (lit< tt) e (no_v i (omega arith))
-
-pub ruleset numbers = (number_found, number_only, begins_decimal)
 
 -- the letter v is ASCII
 v_is_ascii : (i : ℕ) → get_or (118 ∷ []) i 0 < 128

@@ -1,9 +1,10 @@
 //! Entities and their text.
-ghost use Rattle.std.specs.Prelude.{◌≡◌, ◌^◌, ◌<◌, ℕ, Some, IfSome};
+ghost use Rattle.std.specs.Prelude.{◌≡◌, Some};
 ghost use Rattle.std.specs.Result.{result_ok};
 ghost use Rattle.scene_kinds.specs.EntityReading.{entity_in};
 
-use crate::number::plain_number;
+use crate::number::read_count;
+use crate::text_cut::cut;
 use std::error::Error;
 use std::fmt;
 use std::str::FromStr;
@@ -28,31 +29,20 @@ impl Entity {
         ensures { SaysEntity bytes.now result }
     {
         let text = str::from_utf8(bytes).ok()?;
-        Entity::parse_text(text)
-    }
-
-    /// `parse` of bytes that are a text.
-    fn parse_text(text: &str) -> Option<Entity>
-        ensures found { IfSome result (λ e. text.now ≡ entity_text e.index e.generation) }
-        ensures only { (index generation : ℕ) → index < 2 ^ 32 → generation < 2 ^ 32
-            → text.now ≡ entity_text index generation
-            → result ≡ Some (record { index = index; generation = generation }) }
-    {
-        let (index, generation) = text.split_once('v')?;
-        Some(Entity {
-            index: plain_number(index)?,
-            generation: plain_number(generation)?,
-        })
+        read_entity(text)
     }
 }
 
 /// The entity whose text this is (docs/MODEL.md, "The rule of entity texts"). `None` only where the text is
 /// no entity's.
-#[tactic(auto, using(crate::proofs::EntityReading::entity_is))]
 pub fn read_entity(text: &str) -> Option<Entity>
     ensures { result ≡ entity_in text.now }
 {
-    Entity::parse(text.as_bytes())
+    let (index, generation) = cut(text, 'v')?;
+    Some(Entity {
+        index: read_count(index)?,
+        generation: read_count(generation)?,
+    })
 }
 
 /// A text that is no entity's.
@@ -76,7 +66,7 @@ impl FromStr for Entity {
     ghost from_str_gives = { λ text r. SaysEntity text (result_ok r) };
 
     fn from_str(text: &str) -> Result<Entity, ParseEntityError> {
-        Entity::parse_text(text).ok_or(ParseEntityError)
+        read_entity(text).ok_or(ParseEntityError)
     }
 }
 

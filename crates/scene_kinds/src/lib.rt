@@ -12,6 +12,7 @@
 
 mod cell;
 mod cells;
+mod digits;
 mod entity;
 mod fault;
 mod kind_set;
@@ -21,17 +22,20 @@ mod refusal;
 mod schema;
 mod shape;
 mod text;
+mod text_cut;
 mod value;
 
 pub use cell::{Cell, CellRef};
 pub use cells::{Cells, Row};
+pub use digits::{NoDigits, digits_number};
 pub use entity::{Entity, ParseEntityError, read_entity};
 pub use fault::Fault;
 pub use kind_set::{KindSet, KindSetMethods, KindsOfSet, has_kind, set_with, set_without};
 pub use laws::{kind_sets_compare_by_kinds, kind_sets_follow_cells};
-pub use number::{plain_number, read_count};
+pub use number::read_count;
 pub use refusal::{Place, Refusal};
 pub use schema::{Schema, good_name};
 pub use shape::{ParseShapeError, Shape};
 pub use text::Text;
+pub use text_cut::{cut, place_of};
 pub use value::Value;

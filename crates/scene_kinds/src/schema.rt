@@ -84,7 +84,21 @@ impl Schema {
     }
 
     /// The number of the kind with a name, or `None` where there is none.
+    #[tactic(auto, using(crate::proofs::KindNames::kind_here))]
     pub fn number_of(&self, name: &str) -> Option<u8>
+        ensures { result ≡ number_of self.now name.now }
+    {
+        for kind in 0..self.len().min(KINDS_AT_ONCE) as u8 {
+            match self.name_of(kind) {
+                Some(known) if may_be_same(known, name) && known == name => return Some(kind),
+                _ => {}
+            }
+        }
+        self.hashed_number_of(name)
+    }
+
+    /// `number_of`, by the hash of the name.
+    fn hashed_number_of(&self, name: &str) -> Option<u8>
         ensures { result ≡ number_of self.now name.now }
     {
         let number = self.kinds.get_index_of(name)?;
@@ -141,6 +155,22 @@ impl Schema {
             kinds: self.kinds.clone()?,
         })
     }
+}
+
+/// So many kinds are looked at sooner than a name is hashed.
+const KINDS_AT_ONCE: usize = 8;
+
+/// The first byte of a name, or 0.
+fn first_byte(name: &str) -> u8 {
+    match name.as_bytes() {
+        [] => 0,
+        [first, ..] => *first,
+    }
+}
+
+/// Whether it is worth it to compare two names whole.
+fn may_be_same(one: &str, other: &str) -> bool {
+    one.len() == other.len() && first_byte(one) == first_byte(other)
 }
 
 /// Whether each byte may stand in a name after its first.

@@ -25,15 +25,3 @@ pub kind_below : (kinds : Kinds) (name : List ℕ) (kind : ℕ) → IsSchema kin
 kind_below kinds name kind sound said =
     let there = within kinds name kind (was_there (bad.UnknownKind name) (number_of kinds name) kind said) in
     omega (arith, there, sound.few)
-
-named_here : (kinds : Kinds) (kind : ℕ) (known name : List ℕ) → IsSchema kinds → (o : Option (List ℕ × Shape)) → slice_get kinds kind ≡ o → Some known ≡ option_map (λ k. k.0) o → known ≡ name
-    → Some kind ≡ number_of kinds name
-named_here kinds kind known name sound None e h same = absurd (let none : Some known ≡ None = h in cc)
-named_here kinds kind known name sound (Some k) e h same =
-    let some : Some known ≡ Some k.0 = h in
-    let is : known ≡ k.0 = cc in
-    sym (sound.found kind k e) ∙ ap (number_of kinds) (sym is ∙ same)
-
--- a kind is found by its name
-pub kind_here : (kinds : Kinds) (kind : ℕ) (known name : List ℕ) → IsSchema kinds → Some known ≡ name_of kinds kind → known ≡ name → Some kind ≡ number_of kinds name
-kind_here kinds kind known name sound h same = named_here kinds kind known name sound (slice_get kinds kind) refl h same

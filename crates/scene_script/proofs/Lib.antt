@@ -1,5 +1,3 @@
-pub mod CountLaws
-pub mod DigitLaws
 pub mod KindLaws
 pub mod LineLaws
 pub mod NumberLaws

@@ -6,6 +6,7 @@ use Rattle.std.specs.Str.Lines.{lines, lines_of_parts, strip_carriage_return}
 use Rattle.std.proofs.lemmas.List.Splits.{slice_split_first, slice_split-cons_no, slice_split-cons_yes}
 use borrow.Author.Tests.{ltb-true, ltb-false}
 use Rattle.std.proofs.lemmas.Bool.Decides.{nat_tests}
+use Rattle.scene_kinds.proofs.Cuts.{none_chosen}
 
 -- a line feed
 abbrev is_end : ℕ → Bool
@@ -15,11 +16,6 @@ is_end b = b == 10
 some_chosen : (b : Bool) (n at : ℕ) → cond b (Some n) None ≡ Some at → (b ≡ true) × (n ≡ at)
 some_chosen true n at e = (refl, cc e)
 some_chosen false n at e = absurd (cc e)
-
--- a test that gave no place failed
-pub none_chosen : (b : Bool) (n : ℕ) → cond b (Some n) None ≡ None → b ≡ false
-none_chosen true n e = absurd (cc e)
-none_chosen false n e = refl
 
 -- one byte more, and there is a part
 more_at : (b : Bool) (x : ℕ) (xs : List ℕ) → is_end x ≡ b → (y : List ℕ) × (ys : List (List ℕ)) × (slice_split is_end xs ≡ y ∷ ys) → (y : List ℕ) × (ys : List (List ℕ)) × (slice_split is_end (x ∷ xs) ≡ y ∷ ys)

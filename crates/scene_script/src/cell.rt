@@ -1,16 +1,14 @@
 //! Values, cells, kinds and shapes as words.
 ghost use Rattle.std.specs.Prelude.{◌≡◌, Err};
-ghost use Rattle.scene_kinds.specs.Schema.{number_of};
 ghost use Rattle.scene_script.specs.declared.bad_line.BadLine.TheVariants as bad;
 ghost use Rattle.scene_script.specs.Cells.{vec3_said, value_said, is_text, kind_said, lone_name, cell_said, cell_name, next_cell, cells_said, shape_said, lone_shape, shaped_value_said};
 ghost use Rattle.scene_script.specs.Reading.{Reads};
 
 use crate::bad_line::{BadLine, LineError, text_of};
 use crate::number::{entity_word, number_word};
-use crate::word::cut;
 use crate::words::Words;
 use scene_commands::Components;
-use scene_kinds::{ParseShapeError, Schema, Shape, Value};
+use scene_kinds::{ParseShapeError, Schema, Shape, Value, cut};
 use std::alloc::Global;
 
 /// For how many cells at most a list has room at once. A line of many spaces has fewer words than it seems.
@@ -47,36 +45,6 @@ fn value(alloc: Global, name: &str, shape: Shape, text: &str) -> Result<Value, L
     }
 }
 
-/// So many kinds are looked at sooner than a name is hashed.
-const KINDS_AT_ONCE: usize = 8;
-
-/// The first byte of a name, or 0.
-fn first_byte(name: &str) -> u8 {
-    match name.as_bytes() {
-        [] => 0,
-        [first, ..] => *first,
-    }
-}
-
-/// Whether it is worth it to compare two names whole.
-fn may_be_same(one: &str, other: &str) -> bool {
-    one.len() == other.len() && first_byte(one) == first_byte(other)
-}
-
-/// The number of the kind with a name, as `Schema::number_of`, sooner where there are few kinds.
-#[tactic(auto, using(crate::proofs::KindLaws::kind_here))]
-fn kind_named(schema: &Schema, name: &str) -> Option<u8>
-    ensures { result ≡ number_of schema.now name.now }
-{
-    for kind in 0..schema.len().min(KINDS_AT_ONCE) as u8 {
-        match schema.name_of(kind) {
-            Some(known) if may_be_same(known, name) && known == name => return Some(kind),
-            _ => {}
-        }
-    }
-    schema.number_of(name)
-}
-
 /// The mistake of a name that no kind has.
 #[cold]
 #[inline(never)]
@@ -91,7 +59,7 @@ fn unknown_kind(alloc: Global, name: &str) -> Result<u8, LineError>
 pub(crate) fn kind_word(alloc: Global, schema: &Schema, name: &str) -> Result<u8, LineError>
     ensures { Reads result (kind_said schema.now name.now) }
 {
-    match kind_named(schema, name) {
+    match schema.number_of(name) {
         Some(kind) => Ok(kind),
         None => unknown_kind(alloc, name),
     }

@@ -30,4 +30,4 @@ pub use number::read_number;
 pub use script_line::{Line, read_line};
 pub use session_number::SessionNumber;
 pub use target::read_target;
-pub use word::{behind_first, cut};
+pub use word::behind_first;

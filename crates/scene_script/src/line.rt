@@ -2,7 +2,7 @@
 ghost use Rattle.std.specs.Prelude.{◌≡◌, ◌∷◌, ◌<◌, length};
 ghost use Rattle.std.specs.Str.Lines.{lines, strip_carriage_return};
 
-use crate::word::place_of;
+use scene_kinds::place_of;
 
 /// A line without the carriage return that stands before its line feed.
 fn without_return(line: &[u8]) -> &[u8]

@@ -15,8 +15,7 @@ ghost use Rattle.scene_script.specs.Begins.{BeginsWhole};
 ghost use Rattle.scene_script.specs.Reading.{Reads};
 
 use crate::bad_line::{BadLine, LineError, text_of};
-use crate::word::cut;
-use scene_kinds::Entity;
+use scene_kinds::{Entity, NoDigits, digits_number, read_entity};
 use std::alloc::{AllocError, Global};
 
 /// Whether a text begins as a whole number does that is written the one way.
@@ -31,31 +30,8 @@ fn begins_whole(bytes: &[u8]) -> bool
     }
 }
 
-/// A byte that is no digit, or no byte.
-#[derive(Drop)]
-struct NoDigits;
-
 /// So many digits are a number of 64 bits, whatever they are.
 const SURE_DIGITS: usize = 18;
-
-/// The number that digits are.
-fn digits_number(bytes: &[u8]) -> Result<u64, NoDigits>
-    requires { length bytes.now ≤ 18 }
-    ensures value { OkIff result (IsNumeral 10 bytes.now) (digits_value 10 bytes.now) }
-    ensures small { IfOk result (λ n. n < 10 ^ 18) }
-{
-    if bytes.is_empty() {
-        return Err(NoDigits);
-    }
-    let mut number = 0u64;
-    for byte in bytes {
-        if !byte.is_ascii_digit() {
-            return Err(NoDigits);
-        }
-        number = number * 10 + (*byte - b'0') as u64;
-    }
-    Ok(number)
-}
 
 /// The whole number that a few bytes are, as `parse` reads it, but for a `+`.
 #[tactic(auto, using(crate::proofs::NumberLaws::short_laws))]
@@ -92,39 +68,6 @@ pub fn read_number(text: &str) -> Option<i64>
         return short_number(bytes).ok();
     }
     text.parse::<i64>().ok()
-}
-
-/// The number of 32 bits that bytes are, as `read_count` of scene_kinds, sooner.
-#[tactic(auto, using(crate::proofs::CountLaws::count_laws))]
-pub(crate) fn count(bytes: &[u8]) -> Option<u32>
-    ensures { result ≡ count_in bytes.now }
-{
-    if bytes.len() > 10 || !begins_whole(bytes) {
-        return None;
-    }
-    let Ok(number) = digits_number(bytes) else {
-        return None;
-    };
-    if number > 4_294_967_295 {
-        return None;
-    }
-    Some(number as u32)
-}
-
-/// The entity that a text is, as `read_entity` of scene_kinds, sooner.
-pub(crate) fn entity(text: &str) -> Option<Entity>
-    ensures { result ≡ entity_in text.now }
-{
-    let Some((index, generation)) = cut(text, 'v') else {
-        return None;
-    };
-    let Some(index) = count(index.as_bytes()) else {
-        return None;
-    };
-    let Some(generation) = count(generation.as_bytes()) else {
-        return None;
-    };
-    Some(Entity { index, generation })
 }
 
 /// Whether each byte is a digit.
@@ -206,7 +149,7 @@ fn no_entity(alloc: Global, word: &str) -> Result<Entity, LineError>
 pub(crate) fn entity_word(alloc: Global, word: &str) -> Result<Entity, LineError>
     ensures { Reads result (entity_said word.now) }
 {
-    match entity(word) {
+    match read_entity(word) {
         Some(entity) => Ok(entity),
         None => no_entity(alloc, word),
     }

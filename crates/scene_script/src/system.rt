@@ -6,10 +6,10 @@ ghost use Rattle.scene_script.specs.Systems.{is_part, with_name, with_names, nam
 use crate::bad_line::{BadLine, LineError, text_of};
 use crate::cell::{cell_word, kind_word};
 use crate::number::number_word;
-use crate::word::{cut, parts};
+use crate::word::parts;
 use crate::words::Words;
 use scene_commands::Components;
-use scene_kinds::{KindSet, Schema, Value, set_with};
+use scene_kinds::{KindSet, Schema, Value, cut, set_with};
 use scene_systems::{Filter, RowStep, Step, Steps, SystemRule};
 use std::alloc::{AllocError, Global};
 

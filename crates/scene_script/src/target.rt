@@ -5,8 +5,8 @@ ghost use Rattle.scene_script.specs.Cells.{target_in, target_said};
 ghost use Rattle.scene_script.specs.Reading.{Reads};
 
 use crate::bad_line::{BadLine, LineError, text_of};
-use crate::number::{count, entity};
 use scene_commands::Target;
+use scene_kinds::{read_count, read_entity};
 use std::alloc::Global;
 
 /// The target that a word is (docs/SCRIPTS.md, "Words"): an entity text, or `+K` for the K-th entity, from 0, that the
@@ -15,8 +15,8 @@ pub fn read_target(word: &str) -> Option<Target>
     ensures { result ≡ target_in word.now }
 {
     match word.strip_prefix('+') {
-        Some(digits) => count(digits.as_bytes()).map(Target::New),
-        None => entity(word).map(Target::Id),
+        Some(digits) => read_count(digits).map(Target::New),
+        None => read_entity(word).map(Target::Id),
     }
 }
 

@@ -2,9 +2,9 @@
 ghost use Rattle.std.specs.Prelude.{◌≡◌, ◌<◌, ◌==◌, IfOk, map, position};
 ghost use Rattle.std.specs.List.{slice_split};
 ghost use Rattle.std.specs.Option.{option_map};
-ghost use Rattle.scene_kinds.specs.EntityReading.{cut_at};
 ghost use Rattle.scene_script.specs.Words.{without_spaces, behind_first};
 
+use scene_kinds::cut;
 use std::alloc::{AllocError, Global};
 
 /// The parts of a word between its marks, also empty ones. A word without a mark is one part.
@@ -13,25 +13,6 @@ pub(crate) fn parts(alloc: Global, word: &str, mark: char) -> Result<Vec<&str>, 
     ensures { IfOk result (λ v. map (λ p. p.now) v.items ≡ slice_split (λ b. b == mark) word.now) }
 {
     word.split(mark).collect(alloc)
-}
-
-/// The place of the first such byte.
-pub(crate) fn place_of(bytes: &[u8], mark: u8) -> Option<usize>
-    ensures { result ≡ position (λ b. b == mark) bytes.now }
-{
-    bytes.iter().position(|byte| *byte == mark)
-}
-
-/// What stands before and after the first such mark in a word, or `None` where the word has none.
-pub fn cut(word: &str, mark: char) -> Option<(&str, &str)>
-    requires { mark < 128 }
-    ensures { option_map (λ p. (p.0.now, p.1.now)) result ≡ cut_at mark word.now }
-{
-    // The mark is one byte, and no other character has such a byte in it.
-    match place_of(word.as_bytes(), mark as u8) {
-        Some(at) => Some((&word[..at], &word[at + 1..])),
-        None => None,
-    }
 }
 
 /// A text without the spaces that it begins with.

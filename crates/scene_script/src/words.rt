@@ -2,7 +2,8 @@
 ghost use Rattle.std.specs.Prelude.{◌≡◌, ◌≤◌, ◌∷◌, [], length, MatchOption};
 ghost use Rattle.scene_script.specs.Words.{words_of};
 
-use crate::word::{cut, without_spaces};
+use crate::word::without_spaces;
+use scene_kinds::cut;
 use std::marker::Model;
 
 /// Words that one or more spaces part (docs/SCRIPTS.md, "Words"), of which none was read yet. Spaces at the ends don't

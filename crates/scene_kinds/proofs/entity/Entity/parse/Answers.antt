@@ -1,5 +1,6 @@
 use Rattle.std.proofs.Common.{◌≡◌, rules, subst, List, ℕ}
 use Rattle.scene_kinds.specs.Entity.{SaysEntity}
+use Rattle.scene_kinds.proofs.EntityReading.{says_entity}
 use Rattle.scene_kinds.proofs.Numbers.{not_text_is_no_entity, entity_is_text}
 use Rattle.scene_kinds.proofs.entity.Entity.parse.Goals as goal
 
@@ -12,4 +13,4 @@ returns-in_err-text c = record {
 pub returns : goal.returns
 returns c =
     let same : c.in_ok-text.text.now ≡ c.args.bytes.now = search rules in
-    subst (λ (text : List ℕ). SaysEntity text c.parse_text.result) same (record { found = c.parse_text.ensures.found; only = c.parse_text.ensures.only })
+    subst (λ (text : List ℕ). SaysEntity text c.read_entity.result) same (says_entity c.in_ok-text.text.now c.read_entity.result c.read_entity.ensures)

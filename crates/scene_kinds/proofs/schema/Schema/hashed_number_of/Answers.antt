@@ -1,7 +1,7 @@
 use Rattle.std.proofs.Common.{◌∙◌, ap}
 use Rattle.scene_kinds.specs.Schema.{number_of}
 use Rattle.scene_kinds.proofs.Named.{number_of_keys}
-use Rattle.scene_kinds.proofs.schema.Schema.number_of.Goals as goal
+use Rattle.scene_kinds.proofs.schema.Schema.hashed_number_of.Goals as goal
 
 pub returns-in_err-number : goal.returns-in_err-number
 returns-in_err-number c =

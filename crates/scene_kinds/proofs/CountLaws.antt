@@ -1,13 +1,12 @@
 -- Which bytes are a number of 32 bits, by the tests that a reader makes.
-use Rattle.std.proofs.Common.{◌≡◌, ℕ, ◌<◌, ◌≤◌, ◌^◌, List, length, sym, subst, ◌∙◌, ap, arith, Some, None, pos}
+use Rattle.std.proofs.Common.{◌≡◌, ℕ, ◌<◌, ◌≤◌, ◌^◌, List, length, sym, subst, ◌∙◌, ap, arith, Some, None}
 use Rattle.std.specs.Prelude.{decimal}
 use Rattle.std.specs.Str.Parse.{IsNumeral, digits_value}
 use Rattle.std.proofs.lemmas.Fmt.{length-decimal-le, decimal_is_IsNumeral, decimal-digits_value}
 use Rattle.scene_kinds.specs.EntityReading.{count_in}
-use Rattle.scene_kinds.proofs.Numbers.{own}
+use Rattle.scene_kinds.proofs.Numbers.{own, begins_decimal}
 use Rattle.scene_kinds.proofs.EntityReading.{count_is, count_in-text}
-use Rattle.scene_script.specs.Begins.{BeginsWhole}
-use Rattle.scene_script.proofs.NumberLaws.{begins_text}
+use Rattle.scene_kinds.specs.Number.{BeginsPlainly}
 
 -- what is the text of no number is none
 no_text : (bs : List ℕ) → ((n : ℕ) → n < 2 ^ 32 → bs ≡ decimal n → ⊥) → None ≡ count_in bs
@@ -20,9 +19,9 @@ too_long bs long = no_text bs (λ n small e.
     let same = ap length e in
     omega (arith, few, same))
 
--- and begins as a whole number
-pub begins_otherwise : (bs : List ℕ) → ¬ (BeginsWhole bs) → None ≡ count_in bs
-begins_otherwise bs h = no_text bs (λ n small e. let fits : n < 2 ^ 63 = omega arith in h (begins_text bs (pos n) (record { sfits = fits }) e))
+-- and begins plainly
+pub begins_otherwise : (bs : List ℕ) → ¬ (BeginsPlainly bs) → None ≡ count_in bs
+begins_otherwise bs h = no_text bs (λ n small e. h (begins_decimal bs n (omega arith) e))
 
 -- and is all digits
 pub no_numeral : (bs : List ℕ) → (IsNumeral 10 bs → ⊥) → None ≡ count_in bs
@@ -36,9 +35,9 @@ too_large bs m value large = no_text bs (λ n small e.
     omega (arith, numeral.1, same, value))
 
 -- what passes all these tests is the number that its digits write
-pub count_found : (bs : List ℕ) (m : ℕ) → BeginsWhole bs → IsNumeral 10 bs → m ≡ digits_value 10 bs → m < 2 ^ 32 → Some m ≡ count_in bs
+pub count_found : (bs : List ℕ) (m : ℕ) → BeginsPlainly bs → IsNumeral 10 bs → m ≡ digits_value 10 bs → m < 2 ^ 32 → Some m ≡ count_in bs
 count_found bs m begins numeral value small =
-    let text : decimal (digits_value 10 bs) ≡ bs = decimal-digits_value own bs numeral.1 numeral.0 begins.lone_zero (omega (arith, value)) in
+    let text : decimal (digits_value 10 bs) ≡ bs = decimal-digits_value own bs numeral.1 numeral.0 begins.2 (omega (arith, value)) in
     sym (count_in-text bs m small (sym text ∙ ap decimal (sym value)))
 
 pub ruleset count_laws = (too_long, begins_otherwise, no_numeral, too_large, count_found)

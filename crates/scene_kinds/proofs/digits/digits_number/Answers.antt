@@ -2,8 +2,8 @@ use Rattle.std.proofs.Common.{◌≡◌, ◌≤◌, true, false, length, take, s
 use Rattle.std.specs.Int.{is_in_range}
 use Rattle.std.specs.Prelude.{slice_index_or}
 use Rattle.std.proofs.lemmas.List.{length-take-le}
-use Rattle.scene_script.proofs.DigitLaws.{more_digits, digits_room, digits_small, no_digit}
-use Rattle.scene_script.proofs.number.digits_number.Goals as goal
+use Rattle.scene_kinds.proofs.DigitLaws.{more_digits, digits_room, digits_small, no_digit}
+use Rattle.scene_kinds.proofs.digits.digits_number.Goals as goal
 
 pub returns-then-not-is_ascii_digit-clause-value : goal.returns-then-not-is_ascii_digit-clause-value
 returns-then-not-is_ascii_digit-clause-value c =
