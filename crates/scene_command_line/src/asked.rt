@@ -39,7 +39,7 @@ pub enum Asked {
 /// How a shell is asked for.
 #[derive(Debug, Drop)]
 pub struct ShellWords {
-    /// `--workers N`: how many threads work on an advance, 1 to 16, and 1 without the option.
+    /// `--workers N`: how many threads write large columns, 1 to 16, and 1 without the option.
     pub workers: u8,
     /// `--depth N`: of how many frames a record is kept, 1 to 1,048,576, and the most of them without the option. No
     /// store is named beside it, since a store tells its depth itself.

@@ -26,7 +26,7 @@ changes nothing; standard error tells where the first bad lines are and why, and
 docs/SCRIPTS.md explains the lines.";
 
 pub(crate) const WORKERS: &str =
-    "How many threads work on an advance, 1 to 16; what is printed doesn't depend on it [1]";
+    "How many threads write large columns, 1 to 16; what is printed doesn't depend on it [1]";
 
 pub(crate) const SHELL: &str =
     "Plays the lines on standard input, and answers each before it waits for the next";

@@ -6,5 +6,6 @@ pub mod LoneStep
 pub mod Members
 pub mod ReadRows
 pub mod RowSteps
+pub mod Unlisted
 pub mod VectorSums
 pub mod WrittenValues

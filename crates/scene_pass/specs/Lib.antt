@@ -4,4 +4,3 @@ pub mod InPlace
 pub mod Listed
 pub mod Lone
 pub mod Pass
-pub mod Since

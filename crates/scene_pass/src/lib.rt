@@ -3,7 +3,8 @@
 //! A `Filter` says which kind sets match. `matching` lists the entities of the matching rows, and `rows` copies the
 //! rows; `changed_since` and `added_since` list the cells of those rows that were changed or added after a tick. Rows
 //! come by ascending kind set, and in a table by place; the cells of a row by kind. A pass costs the number of kind
-//! sets times its logarithm, and the matching rows, or their cells where it lists cells.
+//! sets times its logarithm, and the matching rows; where it lists cells, of these only the tables that may have such
+//! a cell, and in them a comparison for each row and each kind that may.
 //!
 //! `map_rows` and `map_rows_alone` answer what the writing steps of a system make of each matching row, and
 //! `first_fault` the first sum among these that doesn't fit. The first parts large tables among threads, and answers

@@ -144,7 +144,7 @@ impl LoneOwner {
         enter(&mut self.log, &mut self.room, self.session, call, reply)
     }
 
-    /// The same, with the systems of an advance on as many threads as there are workers.
+    /// The same, with the large columns of an advance written by as many threads as there are workers.
     pub(crate) fn perform_with<R: Threads + Sync>(
         &mut self,
         rt: &R,

@@ -43,8 +43,8 @@ pub trait Performer<O: SessionOwner> {
         ensures answer { Q.finds query.now (whole_at (O.state owner.old)) result };
 }
 
-/// Performs calls on this thread, and the systems of an advance on as many threads as there are workers, 1 to 16. A
-/// number below is taken as 1, and one above as 16.
+/// Performs calls on this thread, where the large columns of an advance are written by as many threads as there are
+/// workers, 1 to 16. A number below is taken as 1, and one above as 16.
 // It has the handle by value, which may be a reference: with a lifetime of its own no call could be proved that is
 // given one.
 #[derive(Drop)]

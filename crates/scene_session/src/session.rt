@@ -118,8 +118,8 @@ impl<'a> Session<'a> {
         self.perform(rt, alloc, Call::Submit(queues), 1)
     }
 
-    /// Advances by a schedule, once no other session is inside, as one frame, with its systems on as many threads as
-    /// there are workers; a number below 1 is taken as 1, and one above 16 as 16 (docs/SESSIONS.md, "What a session
+    /// Advances by a schedule, once no other session is inside, as one frame, with large columns written by as many threads
+    /// as there are workers; a number below 1 is taken as 1, and one above 16 as 16 (docs/SESSIONS.md, "What a session
     /// promises"). The reply is the same for every number. It costs what the systems read and change, and its entry,
     /// which keeps the schedule.
     ///

@@ -168,9 +168,9 @@ impl State {
         enter(&mut self.history, session, call, replies)
     }
 
-    /// Performs a call as `perform` does, with the systems of an advance on as many threads as there are workers; a
-    /// number below 1 is taken as 1, and one above 16 as 16. What is answered, entered and refused is the same for
-    /// every number (docs/MODEL.md, "Many threads, one answer").
+    /// Performs a call as `perform` does, with the large columns of an advance written by as many threads as there are
+    /// workers; a number below 1 is taken as 1, and one above 16 as 16. What is answered, entered and refused is the
+    /// same for every number (docs/MODEL.md, "Many threads, one answer").
     ///
     /// Stopped as `perform` is, with the same left behind.
     pub fn perform_with<R: Threads + Sync>(

@@ -57,7 +57,7 @@ fn advance_alone(editor: &mut Editor, schedule: &Schedule) -> Option<(Reply, Rep
     }
 }
 
-/// The same on as many threads as there are workers.
+/// The same, with large columns written by as many threads as there are workers.
 fn advance<R: Threads + Sync>(
     rt: &R,
     editor: &mut Editor,
@@ -116,7 +116,7 @@ pub(crate) fn do_call(editor: &mut Editor, call: &Call) -> Option<(Reply, Reply)
     }
 }
 
-/// The same, with the systems of an advance on as many threads as there are workers.
+/// The same, with the large columns of an advance written by as many threads as there are workers.
 pub(crate) fn do_call_with<R: Threads + Sync>(
     rt: &R,
     editor: &mut Editor,
@@ -157,8 +157,8 @@ pub fn call_editor(editor: &mut Editor, call: &Call) -> Option<Reply>
     one(do_call(editor, call))
 }
 
-/// Performs a call as `call_editor` does, with the systems of an advance on as many threads as there are workers, 1 to
-/// 16; a number below is taken as 1, and one above as 16. The reply is the same for every number.
+/// Performs a call as `call_editor` does, with the large columns of an advance written by as many threads as there are
+/// workers, 1 to 16; a number below is taken as 1, and one above as 16. The reply is the same for every number.
 ///
 /// `None` where no memory was found: then the editor is as it was.
 pub fn call_editor_with<R: Threads + Sync>(

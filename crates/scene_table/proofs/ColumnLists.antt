@@ -1,10 +1,11 @@
 -- Columns that are gone over one after the other.
 use Rattle.std.proofs.Common.{◌≡◌, ℕ, zero, suc, ◌+◌, ◌<◌, ◌≤◌, List, [], ◌∷◌, ◌++◌, length, get_or, take, drop, map, refl, ap, subst, sym, ◌∙◌, arith, Option, Some, None}
-use Rattle.std.specs.Prelude.{slice_get, slice_set}
-use Rattle.std.specs.List.{AllZip}
+use Rattle.std.specs.Prelude.{◌||◌, Bool, false, slice_get, slice_set}
+use Rattle.std.specs.List.{AllZip, list_any}
 use Rattle.std.specs.Option.{option_map}
 use Rattle.std.proofs.lemmas.List.{take_more}
 use Rattle.std.proofs.lemmas.List.Elements.{AllZip-push}
+use Rattle.std.proofs.lemmas.List.Folds.{list_any_more}
 use Rattle.scene_kinds.specs.declared.cell.Cell.{Cell}
 use Rattle.scene_table.specs.Columns.{ColumnState, AreCellsAt, IsSameColumn, IsGrown, back_in_column, put_each}
 
@@ -168,3 +169,7 @@ put_step at n cells all columns new d cell e is l m here made =
 -- the next column, as the loop has it
 pub put_here : (at n : ℕ) (cells : List (ℕ × Cell)) (all columns : List ColumnState) (d : ColumnState) → columns ≡ put_each at (take n cells) all → n ≤ length cells → n < length all → get_or columns n d ≡ get_or all n d
 put_here at n cells all columns d is l m = ap (λ t. get_or t n d) is ∙ put-next at n cells all d l m
+
+-- none of the first columns passes a test, and neither does one more
+pub none_more : {X : Type 0} (test : X → Bool) (xs : List X) (n : ℕ) (x : X) → n < length xs → x ≡ get_or xs n x → list_any test (take n xs) ≡ false → test x ≡ false → list_any test (take (n + 1) xs) ≡ false
+none_more test xs n x l is before now = list_any_more test xs n x l ∙ (λ i. before i || (ap test (sym is) ∙ now) i)

@@ -29,4 +29,5 @@ pub mod StepsInOrder
 pub mod Swaps
 pub mod TableFacts
 pub mod TableRows
+pub mod TickBounds
 pub mod Zips

@@ -1,9 +1,11 @@
 -- The rows that entities and columns make, and what is done to both.
-use Rattle.std.proofs.Common.{◌≡◌, ℕ, zero, suc, ◌<◌, true, false, cond, List, [], ◌∷◌, length, get_or, drop, map, refl, ap, sym, ◌∙◌, arith, Option, Some, None, nat_eq}
-use Rattle.std.specs.Prelude.{slice_get, slice_set}
-use Rattle.std.specs.List.{position_from}
+use Rattle.std.proofs.Common.{◌≡◌, ℕ, zero, suc, ◌-◌, ◌<◌, true, false, cond, List, [], ◌∷◌, length, get_or, drop, map, refl, ap, sym, ◌∙◌, arith, Option, Some, None, nat_eq}
+use Rattle.std.specs.Prelude.{◌||◌, slice_get, slice_range, slice_set}
+use Rattle.std.specs.List.{list_any, position_from}
 use Rattle.std.specs.Option.{option_map}
 use Rattle.std.proofs.lemmas.List.{set-get_or, map-append}
+use Rattle.std.proofs.lemmas.List.Elements.{All-take, All-drop, All-map}
+use Rattle.std.proofs.lemmas.List.Folds.{list_any_none}
 use Rattle.std.proofs.lemmas.Option.{get_or_from_slice_get}
 use Rattle.scene_kinds.specs.Cells.{cell_of}
 use Rattle.scene_kinds.specs.declared.cell.Cell.{Cell}
@@ -13,7 +15,9 @@ use Rattle.scene_kinds.proofs.Places.{eq_by_cmp-nat_eq}
 use Rattle.scene_kinds.proofs.Positions.{found}
 use Rattle.scene_table.specs.Rows.{last_of, front_of, last_first, swap_out, put_back}
 use Rattle.scene_table.specs.Columns.{ColumnState, zip_with, with_first, rows_of, out_of_column, put_each, kinds_of, kinds_in, AreCellsAt, AreLong}
-use Rattle.scene_table.proofs.Zips.{zip-length, zip-swap_out, zip-put_back, zip-set, zip-get}
+use Rattle.scene_table.specs.declared.since.Since.{Since}
+use Rattle.scene_table.specs.Since.{is_since, row_has, rows_have}
+use Rattle.scene_table.proofs.Zips.{zip-length, zip-swap_out, zip-put_back, zip-set, zip-get, zip-part, zip-any-either, parts-length}
 
 -- a map over rows that leave, come back, or are written
 map-swap_out : {X Y : Type 0} (f : X → Y) (xs : List X) (i : ℕ) → map f (swap_out xs i) ≡ swap_out (map f xs) i
@@ -65,6 +69,18 @@ length-rows_of entities (column ∷ columns) long =
 -- the first column is as long as the rows of the others
 pub same_length : (entities : List Entity) (column : ColumnState) (columns : List ColumnState) → AreLong (length entities) (column ∷ columns) → length column.cells ≡ length (rows_of entities columns)
 same_length entities column columns long = first_long (length entities) column columns long ∙ sym (length-rows_of entities columns (rest_long (length entities) column columns long))
+
+-- a row of a part has a cell since a tick where a column has one in that part
+pub rows_any : (since : Since) (entities : List Entity) (columns : List ColumnState) (from to : ℕ) → AreLong (length entities) columns →
+    rows_have since (slice_range (rows_of entities columns) from to) ≡ list_any (λ (column : ColumnState). list_any (is_since since) (slice_range column.cells from to)) columns
+rows_any since entities [] from to long =
+    let bare = map (λ (entity : Entity). record { entity = entity; cells = [] }) entities in
+    list_any_none (row_has since) (slice_range bare from to) (All-take (λ (row : Row). row_has since row ≡ false) (to - from) (drop from bare) (All-drop (λ (row : Row). row_has since row ≡ false) from bare
+    (All-map (λ (row : Row). row_has since row ≡ false) (λ (entity : Entity). record { entity = entity; cells = [] }) entities (λ k d l. refl))))
+rows_any since entities (column ∷ columns) from to long =
+    ap (rows_have since) (zip-part (with_first column.kind) column.cells (rows_of entities columns) from to)
+    ∙ zip-any-either (with_first column.kind) (row_has since) (is_since since) (row_has since) (λ cell row. refl) _ _ (parts-length column.cells (rows_of entities columns) (same_length entities column columns long) from to)
+    ∙ ap (λ b. list_any (is_since since) (slice_range column.cells from to) || b) (rows_any since entities columns from to (rest_long (length entities) column columns long))
 
 -- a row leaves, with its entity and a cell of each column
 pub rows_out : (entities : List Entity) (columns : List ColumnState) (at : ℕ) → AreLong (length entities) columns →

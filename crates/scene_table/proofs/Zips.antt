@@ -1,8 +1,13 @@
 -- Two lists made one: what is done to both is done to the one.
-use Rattle.std.proofs.Common.{◌≡◌, ◌≤◌, ℕ, zero, suc, List, [], ◌∷◌, ◌++◌, length, take, drop, refl, ap, sym, arith, Some, None}
-use Rattle.std.specs.Prelude.{slice_get, slice_set}
+use Rattle.std.proofs.Common.{◌≡◌, ◌≤◌, ◌-◌, ◌∙◌, ℕ, zero, suc, Bool, true, false, List, [], ◌∷◌, ◌++◌, length, length-take, length-drop, take, drop, refl, ap, sym, arith, Some, None}
+use Rattle.std.specs.Prelude.{◌||◌, slice_get, slice_range, slice_set}
+use Rattle.std.specs.List.{list_any}
 use Rattle.scene_table.specs.Rows.{last_of, front_of, last_first, swap_out, put_back}
 use Rattle.scene_table.specs.Columns.{zip_with}
+
+-- parts of lists of one length are as long as one another
+pub parts-length : {X Y : Type 0} (xs : List X) (ys : List Y) → length xs ≡ length ys → (from to : ℕ) → length (slice_range xs from to) ≡ length (slice_range ys from to)
+parts-length xs ys e from to = omega (arith, length-take (to - from) (drop from xs), length-take (to - from) (drop from ys), length-drop from xs, length-drop from ys)
 
 module _ {X Y Z : Type 0} (f : X → Y → Z) where
   -- it is as long as both
@@ -90,3 +95,33 @@ module _ {X Y Z : Type 0} (f : X → Y → Z) where
   zip-get (u ∷ xs) [] i x y h k = absurd (let g : None ≡ Some y = k in cc)
   zip-get (u ∷ xs) (v ∷ ys) zero x y h k = cc
   zip-get (u ∷ xs) (v ∷ ys) (suc i) x y h k = zip-get xs ys i x y h k
+
+  -- a part of it is made of the parts of both
+  pub zip-part : (xs : List X) (ys : List Y) (from to : ℕ) → slice_range (zip_with f xs ys) from to ≡ zip_with f (slice_range xs from to) (slice_range ys from to)
+  zip-part xs ys from to = ap (take (to - from)) (zip-drop from xs ys) ∙ zip-take (to - from) (drop from xs) (drop from ys)
+
+  -- a test of what is made is one of the first, of the second, or of either
+  pub zip-any-first : (r : Z → Bool) (p : X → Bool) → ((x : X) (y : Y) → r (f x y) ≡ p x) → (xs : List X) (ys : List Y) → length xs ≡ length ys → list_any r (zip_with f xs ys) ≡ list_any p xs
+  zip-any-first r p h [] ys e = refl
+  zip-any-first r p h (x ∷ xs) [] e = absurd (omega arith)
+  zip-any-first r p h (x ∷ xs) (y ∷ ys) e = λ i. h x y i || zip-any-first r p h xs ys (omega arith) i
+
+  pub zip-any-second : (r : Z → Bool) (q : Y → Bool) → ((x : X) (y : Y) → r (f x y) ≡ q y) → (xs : List X) (ys : List Y) → length xs ≡ length ys → list_any r (zip_with f xs ys) ≡ list_any q ys
+  zip-any-second r q h [] [] e = refl
+  zip-any-second r q h [] (y ∷ ys) e = absurd (omega arith)
+  zip-any-second r q h (x ∷ xs) [] e = absurd (omega arith)
+  zip-any-second r q h (x ∷ xs) (y ∷ ys) e = λ i. h x y i || zip-any-second r q h xs ys (omega arith) i
+
+  pub zip-any-either : (r : Z → Bool) (p : X → Bool) (q : Y → Bool) → ((x : X) (y : Y) → r (f x y) ≡ (p x || q y)) → (xs : List X) (ys : List Y) → length xs ≡ length ys
+      → list_any r (zip_with f xs ys) ≡ (list_any p xs || list_any q ys)
+  zip-any-either r p q h [] [] e = refl
+  zip-any-either r p q h [] (y ∷ ys) e = absurd (omega arith)
+  zip-any-either r p q h (x ∷ xs) [] e = absurd (omega arith)
+  zip-any-either r p q h (x ∷ xs) (y ∷ ys) e =
+      (λ i. h x y i || zip-any-either r p q h xs ys (omega arith) i) ∙ exchanged (p x) (q y) (list_any p xs) (list_any q ys)
+    where
+      exchanged : (a b c d : Bool) → ((a || b) || (c || d)) ≡ ((a || c) || (b || d))
+      exchanged true b c d = refl
+      exchanged false true true d = refl
+      exchanged false true false d = refl
+      exchanged false false c d = refl

@@ -6,7 +6,9 @@ pub mod RowCells
 pub mod RowStep
 pub mod Rows
 pub mod Runs
+pub mod Since
 pub mod Steps
 pub mod Stored
 pub mod Table
 pub mod Tables
+pub mod TickList

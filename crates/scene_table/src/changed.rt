@@ -1,8 +1,9 @@
 //! The ticks at which the cells of a run's columns were changed.
-ghost use Rattle.std.specs.Prelude.{◌≡◌, ◌+◌, ◌<◌, true, Some, IfOk, length, map, replicate, slice_get};
+ghost use Rattle.std.specs.Prelude.{◌≡◌, ◌+◌, ◌<◌, ◌≤◌, ℕ, true, All, Some, IfOk, length, map, replicate, slice_get};
 ghost use Rattle.std.specs.List.{list_all};
 ghost use Rattle.scene_table.specs.Runs.{changed_of, Same, Each};
 
+use crate::writer::ColumnWriter;
 use std::alloc::{AllocError, Global};
 use std::marker::Model;
 
@@ -58,16 +59,32 @@ impl ChangedTicks {
         }
     }
 
-    /// Writes the ticks of the column of a number.
-    pub(crate) fn put(&self, number: usize, changed: &mut [u64])
+    /// Writes the ticks of the column of a number, by a writer.
+    pub(crate) fn put<W: ColumnWriter>(&self, writer: &W, number: usize, changed: &mut [u64])
         requires { length (changed_of self.now number (length changed.old)) ≡ length changed.old }
         ensures { changed.new ≡ changed_of self.now number (length changed.old) }
     {
         match &self.ticks {
-            Ticks::Same(tick) => changed.fill(*tick),
+            Ticks::Same(tick) => writer.put_tick(changed, *tick),
             Ticks::Each(columns) => {
                 if number < columns.len() {
                     changed.copy_from_slice(columns[number].as_slice());
+                }
+            }
+        }
+    }
+
+    /// A tick that none of the column of a number is after: the latest of them, or 0 where there are none.
+    pub(crate) fn latest(&self, number: usize) -> u64
+        ensures { (count : ℕ) → All (λ tick. tick ≤ result) (changed_of self.now number count) }
+    {
+        match &self.ticks {
+            Ticks::Same(tick) => *tick,
+            Ticks::Each(columns) => {
+                if number < columns.len() {
+                    latest_of(columns[number].as_slice())
+                } else {
+                    0
                 }
             }
         }
@@ -82,6 +99,17 @@ impl ChangedTicks {
             Ticks::Each(columns) => Ok(ChangedTicks::each(columns.clone()?)),
         }
     }
+}
+
+/// The latest of ticks, or 0 where there are none.
+fn latest_of(ticks: &[u64]) -> u64
+    ensures { All (λ tick. tick ≤ result) ticks.now }
+{
+    let mut latest: u64 = 0;
+    for tick in ticks {
+        latest = latest.max(*tick);
+    }
+    latest
 }
 
 /// Whether each tick is this one.

@@ -1,11 +1,15 @@
 //! A column of a table: the cells of one kind, as lists of values, of added ticks and of changed ticks.
-ghost use Rattle.std.specs.Prelude.{◌≡◌, ◌+◌, ◌<◌, ◌≤◌, [], length, map, slice_get, slice_set, Some, IsOk, OnOk, IfOk};
+ghost use Rattle.std.specs.Prelude.{◌≡◌, ◌+◌, ◌<◌, ◌≤◌, ℕ, [], length, map, slice_get, slice_range, slice_set, Some, IsOk, OnOk, IfOk, false};
+ghost use Rattle.std.specs.List.{list_any};
 ghost use Rattle.scene_kinds.specs.Cells.{shown};
 ghost use Rattle.scene_table.specs.Columns.{out_of_column, back_in_column, cells_of};
 ghost use Rattle.scene_table.specs.Runs.{AreInRange, changed_of, grown};
+ghost use Rattle.scene_table.specs.Since.{is_since};
 
 use crate::changed::ChangedTicks;
 use crate::series::Series;
+use crate::since::Since;
+use crate::ticks::TickList;
 use crate::writer::ColumnWriter;
 use scene_kinds::{Cell, CellRef, Value};
 use std::alloc::{AllocError, Global};
@@ -18,8 +22,8 @@ use std::marker::Model;
 pub(crate) struct Column {
     kind: u8,
     values: Vec<Value>,
-    added: Vec<u64>,
-    changed: Vec<u64>,
+    added: TickList,
+    changed: TickList,
 }
 
 impl Model for Column {
@@ -28,7 +32,7 @@ impl Model for Column {
 
     ghost Value = { ColumnState };
 
-    ghost view = { λ c. record { kind = c.kind; cells = cells_of c.values.items c.added.items c.changed.items; capacity = min (vec_capacity c.values) (min (vec_capacity c.added) (vec_capacity c.changed)) } };
+    ghost view = { λ c. record { kind = c.kind; cells = cells_of c.values.items c.added.items c.changed.items; capacity = min (vec_capacity c.values) (min c.added.capacity c.changed.capacity) } };
 
     ghost invariant = { λ c. IsColumn c.values.items c.added.items c.changed.items };
 }
@@ -42,8 +46,8 @@ impl Column {
         Column {
             kind,
             values: Vec::new(alloc),
-            added: Vec::new(alloc),
-            changed: Vec::new(alloc),
+            added: TickList::new(alloc),
+            changed: TickList::new(alloc),
         }
     }
 
@@ -81,10 +85,8 @@ impl Column {
         let last = self.values.len();
         self.values.push_reserved(value);
         self.values.swap(at, last);
-        self.added.push_reserved(added);
-        self.added.swap(at, last);
-        self.changed.push_reserved(changed);
-        self.changed.swap(at, last);
+        self.added.put_back(at, added);
+        self.changed.put_back(at, changed);
     }
 
     /// Takes out the cell at a place, and gives it. The last takes its place.
@@ -95,8 +97,8 @@ impl Column {
     {
         Cell {
             value: self.values.swap_remove(at),
-            added: self.added.swap_remove(at),
-            changed: self.changed.swap_remove(at),
+            added: self.added.take(at),
+            changed: self.changed.take(at),
         }
     }
 
@@ -108,8 +110,8 @@ impl Column {
     {
         Cell {
             value: std::mem::replace(&mut self.values[at], cell.value),
-            added: std::mem::replace(&mut self.added[at], cell.added),
-            changed: std::mem::replace(&mut self.changed[at], cell.changed),
+            added: self.added.set(at, cell.added),
+            changed: self.changed.set(at, cell.changed),
         }
     }
 
@@ -120,8 +122,8 @@ impl Column {
     {
         CellRef {
             value: &self.values[at],
-            added: self.added[at],
-            changed: self.changed[at],
+            added: self.added.get(at),
+            changed: self.changed.get(at),
         }
     }
 
@@ -156,7 +158,28 @@ impl Column {
             (changed_of changed.now number (length self.old.cells)) }
     {
         series.put(writer, self.values.as_mut_slice(), turns);
-        changed.put(number, self.changed.as_mut_slice());
+        self.changed.put(writer, number, changed);
+    }
+
+    /// Whether a cell may be one of those since a tick: where this says no, none of any part is.
+    pub(crate) fn may_have(&self, since: Since) -> bool
+        ensures { result ≡ false → (from to : ℕ) → list_any (is_since since) (slice_range self.now.cells from to) ≡ false }
+    {
+        match since {
+            Since::Added(tick) => self.added.may_pass(tick),
+            Since::Changed(tick) => self.changed.may_pass(tick),
+        }
+    }
+
+    /// Whether one of the cells from a place on, and before another, is one of those since a tick.
+    pub(crate) fn has_since(&self, from: usize, to: usize, since: Since) -> bool
+        requires { (from ≤ to) × (to ≤ length self.now.cells) }
+        ensures { result ≡ list_any (is_since since) (slice_range self.now.cells from to) }
+    {
+        match since {
+            Since::Added(tick) => self.added.any_after(from, to, tick),
+            Since::Changed(tick) => self.changed.any_after(from, to, tick),
+        }
     }
 
     /// A column with an equal kind and equal cells, or an error where no memory was found.
@@ -168,8 +191,8 @@ impl Column {
         Ok(Column {
             kind: self.kind,
             values: self.values.clone()?,
-            added: self.added.clone()?,
-            changed: self.changed.clone()?,
+            added: self.added.try_clone()?,
+            changed: self.changed.try_clone()?,
         })
     }
 }

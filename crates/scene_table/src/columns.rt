@@ -1,11 +1,12 @@
 //! The columns of a table, one for each of its kinds, ascending: what is done to a row is done to each column.
-ghost use Rattle.std.specs.Prelude.{◌≡◌, ◌+◌, ◌<◌, ◌≤◌, ℕ, List, [], false, length, map, insert, remove, slice_get, vec_capacity, All, Some, None, OnOk, OnErr, IfOk, IsOk, not, nat_eq, nat_lt};
-ghost use Rattle.std.specs.List.{AllZip, position_from};
+ghost use Rattle.std.specs.Prelude.{◌≡◌, ◌+◌, ◌<◌, ◌≤◌, ℕ, List, [], false, length, map, insert, remove, slice_get, slice_range, vec_capacity, All, Some, None, OnOk, OnErr, IfOk, IsOk, not, nat_eq, nat_lt};
+ghost use Rattle.std.specs.List.{AllZip, list_any, position_from};
 ghost use Rattle.std.specs.Option.{option_map};
 ghost use Rattle.scene_kinds.specs.Cells.{cell_of, with_cell};
 ghost use Rattle.scene_kinds.specs.declared.cell.Cell.{Cell};
 ghost use Rattle.scene_table.specs.Plain.{has_text};
 ghost use Rattle.scene_table.specs.Columns.{AreColumnsOf, AreLong, AreCellsAt, HasRoomAt, IsGrown, IsSameColumn, kinds_of, kinds_in, put_each, out_of_column, with_cells_of};
+ghost use Rattle.scene_table.specs.Since.{is_since};
 ghost use Rattle.scene_table.specs.Runs.{AreInRange, all_turned, changed_of, grown, turned};
 ghost use Rattle.scene_table.specs.declared.run.RunColumn.{RunColumn};
 
@@ -14,6 +15,7 @@ use crate::column::Column;
 use crate::plain::plain_cell;
 use crate::row_cells::{RowCells, Source};
 use crate::run::RunColumn;
+use crate::since::Since;
 use crate::writer::ColumnWriter;
 use scene_kinds::{Cell, KindSet, has_kind};
 use std::alloc::{AllocError, Global};
@@ -261,6 +263,31 @@ pub(crate) fn number_for(columns: &[Column], kind: u8) -> usize
         Some(number) => number,
         None => columns.len(),
     }
+}
+
+/// Whether a cell of these columns may be one of those since a tick: where this says no, none of any part is.
+pub(crate) fn may_have(columns: &[Column], since: Since) -> bool
+    ensures { result ≡ false → (from to : ℕ) → list_any (λ c. list_any (is_since since) (slice_range c.cells from to)) columns.now ≡ false }
+{
+    for column in columns {
+        if column.may_have(since) {
+            return true;
+        }
+    }
+    false
+}
+
+/// Whether one of the cells from a place on, and before another, is one of those since a tick, in one of these columns.
+pub(crate) fn have_since(columns: &[Column], from: usize, to: usize, since: Since) -> bool
+    requires { (from ≤ to) × All (λ c. to ≤ length c.cells) columns.now }
+    ensures { result ≡ list_any (λ c. list_any (is_since since) (slice_range c.cells from to)) columns.now }
+{
+    for column in columns {
+        if column.has_since(from, to, since) {
+            return true;
+        }
+    }
+    false
 }
 
 /// Columns with equal kinds and cells, or an error where no memory was found.

@@ -30,8 +30,10 @@ mod rows;
 mod run;
 mod run_laws;
 mod series;
+mod since;
 mod sums;
 mod table;
+mod ticks;
 mod writer;
 mod written;
 
@@ -44,6 +46,7 @@ pub use row_step::RowStep;
 pub use rows::{put_back_comes_back, swap_out_comes_back};
 pub use run::{Run, are_apart};
 pub use run_laws::{cells_are_rows, run_goes_on, runs_stay_live, turn_is_cells};
+pub use since::Since;
 pub use table::Table;
 pub use writer::{ColumnWriter, PARTED_VALUES, WritesAlone, WritesShared};
 pub use written::{Written, WrittenCell, changed_ticks};

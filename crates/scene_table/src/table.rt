@@ -1,11 +1,12 @@
 //! A table, as the list of its rows.
-ghost use Rattle.std.specs.Prelude.{◌≡◌, ◌+◌, ◌^◌, ◌<◌, ◌≤◌, ℕ, All, [], ◌∷◌, ◌++◌, length, map, slice_get, vec_capacity, Some, IsTrue, ◌↔◌, IsSome, IsOk, OnOk, OnErr, IfOk, IfErr, IfSome, IfNone, true, false};
+ghost use Rattle.std.specs.Prelude.{◌≡◌, ◌+◌, ◌^◌, ◌<◌, ◌≤◌, ℕ, All, [], ◌∷◌, ◌++◌, length, map, slice_get, slice_range, vec_capacity, Some, IsTrue, ◌↔◌, IsSome, IsOk, OnOk, OnErr, IfOk, IfErr, IfSome, IfNone, true, false};
 ghost use Rattle.std.specs.Option.{option_map};
 ghost use Rattle.scene_kinds.specs.Cells.{HasKinds, shown};
 ghost use Rattle.scene_kinds.specs.KindSet.{has_kind, set_with, set_without};
 ghost use Rattle.scene_kinds.specs.declared.cells.Row.{Row};
 ghost use Rattle.scene_table.specs.Rows.{swap_out, put_back};
 ghost use Rattle.scene_table.specs.Columns.{cells_of};
+ghost use Rattle.scene_table.specs.Since.{rows_have};
 ghost use Rattle.scene_table.specs.Runs.{HoldsAt, added_in, changed_of, rows_after, rows_with_rows};
 ghost use Rattle.scene_table.specs.Tables.{row_for};
 ghost use Rattle.scene_table.specs.declared.run.RunColumn.{RunColumn};
@@ -14,12 +15,13 @@ ghost use Rattle.scene_table.specs.Table.{AllHave, HasRoom, cell_at, cells_of_ki
 use crate::changed::ChangedTicks;
 use crate::column::{Column, ColumnRef};
 use crate::columns::{
-    clone_columns, drop_cells, make_columns, move_gaining, move_losing, number_for, number_of,
-    put_columns, put_row, reserve_each, take_cells,
+    clone_columns, drop_cells, have_since, make_columns, may_have, move_gaining, move_losing,
+    number_for, number_of, put_columns, put_row, reserve_each, take_cells,
 };
 use crate::entities::move_entity;
 use crate::row_cells::RowCells;
 use crate::run::Run;
+use crate::since::Since;
 use crate::writer::ColumnWriter;
 use scene_kinds::{Cell, CellRef, Cells, Entity, KindSet, KindSetMethods, Row};
 use std::alloc::{AllocError, AllocFailed, Global};
@@ -163,6 +165,23 @@ impl Table {
     {
         let column = &self.columns[number];
         (column.kind(), column.get(at))
+    }
+
+    /// Whether a cell may be one of those since a tick: where this says no, none is. Where one was that was taken out
+    /// or back since, as by an undo, it may say yes. It costs a walk over the table's kinds.
+    pub fn may_have(&self, since: Since) -> bool
+        ensures { result ≡ false → rows_have since self.now.rows ≡ false }
+    {
+        may_have(self.columns.as_slice(), since)
+    }
+
+    /// Whether a row from a place on, and before another, has a cell that is one of those since a tick. It costs a
+    /// comparison for each of these rows, in the columns that may have such a cell.
+    pub fn has_since(&self, from: usize, to: usize, since: Since) -> bool
+        requires { (from ≤ to) × (to ≤ length self.now.rows) }
+        ensures { result ≡ rows_have since (slice_range self.now.rows from to) }
+    {
+        have_since(self.columns.as_slice(), from, to, since)
     }
 
     /// Makes room for this many more rows, in all columns.

@@ -1,5 +1,5 @@
-//! How the values of a run's columns are written: by the calling thread, or by several.
-ghost use Rattle.std.specs.Prelude.{◌≡◌, ◌+◌, ◌<◌, ◌≤◌, drop, length, take};
+//! How the values and the ticks of a run's columns are written: by the calling thread, or by several.
+ghost use Rattle.std.specs.Prelude.{◌≡◌, ◌+◌, ◌<◌, ◌≤◌, drop, length, replicate, take};
 ghost use Rattle.std.specs.Thread.{IsSync};
 ghost use Rattle.scene_table.specs.Runs.{AreInRange, ints_after, vecs_after};
 
@@ -30,6 +30,11 @@ pub trait ColumnWriter {
         requires range { AreInRange (vecs_after base.now by.now turns) }
         requires long { length (vecs_after base.now by.now turns) ≡ length values.old }
         ensures { values.new ≡ vecs_after base.now by.now turns };
+
+    /// Writes one tick at all places.
+    fn put_tick(&self, ticks: &mut [u64], tick: u64)
+        requires sync { IsSync Self.Runtime.row }
+        ensures { ticks.new ≡ replicate (length ticks.old) tick };
 }
 
 /// The calling thread writes all columns.
@@ -45,6 +50,10 @@ impl ColumnWriter for WritesAlone {
 
     fn put_vecs(&self, values: &mut [Value], base: &[[i64; 3]], by: &[[i64; 3]], turns: i64) {
         put_vecs(values, base, by, turns);
+    }
+
+    fn put_tick(&self, ticks: &mut [u64], tick: u64) {
+        ticks.fill(tick);
     }
 }
 
@@ -112,6 +121,21 @@ fn put_vecs_parted<R: Threads + Sync>(
     );
 }
 
+/// Writes one tick at all places by parts of a size, each in a thread.
+fn put_tick_parted<R: Threads + Sync>(rt: &R, ticks: &mut [u64], tick: u64, size: usize)
+    requires size { 0 < size }
+    ensures { ticks.new ≡ replicate (length ticks.old) tick }
+{
+    par_chunks_mut_for_each(
+        rt,
+        ticks,
+        size,
+        |_start: usize, part: &mut [u64]|
+            ensures { part.exit.now ≡ replicate (length part.entry.now) tick }
+        { part.fill(tick) },
+    );
+}
+
 impl<R: Threads + Sync> ColumnWriter for WritesShared<R> {
     type Runtime = R;
 
@@ -129,5 +153,13 @@ impl<R: Threads + Sync> ColumnWriter for WritesShared<R> {
         }
         let size = values.len().div_ceil(self.workers);
         put_vecs_parted(&self.rt, values, base, by, turns, size);
+    }
+
+    fn put_tick(&self, ticks: &mut [u64], tick: u64) {
+        if self.workers < 2 || ticks.len() < PARTED_VALUES {
+            return ticks.fill(tick);
+        }
+        let size = ticks.len().div_ceil(self.workers);
+        put_tick_parted(&self.rt, ticks, tick, size);
     }
 }

@@ -1,7 +1,7 @@
 use Rattle.std.proofs.Common.{◌≡◌, ◌++◌, drop}
 use Rattle.std.specs.List.{flat_map}
 use Rattle.scene_pass.specs.Pass.{names_in, cells_where}
-use Rattle.scene_pass.specs.Since.{is_since}
+use Rattle.scene_table.specs.Since.{is_since}
 use Rattle.scene_pass.proofs.cells.cells_since.Given as goal
 
 abbrev pub invariant-tables : goal.invariant-tables

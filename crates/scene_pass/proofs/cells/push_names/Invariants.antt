@@ -2,7 +2,7 @@ use Rattle.std.proofs.Common.{◌≡◌, ◌++◌, Some}
 use Rattle.std.specs.Prelude.{slice_get}
 use Rattle.scene_kinds.specs.declared.cells.Row.{Row}
 use Rattle.scene_pass.specs.Pass.{names_in}
-use Rattle.scene_pass.specs.Since.{is_since}
+use Rattle.scene_table.specs.Since.{is_since}
 use Rattle.scene_pass.proofs.RowSteps.{names_from}
 use Rattle.scene_pass.proofs.cells.push_names.Given as goal
 

@@ -7,18 +7,17 @@ index-requires c =
     let n : length c.args.self.now.cells ≡ length c.self.inside.values.items = ap (λ t. length t.cells) (sym c.self.view_is) ∙ length-cells_of _ _ _ c.self.invariant in
     omega arith
 
-pub index-requires-2 : goal.index-requires-2
-index-requires-2 c =
+pub get-requires : goal.get-requires
+get-requires c =
     let n : length c.args.self.now.cells ≡ length c.self.inside.values.items = ap (λ t. length t.cells) (sym c.self.view_is) ∙ length-cells_of _ _ _ c.self.invariant in
-    omega arith
+    omega (arith, c.self.invariant.ticks_added)
 
-pub index-requires-3 : goal.index-requires-3
-index-requires-3 c =
+pub get-requires-2 : goal.get-requires-2
+get-requires-2 c =
     let n : length c.args.self.now.cells ≡ length c.self.inside.values.items = ap (λ t. length t.cells) (sym c.self.view_is) ∙ length-cells_of _ _ _ c.self.invariant in
-    omega arith
+    omega (arith, c.self.invariant.ticks_changed)
 
 pub returns : goal.returns
 returns c =
     let n : length c.args.self.now.cells ≡ length c.self.inside.values.items = ap (λ t. length t.cells) (sym c.self.view_is) ∙ length-cells_of _ _ _ c.self.invariant in
-    ap (λ t. slice_get t.cells c.args.at) (sym c.self.view_is)
-    ∙ cells_of-get _ _ _ c.self.invariant c.args.at _ _ _ (omega arith) c.index.ensures c.index-2.ensures c.index-3.ensures
+    ap (λ t. slice_get t.cells c.args.at) (sym c.self.view_is) ∙ cells_of-get _ _ _ c.self.invariant c.args.at _ _ _ (omega arith) c.index.ensures c.get.ensures c.get-2.ensures

@@ -8,33 +8,33 @@ index_mut-requires c =
     let n : length c.args.self.now.cells ≡ length c.self.inside.values.items = ap (λ t. length t.cells) (sym c.self.view_is) ∙ length-cells_of _ _ _ c.self.invariant in
     omega arith
 
-pub index_mut-requires-2 : goal.index_mut-requires-2
-index_mut-requires-2 c =
+pub set-requires : goal.set-requires
+set-requires c =
     let n : length c.args.self.now.cells ≡ length c.self.inside.values.items = ap (λ t. length t.cells) (sym c.self.view_is) ∙ length-cells_of _ _ _ c.self.invariant in
-    omega arith
+    omega (arith, c.self.invariant.ticks_added)
 
-pub index_mut-requires-3 : goal.index_mut-requires-3
-index_mut-requires-3 c =
+pub set-requires-2 : goal.set-requires-2
+set-requires-2 c =
     let n : length c.args.self.now.cells ≡ length c.self.inside.values.items = ap (λ t. length t.cells) (sym c.self.view_is) ∙ length-cells_of _ _ _ c.self.invariant in
-    omega arith
+    omega (arith, c.self.invariant.ticks_changed)
 
 pub returns-clause-old : goal.returns-clause-old
 returns-clause-old c =
     let n : length c.args.self.now.cells ≡ length c.self.inside.values.items = ap (λ t. length t.cells) (sym c.self.view_is) ∙ length-cells_of _ _ _ c.self.invariant in
     ap (λ t. slice_get t.cells c.args.at) (sym c.self.view_is)
-    ∙ cells_of-get _ _ _ c.self.invariant c.args.at _ _ _ (omega arith) c.index_mut.ensures.value c.index_mut-2.ensures.value c.index_mut-3.ensures.value
-    ∙ (λ i. Some (record { value = sym c.replace.ensures.value i; added = sym c.replace-2.ensures.value i; changed = sym c.replace-3.ensures.value i }))
+    ∙ cells_of-get _ _ _ c.self.invariant c.args.at _ _ _ (omega arith) c.index_mut.ensures.value c.set.ensures.old c.set-2.ensures.old
+    ∙ (λ i. Some (record { value = sym c.replace.ensures.value i; added = c.set.result; changed = c.set-2.result }))
 
 pub returns-clause-new : goal.returns-clause-new
 returns-clause-new c =
     (λ i. record {
       kind = c.self.inside.kind;
-      cells = cells_of (slice_set c.self.inside.values.items c.args.at (c.replace.ensures.after i)) (slice_set c.self.inside.added.items c.args.at (c.replace-2.ensures.after i)) (slice_set c.self.inside.changed.items c.args.at (c.replace-3.ensures.after i));
-      capacity = min (vec_capacity c.self.inside.values) (min (vec_capacity c.self.inside.added) (vec_capacity c.self.inside.changed));
+      cells = cells_of (slice_set c.self.inside.values.items c.args.at (c.replace.ensures.after i)) (c.set.ensures.new i).items (c.set-2.ensures.new i).items;
+      capacity = min (vec_capacity c.self.inside.values) (min (c.set.ensures.new i).capacity (c.set-2.ensures.new i).capacity);
     })
     ∙ (λ i. record {
       kind = c.self.inside.kind;
       cells = cells_of-set _ _ _ c.self.invariant c.args.at c.args.cell.value c.args.cell.added c.args.cell.changed i;
-      capacity = min (vec_capacity c.self.inside.values) (min (vec_capacity c.self.inside.added) (vec_capacity c.self.inside.changed));
+      capacity = min (vec_capacity c.self.inside.values) (min c.self.inside.added.capacity c.self.inside.changed.capacity);
     })
     ∙ ap (λ (t : ColumnState). record t { cells = slice_set t.cells c.args.at c.args.cell }) c.self.view_is

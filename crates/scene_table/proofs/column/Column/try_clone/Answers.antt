@@ -5,6 +5,6 @@ use Rattle.scene_table.proofs.column.Column.try_clone.Goals as goal
 
 pub returns-clause-fits : goal.returns-clause-fits
 returns-clause-fits c =
-    let cells = zip-low stamped c.in_ok-clone.field-0.items (zip_with ticks c.in_ok-clone-2.field-0.items c.in_ok-clone-3.field-0.items) in
-    let both = zip-low ticks c.in_ok-clone-2.field-0.items c.in_ok-clone-3.field-0.items in
-    omega (arith, cells.0, cells.1, both.0, both.1)
+    let cells = zip-low stamped c.in_ok-clone.field-0.items (zip_with ticks c.in_ok-try_clone.field-0.items c.in_ok-try_clone-2.field-0.items) in
+    let both = zip-low ticks c.in_ok-try_clone.field-0.items c.in_ok-try_clone-2.field-0.items in
+    omega (arith, cells.0, cells.1, both.0, both.1, c.in_ok-try_clone.ensures.fits, c.in_ok-try_clone-2.ensures.fits)

@@ -1,0 +1,8 @@
+use Rattle.std.proofs.Common.{◌≡◌, ◌++◌, drop}
+use Rattle.std.specs.List.{flat_map}
+use Rattle.scene_pass.specs.Pass.{names_in}
+use Rattle.scene_table.specs.Since.{is_since}
+use Rattle.scene_pass.proofs.cells.push_names_of_part.Given as goal
+
+abbrev pub invariant-rows : goal.invariant-rows
+invariant-rows l = l.names.items ++ flat_map (names_in (is_since l.since)) (drop l.at l.table.rows) ≡ l.initial.names.items ++ flat_map (names_in (is_since l.since)) (drop l.from l.table.rows)
