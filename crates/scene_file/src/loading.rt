@@ -80,8 +80,8 @@ fn world_in(alloc: Global, text: &[u8]) -> Result<World, FileFault>
 /// that the walk through the text meets, with its path; `BadWorld` with the first rule that is broken. `NoMemory` may
 /// stand in place of any answer, and does where the text has more than 4,294,967,040 bytes. It costs the text's length,
 /// and for the kind sets of tables and the names of resources their number times its logarithm. No tree of values is
-/// made: while it lasts it takes up to five bytes for each byte of the text, 24 for each bracket, comma, colon, string
-/// and number, and what the parts take.
+/// made: while it lasts it takes a byte for each byte of the text, up to 48 for each value and each key, and what the
+/// parts take.
 #[tactic(auto, using(crate::proofs::TextFaults::loading, crate::proofs::OnlyTexts::texts))]
 pub fn load_text(alloc: Global, text: &[u8]) -> Result<World, FileFault>
     ensures world { IfOk result (λ world. loaded text.now ≡ Ok world.world) }

@@ -1,9 +1,10 @@
-pub mod Says
-pub mod Shapes
-pub mod Lists
-pub mod Members
+pub mod Seen
+pub mod Elements
+pub mod Growing
+pub mod Filled
+pub mod Turns
+pub mod LastValues
 pub mod Unknown
-pub mod Levels
-pub mod Whole
 pub mod Numbers
+pub mod FewDigits
 pub mod Plain

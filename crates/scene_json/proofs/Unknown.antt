@@ -9,13 +9,11 @@ use Rattle.std.proofs.lemmas.Bool.{false≢true, true≢false}
 use Rattle.std.proofs.lemmas.Cmp.{nat_list_cmp_total}
 use Rattle.std.proofs.lemmas.Map.Text.{is_eq-slice_cmp}
 use Rattle.std.proofs.lemmas.Slice.Eq.{bytes_eq-Decides}
-use Rattle.json.specs.Json as json
 use Rattle.json.proofs.Found.{Some_inj, not_found}
 use Rattle.serde_json.specs.Data.{Data, null, boolean, number, string, array, object, Members, no_members, member, put}
 use Rattle.serde_json.specs.Find.{as_object}
-use Rattle.serde_json.specs.Read.{of_members}
 use Rattle.scene_json.specs.Keys.{members_in, unknown_in, sooner}
-use Rattle.scene_json.proofs.Members.{one_member}
+use Rattle.scene_json.specs.NodeData.{put_all}
 
 abbrev compare : List ℕ → List ℕ → Ordering
 compare k l = slice_cmp nat_cmp k l
@@ -80,15 +78,6 @@ pub any_known : (key : List ℕ) (known : List (Bor (List ℕ))) → list_any (�
 any_known key [] = refl
 any_known key (k ∷ ks) = ap (λ b. bytes_eq key k.now || b) (any_known key ks)
 
--- what has no members has no unknown key
-pub no_members_in : (d : Data) → as_object d ≡ None → members_in d ≡ no_members
-no_members_in null e = refl
-no_members_in (boolean b) e = refl
-no_members_in (number n) e = refl
-no_members_in (string s) e = refl
-no_members_in (array ds) e = refl
-no_members_in (object ms) e = not_found ms (sym e)
-
 -- the key that comes first
 pub first_kept : (first key : List ℕ) → is_le (compare first key) ≡ true → first ≡ sooner (Some first) key
 first_kept first key h = kept (compare key first) refl
@@ -135,16 +124,22 @@ module _ (known : List (List ℕ)) where
       ] refl
 
   -- the first unknown key of members and of what came first before them
-  abbrev pub first_of : Option (List ℕ) → json.Members → Option (List ℕ)
-  first_of first json.no_members = first
-  first_of first (json.member k j ms) = first_of (first_with first k) ms
+  abbrev pub first_of : Option (List ℕ) → List (List ℕ × Data) → Option (List ℕ)
+  first_of first [] = first
+  first_of first (m ∷ ms) = first_of (first_with first m.0) ms
 
-  first_from : (ms : json.Members) (found ds : Members) → Ascend found → of_members ms found ≡ Some ds
-      → unknown_in known ds ≡ first_of (unknown_in known found) ms
-  first_from json.no_members found ds r e = ap (unknown_in known) (sym (Some_inj found ds e))
-  first_from (json.member k j ms) found ds r e =
-      let o = one_member k j ms found ds e in
-      first_from ms (put k o.0 found) ds (ascend_put k o.0 found r) o.2 ∙ ap (λ u. first_of u ms) (unknown_put k o.0 found r)
+  first_from : (ms : List (List ℕ × Data)) (found : Members) → Ascend found → unknown_in known (put_all ms found) ≡ first_of (unknown_in known found) ms
+  first_from [] found r = refl
+  first_from (m ∷ ms) found r =
+      first_from ms (put m.0 m.1 found) (ascend_put m.0 m.1 found r) ∙ ap (λ u. first_of u ms) (unknown_put m.0 m.1 found r)
 
-  pub first_unknown : (ms : json.Members) (ds : Members) → of_members ms no_members ≡ Some ds → unknown_in known ds ≡ first_of None ms
-  first_unknown ms ds e = first_from ms no_members ds tt e
+  pub first_unknown : (ms : List (List ℕ × Data)) → unknown_in known (put_all ms no_members) ≡ first_of None ms
+  first_unknown ms = first_from ms no_members tt
+
+  pub unknown_among : (d : Data) (ms : List (List ℕ × Data)) → Some (put_all ms no_members) ≡ as_object d → unknown_in known (members_in d) ≡ first_of None ms
+  unknown_among null ms e = not_found _ (sym e)
+  unknown_among (boolean b) ms e = not_found _ (sym e)
+  unknown_among (number n) ms e = not_found _ (sym e)
+  unknown_among (string s) ms e = not_found _ (sym e)
+  unknown_among (array ds) ms e = not_found _ (sym e)
+  unknown_among (object os) ms e = ap (unknown_in known) (sym (Some_inj _ _ e)) ∙ first_unknown ms

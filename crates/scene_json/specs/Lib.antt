@@ -1,7 +1,6 @@
 pub mod Examples
 pub mod Keys
 pub mod Lists
-pub mod Sound
+pub mod NodeData
 pub mod Texts
-pub mod Tokens
 pub mod View

@@ -1,10 +1,14 @@
 //! Numbers, by their texts.
-ghost use Rattle.std.specs.Prelude.{◌≡◌, ◌==◌, ◌<◌, IsTrue, is_some, length, option_and_then, slice_index, true, false};
+ghost use Rattle.std.specs.Prelude.{◌≡◌, ◌==◌, ◌<◌, ◌^◌, IsTrue, None, IfSome, MatchOption, is_some, length, option_and_then, slice_index, true, false};
 ghost use Rattle.std.specs.Float.{binary64, float_is_finite};
+ghost use Rattle.std.specs.Str.Parse.{IsNumeral, digits_value};
 ghost use Rattle.fast_float.specs.Text.{minus, nearest};
+ghost use Rattle.serde_json.specs.Data.{unsigned as whole_number};
 ghost use Rattle.serde_json.specs.Find.{as_i64, as_u64};
 ghost use Rattle.serde_json.specs.Read.{number_from, number_of};
+ghost use Rattle.scene_json.specs.NodeData.{IsNumber};
 
+use crate::node::Node;
 use fast_float::Numeral;
 
 /// Whether a number is below zero, or is -0.
@@ -55,6 +59,17 @@ pub(crate) fn u64_of(text: &str) -> Option<u64>
     unsigned(&Numeral::scan(text))
 }
 
+/// A whole number without a sign as one with a sign, where it fits.
+pub(crate) fn signed(number: u64) -> Option<i64>
+    ensures { result ≡ as_i64 (whole_number number) }
+{
+    if number <= i64::MAX as u64 {
+        Some(number as i64)
+    } else {
+        None
+    }
+}
+
 /// The whole number of 64 bits with a sign that a text says.
 pub(crate) fn i64_of(text: &str) -> Option<i64>
     ensures { result ≡ option_and_then as_i64 (number_of text.now) }
@@ -63,16 +78,11 @@ pub(crate) fn i64_of(text: &str) -> Option<i64>
     if has_minus(text) {
         return negative(&Numeral::scan(&text[1..]));
     }
-    let number = unsigned(&Numeral::scan(text))?;
-    if number <= i64::MAX as u64 {
-        Some(number as i64)
-    } else {
-        None
-    }
+    signed(unsigned(&Numeral::scan(text))?)
 }
 
 /// Whether a text says a number that is in range. Only one that is no whole number of 64 bits is read as a float.
-pub(crate) fn is_in_range(text: &str) -> bool
+fn is_in_range(text: &str) -> bool
     ensures { result ≡ is_some (number_of text.now) }
 {
     let text = text.as_bytes();
@@ -82,4 +92,44 @@ pub(crate) fn is_in_range(text: &str) -> bool
     }
     let numeral = Numeral::scan(text);
     unsigned(&numeral).is_some() || is_finite(false, &numeral)
+}
+
+/// So many digits are a number of 64 bits, whatever they are.
+const SURE_DIGITS: usize = 18;
+
+/// The number that a few digits are. It is none where they are many, or another byte stands among them.
+fn few_digits(bytes: &[u8]) -> Option<u64>
+    ensures { IfSome result (λ n. IsNumeral 10 bytes.now × (n ≡ digits_value 10 bytes.now) × (n < 10 ^ 18)) }
+{
+    if bytes.is_empty() || bytes.len() > SURE_DIGITS {
+        return None;
+    }
+    let mut number = 0u64;
+    for byte in bytes {
+        if !byte.is_ascii_digit() {
+            return None;
+        }
+        number = number * 10 + (*byte - b'0') as u64;
+    }
+    Some(number)
+}
+
+/// The node of a number, where the number is in range. A whole one is read here, once, and another is kept as its text.
+pub(crate) fn number_node(text: &str) -> Option<Node<'_>>
+    ensures { MatchOption result (number_of text.now ≡ None) (λ node. IsNumber text.now node) }
+{
+    if let Some(count) = few_digits(text.as_bytes()) {
+        return Some(Node::Count(count));
+    }
+    if let Some(count) = u64_of(text) {
+        return Some(Node::Count(count));
+    }
+    if let Some(number) = i64_of(text) {
+        return Some(Node::Below(number));
+    }
+    if is_in_range(text) {
+        Some(Node::Number(text))
+    } else {
+        None
+    }
 }

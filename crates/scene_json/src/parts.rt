@@ -1,43 +1,28 @@
 //! The elements of a list in a document.
-ghost use Rattle.std.specs.Prelude.{◌≡◌, ◌≢◌, [], ◌∷◌, true, length, nat_eq, MatchOption};
-ghost use Rattle.json.specs.Token.{begin_array};
-ghost use Rattle.scene_json.specs.Tokens.{fits, list_of};
+ghost use Rattle.std.specs.Prelude.{◌≡◌, ◌≢◌, [], ◌∷◌, length, nat_eq, MatchOption};
+ghost use Rattle.scene_json.specs.Lists.{elements};
+ghost use Rattle.scene_json.specs.NodeData.{items_from, seen};
 
+use crate::node::Node;
+use crate::nodes::behind;
 use crate::part::Part;
-use json::Items;
-
-/// How many elements there are.
-pub(crate) fn count(items: Items<'_, '_>) -> usize
-    requires { fits (begin_array ∷ items) ≡ true }
-    ensures { result ≡ length (list_of items.entry) }
-{
-    let mut rest = items;
-    let mut count = 0;
-    'items: while let Some(_item) = rest.next() {
-        count += 1;
-    }
-    count
-}
 
 /// The elements of a list, one after another.
 #[derive(Drop)]
 pub struct Parts<'t, 'a> {
-    items: Items<'t, 'a>,
+    nodes: &'t [Node<'a>],
+    at: usize,
     left: usize,
-    ghost valid: { fits (begin_array ∷ items) ≡ true },
-    ghost counted: { left ≡ length (list_of items) },
 }
 
 impl<'t, 'a> Parts<'t, 'a> {
     ghost use Rattle.scene_json.specs.View.{view, views};
 
-    /// The elements of a list, of which so many are left.
-    pub(crate) fn new(items: Items<'t, 'a>, left: usize) -> Parts<'t, 'a>
-        requires valid { fits (begin_array ∷ items) ≡ true }
-        requires counted { left ≡ length (list_of items) }
-        ensures { views result ≡ list_of items.entry }
+    /// The elements that begin at a node, of which so many are left.
+    pub(crate) fn new(nodes: &'t [Node<'a>], at: usize, left: usize) -> Parts<'t, 'a>
+        ensures { views result ≡ elements (items_from left (seen at nodes.now)) }
     {
-        Parts { items, left }
+        Parts { nodes, at, left }
     }
 
     /// How many elements are left.
@@ -59,9 +44,13 @@ impl<'t, 'a> Parts<'t, 'a> {
         ensures { MatchOption result ((views self.old ≡ []) × (views self.new ≡ []))
             (λ part. views self.old ≡ view part ∷ views self.new) }
     {
-        let element = self.items.next()?;
+        if self.left == 0 {
+            return None;
+        }
+        let part = Part::new(self.nodes, self.at);
+        self.at = behind(self.nodes, self.at);
         self.left -= 1;
-        Some(Part::of_element(element))
+        Some(part)
     }
 
     /// The elements, where there are just two.

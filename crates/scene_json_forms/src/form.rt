@@ -1,5 +1,5 @@
 //! What the values of a form are read as, and the parts of which forms are made.
-ghost use Rattle.std.specs.Prelude.{map as each};
+ghost use Rattle.std.specs.Prelude.{◌≡◌, [], IfOk, map as each};
 ghost use Rattle.scene_json.specs.View.{view, views};
 ghost use Rattle.scene_json_forms.specs.Outcome.{Reads, ReadsAs};
 ghost use Rattle.scene_json_forms.specs.Paths.{path_bytes};
@@ -8,7 +8,10 @@ ghost use Rattle.scene_json_forms.specs.Reading.{field, if_good, list_at, each_a
 use crate::fault::FileResult;
 use crate::path::{Path, bad_field};
 use scene_json::{Part, Parts};
-use std::alloc::Global;
+use std::alloc::{AllocError, Global};
+
+/// For how many items room is made before the first of them is read.
+const MOST_AT_ONCE: usize = 4096;
 
 /// A form of values. Each word of a walk, as those of `specs/Walk.antt`, has one, which reads a value as the word does
 /// (docs/SCENE_FILES.md, "The walk"). A form of a crate above gives its own word.
@@ -62,7 +65,7 @@ pub fn if_good<T: Drop>(alloc: Global, path: &Path<'_>, good: bool, item: T) -> 
     }
 }
 
-/// The elements of a value that is a list. It walks them once, to count them, and copies nothing.
+/// The elements of a value that is a list. It copies nothing.
 ///
 /// Refused: `BadField` at the path where it is none, or `NoMemory` in its place.
 #[tactic(auto, using(crate::proofs::Walking::walking))]
@@ -77,6 +80,14 @@ pub fn list_at<'t, 'a>(
         Some(parts) => Ok(parts),
         None => Err(bad_field(alloc, path)),
     }
+}
+
+/// An empty list with room for as many items as there are parts, but not for all of very many: the first may have a
+/// fault.
+pub(crate) fn room_for<T>(alloc: Global, parts: &Parts<'_, '_>) -> Result<Vec<T>, AllocError>
+    ensures { IfOk result (λ items. items.items ≡ []) }
+{
+    Vec::with_capacity(alloc, parts.len().min(MOST_AT_ONCE))
 }
 
 /// Each element of a list, read as a form, at its place below the path of the list.
@@ -95,7 +106,7 @@ where
         (each_at (F.word form.now) (path_bytes path.now) 0 (views parts.entry)) }
 {
     let mut parts = parts;
-    let mut items = Vec::new(alloc);
+    let mut items = room_for(alloc, &parts)?;
     'parts: while let Some(part) = parts.next() {
         let item = form.read(alloc, &Path::Item(&*path, items.len()), &part)?;
         items.push(item)?;

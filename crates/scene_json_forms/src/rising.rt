@@ -6,7 +6,7 @@ ghost use Rattle.scene_json_forms.specs.Paths.{path_bytes};
 ghost use Rattle.scene_json_forms.specs.Reading.{may_follow, rising_at};
 
 use crate::fault::FileResult;
-use crate::form::{Form, list_at};
+use crate::form::{Form, list_at, room_for};
 use crate::path::{Path, bad_field};
 use scene_json::{Part, Parts};
 use std::alloc::Global;
@@ -44,7 +44,7 @@ where
         (rising_at (F.word form.now) F.follows (path_bytes path.now) 0 None (views parts.entry)) }
 {
     let mut parts = parts;
-    let mut items = Vec::new(alloc);
+    let mut items = room_for(alloc, &parts)?;
     'parts: while let Some(part) = parts.next() {
         let at = Path::Item(&*path, items.len());
         let item = form.read(alloc, &at, &part)?;

@@ -1,30 +1,12 @@
-use Rattle.std.proofs.Common.{Some, sym, ap, ◌∙◌, subst, option_map}
-use Rattle.scene_json.specs.Tokens.{data_of}
-use Rattle.scene_json.specs.View.{view}
-use Rattle.scene_json.proofs.Says.{says, said, fits_said}
-use Rattle.scene_json.proofs.Members.{IsFound, get_said}
+use Rattle.std.proofs.Common.{sym, ap, ◌∙◌, option_map}
+use Rattle.serde_json.specs.Data.{no_members}
+use Rattle.scene_json.specs.NodeData.{put_all}
+use Rattle.scene_json.specs.View.{fields, view}
+use Rattle.scene_json.proofs.LastValues.{last_found}
 use Rattle.scene_json.proofs.part.Part.get.Goals as goal
 
-pub returns-in_err-element : goal.returns-in_err-element
-returns-in_err-element c =
+pub members-init : goal.members-init
+members-init c =
     let p = c.args.self.now in
-    let key = c.args.key.now in
-    let none = subst (IsFound key (data_of p.element)) c.in_err-element.was
-    (get_said p.element _ (says p.element p.valid) key c.get.result c.get.ensures) in
-    ap (option_map view) c.from_residual.ensures ∙ sym none
-
-pub invariant_of-result : goal.invariant_of-result
-invariant_of-result c =
-    let p = c.args.self.now in
-    let key = c.args.key.now in
-    let found = subst (IsFound key (data_of p.element)) c.in_ok-element.was
-    (get_said p.element _ (says p.element p.valid) key c.get.result c.get.ensures) in
-    record { valid = fits_said c.in_ok-element.element found.0 found.2 }
-
-pub returns : goal.returns
-returns c =
-    let p = c.args.self.now in
-    let key = c.args.key.now in
-    let found = subst (IsFound key (data_of p.element)) c.in_ok-element.was
-    (get_said p.element _ (says p.element p.valid) key c.get.result c.get.ensures) in
-    ap Some (said c.in_ok-element.element found.0 found.2) ∙ sym found.1
+    last_found c.args.key.now (view p) (fields c.in_ok-members.members)
+    (ap (option_map (λ m. put_all (fields m) no_members)) (sym c.in_ok-members.was) ∙ c.members-2.ensures)
