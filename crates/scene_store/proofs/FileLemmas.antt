@@ -131,15 +131,3 @@ module _ {D : Type 0} {g : disk.Ghosts D} where
       → ((file_state conn).now.schema ≡ store_schema → IsOkAnd r (λ store. store.conn ≡ conn)) → IfOk r (OpensOn image)
   opens_over conn image (Err fault) opened found known early made there = tt
   opens_over conn image (Ok store) opened found known early made there = opens conn store image early opened found known made there
-
-  -- and of what `over_store` gives
-  pub opens_store : (conn : Held (FileStore D g)) (image : Image) (r : Result (Store (FileStore D g)) StoreFault) → (HasCleanDisk (file_state conn) → IsOpened conn)
-      → (HasCleanDisk (file_state conn) → FindsIn image (file_state conn)) → OnOk r ((file_state conn).now.schema ≡ store_schema)
-      → ((file_state conn).now.schema ≡ store_schema → IsOkAnd r (λ store. store.conn ≡ conn)) → IfOk r (OpensOn image)
-  opens_store conn image (Err fault) opened found known there = tt
-  opens_store conn image (Ok store) opened found schema there =
-      let same = there schema in
-      let early : HasCleanDisk (within over_files store) → HasCleanDisk (file_state conn) = subst (λ c. HasCleanDisk (file_state c) → HasCleanDisk (file_state conn)) (sym same) (λ clean. clean) in (
-        λ text held clean. reads_known conn image (early clean) (opened (early clean)) (found (early clean)) store schema same text held clean,
-        λ new clean. absurd (new_other conn image (early clean) (opened (early clean)) (found (early clean)) new schema),
-      )

@@ -1,5 +1,5 @@
 -- What the three statements of a store do.
-use Rattle.std.proofs.Common.{append_assoc, OnErr, IsTrue, append-nil, Option, zero, get_or, ◌≡◌, fold, ◌+ℤ◌, add-zero, ◌⊎◌, inl, inr, ℕ, suc, ◌+◌, ◌<◌, pos, negsuc, List, [], ◌∷◌, ◌++◌, length, map, codes, Bool, true, false, cond, not, ◌&&◌, ◌||◌, ℤ, Some, None, Ok, Err, Result, take, length-take, OnOk, refl, sym, ap, subst, subst₂, ◌∙◌, arith}
+use Rattle.std.proofs.Common.{append_assoc, OnErr, IsTrue, append-nil, IfOk, IsOkAnd, Option, zero, get_or, ◌≡◌, fold, ◌+ℤ◌, add-zero, ◌⊎◌, inl, inr, ℕ, suc, ◌+◌, ◌<◌, pos, negsuc, List, [], ◌∷◌, ◌++◌, length, map, codes, Bool, true, false, cond, not, ◌&&◌, ◌||◌, ℤ, Some, None, Ok, Err, Result, take, length-take, OnOk, refl, sym, ap, subst, subst₂, ◌∙◌, arith}
 use Rattle.std.proofs.lemmas.List.Elements.{Contains-get_or}
 use Rattle.std.proofs.lemmas.Cmp.{tied_itself}
 use Rattle.std.specs.Ordering.{is_eq, match_ordering}
@@ -41,6 +41,8 @@ use Rattle.sqlite_schema.specs.declared.command.Returning.{Returning}
 use Rattle.sqlite.specs.Clock.{timed}
 use Rattle.sqlite_schema.specs.Rules.{passes, is_of}
 use Rattle.sqlite_schema.specs.declared.schema.Constraint.TheVariants.{Datatype, NotNull}
+use Rattle.sqlite.specs.Held.{Held, state}
+use Rattle.sqlite.specs.Schema.{Schema}
 use Rattle.sqlite.specs.Store.{Ghosts}
 use Rattle.scene_store.specs.declared.store.Store.{Store}
 use Rattle.sqlite.proofs.Callers.{IsPlain, command_of, statement_of, runs_as, reads_as, one_step, never_commits}
@@ -530,3 +532,18 @@ pub keeps_found : {S : Type 0} (g : Ghosts S) (old new : Store S) → (HasCleanD
 keeps_found g old new early live rows shown found held store clean =
     let was = store (early clean) in
     (held.0, establishes (within g old) (within g new) held.0 rows was.0 was.1 live (shown clean) held.1, sym held.2)
+
+-- ---- what is true of a store that has to be there
+
+pub there_made : {T E : Type 0} (P : T → Type 0) (r : Result T E) (schema : Schema) → OnOk r (schema ≡ store_schema) → schema ≡ no_schema → IfOk r P
+there_made P (Err e) schema known none = tt
+there_made P (Ok x) schema known none = absurd (let e = ap (λ (s : Schema). s.tables) (sym none ∙ known) in cc)
+
+pub there_known : {T E : Type 0} (A B : Type 0) (r : Result T E) → OnOk r B → OnOk r (A ⊎ B)
+there_known A B (Err e) known = tt
+there_known A B (Ok x) known = inr known
+
+pub there_clean : {S E A : Type 0} (g : Ghosts S) (conn : Held S) (r : Result (Store S) E) → OnOk r A → (A → IsOkAnd r (λ store. store.conn ≡ conn))
+    → IfOk r (λ store. HasCleanDisk (within g store) → HasCleanDisk (state g conn))
+there_clean g conn (Err e) known there = tt
+there_clean g conn (Ok store) known there = subst (λ c. HasCleanDisk (state g c) → HasCleanDisk (state g conn)) (sym (there known)) (λ clean. clean)

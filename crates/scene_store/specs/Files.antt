@@ -9,7 +9,10 @@ use Rattle.sqlite_wal.specs.Reads.{AreClean}
 use Rattle.sqlite_trees.specs.Tree.{Trees}
 use Rattle.sqlite_store.specs.declared.store.FileStore.{FileStore}
 use Rattle.sqlite_catalog.specs.Listing.{IsSound}
-use Rattle.sqlite.specs.Files.{HoldsDatabase, image_of, over_files}
+use Rattle.sqlite.specs.Files.{file_state, HoldsDatabase, image_of, over_files, IsOpened}
+use Rattle.sqlite.specs.Held.{Held}
+use Rattle.sqlite.specs.Start.{FindsIn}
+use Rattle.sqlite.specs.State.{HasCleanDisk}
 use Rattle.scene_store.specs.declared.store.Store.{Store}
 use Rattle.scene_store.specs.Head.{head_line}
 use Rattle.scene_store.specs.Store.{store_schema, HasBatches, Keeps}
@@ -32,6 +35,14 @@ abbrev pub IsNewFile : Image → Type 0
 IsNewFile image = image.db ≡ []
 
 module _ {D : Type 0} {g : disk.Ghosts D} where
+  -- where the disk has returned what was written, a connection is as an open leaves it
+  abbrev pub IsAsOpened : Held (FileStore D g) → Type 0
+  IsAsOpened conn = HasCleanDisk (file_state conn) → IsOpened conn
+
+  -- and it finds what the files held
+  abbrev pub FindsFiles : Image → Held (FileStore D g) → Type 0
+  FindsFiles image conn = HasCleanDisk (file_state conn) → FindsIn image (file_state conn)
+
   -- A store that was opened on such files keeps what they held. In place of no file, or an empty one, it keeps just the
   -- head.
   abbrev pub OpensOn : Image → Store (FileStore D g) → Type 0

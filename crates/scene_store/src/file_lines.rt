@@ -4,7 +4,8 @@ ghost use Rattle.sqlite.specs.Files.{IsOpened, file_state, over_files};
 ghost use Rattle.sqlite.specs.Start.{FindsIn};
 ghost use Rattle.sqlite.specs.State.{HasCleanDisk};
 ghost use Rattle.sqlite.specs.WalFiles.{image_at};
-ghost use Rattle.scene_store.specs.Files.{LeavesAlone, OpensOn};
+ghost use Rattle.sqlite_wal.specs.Recovery.{Image};
+ghost use Rattle.scene_store.specs.Files.{FindsFiles, IsAsOpened, LeavesAlone, OpensOn};
 ghost use Rattle.scene_store.specs.Store.{IsStore};
 
 use crate::fault::{OpenFault, StoreFault};
@@ -80,11 +81,7 @@ impl<S: Start> FileLines<S> {
         ensures found { IfOk result (OpensOn (image_at S.Start)) }
     {
         match check_before(rt, path) {
-            Ok(()) => {}
-            Err(fault) => return Err(fault),
-        }
-        match connection(rt, path, start) {
-            Ok(conn) => Store::over(conn),
+            Ok(()) => Store::over_files(connection(rt, path, start), false),
             Err(fault) => Err(fault),
         }
     }
@@ -99,10 +96,7 @@ impl<S: Start> FileLines<S> {
             Ok(_) => {}
             Err(fault) => return Err(fault),
         }
-        match connection(rt, path, start) {
-            Ok(conn) => Store::over_store(conn),
-            Err(fault) => Err(fault),
-        }
+        Store::over_files(connection(rt, path, start), true)
     }
 
     /// Ends the use of the file at the path that it was opened at: its log is copied into it, and removed. The file
@@ -136,6 +130,20 @@ fn remove_log(rt: &HostRuntime, path: &str) -> Result<(), StoreFault> {
 }
 
 impl<D: Disk + Drop> Store<FileStore<D>> {
+    /// What `over_as` makes of the database in files, where it was opened. It alone calls that at a store in files.
+    fn over_files(
+        opened: Result<Connection<FileStore<D>>, StoreFault>,
+        is_there: bool,
+    ) -> Result<Store<FileStore<D>>, StoreFault>
+        ensures store { IfOk opened IsAsOpened → IfOk result (IsStore over_files) }
+        ensures found { (image : Image) → IfOk opened IsAsOpened → IfOk opened (FindsFiles image) → IfOk result (OpensOn image) }
+    {
+        match opened {
+            Ok(conn) => Store::over_as(conn, is_there),
+            Err(fault) => Err(fault),
+        }
+    }
+
     /// Copies the log into the database file, and gives the two back. The database file alone has what the store keeps.
     ///
     /// - `DiskFull`, `DiskFault`, `StoreDamaged`, `NoMemory`: the log wasn't copied whole. The two still belong
@@ -143,7 +151,6 @@ impl<D: Disk + Drop> Store<FileStore<D>> {
     pub fn into_files(self) -> Result<Files<D>, StoreFault>
         ensures { IfOk result (LeavesAlone self) }
     {
-        let _schema = self.conn.schema();
         let conn = self.into_connection();
         match conn.close_files() {
             Ok(files) => Ok(files),

@@ -1,5 +1,5 @@
 //! A store that is read from the bytes of its two files, in memory alone.
-ghost use Rattle.std.specs.Prelude.{◌≡◌, List, ℕ, IsTrue, IfOk};
+ghost use Rattle.std.specs.Prelude.{◌≡◌, List, ℕ, IsTrue, IfOk, IfSome};
 ghost use Rattle.sqlite_disk.specs.Memory.{memory_bytes, memory_is_usable};
 ghost use Rattle.sqlite.specs.Files.{file_state, IsOpened};
 ghost use Rattle.sqlite.specs.Start.{FindsIn};
@@ -74,12 +74,22 @@ impl Snapshot {
             → HoldsText (record { log = self.now.log.items; db = self.now.db.items }) text → found.text.items ≡ text) }
         ensures head { IfOk result (λ found. Begins found.text.items (head_of found.version)) }
     {
-        let conn = connected(alloc, self)?;
-        Store::lines_over(conn, alloc)
+        match self.lines_if_any(alloc) {
+            Ok(Some(found)) => Ok(found),
+            Ok(None) => Err(StoreFault::NotAStore),
+            Err(fault) => Err(fault),
+        }
     }
 
     /// The same, or nothing where the bytes hold a database that has nothing in it, or none yet.
-    pub(crate) fn lines_if_any(&self, alloc: Global) -> Result<Option<StoredLines>, StoreFault> {
-        Store::lines_over_any(connected(alloc, self)?, alloc)
+    pub(crate) fn lines_if_any(&self, alloc: Global) -> Result<Option<StoredLines>, StoreFault>
+        ensures found { IfOk result (λ any. IfSome any (λ found. (text : List ℕ)
+            → HoldsText (record { log = self.now.log.items; db = self.now.db.items }) text → found.text.items ≡ text)) }
+        ensures head { IfOk result (λ any. IfSome any (λ found. Begins found.text.items (head_of found.version))) }
+    {
+        match connected(alloc, self) {
+            Ok(conn) => Store::lines_over_any(conn, alloc),
+            Err(fault) => Err(fault),
+        }
     }
 }

@@ -1,7 +1,8 @@
 //! A store of lines.
-ghost use Rattle.std.specs.Prelude.{◌≡◌, ◌≢◌, ◌⊎◌, List, ℕ, ◌++◌, Err, IfOk, IfErr, IsOkAnd, OnOk, OnErr};
+ghost use Rattle.std.specs.Prelude.{◌≡◌, ◌≢◌, ◌⊎◌, List, ℕ, ◌++◌, Err, IfOk, IfErr, IfSome, IsOkAnd, OnOk, OnErr};
+ghost use Rattle.sqlite.specs.Files.{file_state};
 ghost use Rattle.sqlite.specs.Held.{state};
-ghost use Rattle.sqlite.specs.State.{HasCleanDisk, Survives};
+ghost use Rattle.sqlite.specs.State.{HasCleanDisk, IsLive, Survives};
 ghost use Rattle.scene_store.specs.Head.{head_line, head_of, Begins, MayRefuse};
 ghost use Rattle.scene_store.specs.Store.{no_schema, store_schema, IsAlwaysClean, IsStore, StartsIdle, within};
 ghost use Rattle.scene_store.specs.Store.{Keeps, KeepsOn, KeepsIfOpen, LeavesMore, LeavesOthers};
@@ -12,7 +13,8 @@ use crate::rewrite::{fill, rewrite, start};
 use crate::rows::{StoredLines, headed, text_of, version_of};
 use crate::schema::{is_blank, is_store};
 use crate::statements::{add, all_rows};
-use sqlite::{Alter, Connection};
+use sqlite::{Alter, Connection, FileStore};
+use sqlite_disk::Disk;
 use std::alloc::Global;
 
 /// Lines that are kept for good: each call of `keep` is one row of an SQLite database, which a crash leaves whole or
@@ -75,12 +77,33 @@ impl<S: Alter + Drop> Store<S> {
         }
     }
 
-    /// The connection, as it is. It takes no memory.
-    pub(crate) fn into_connection(self) -> Connection<S>
-        ensures { result ≡ self.conn }
+    /// The same, of which all is true that `over_as` says.
+    fn over_there(conn: Connection<S>) -> Result<Store<S>, StoreFault>
+        ensures made { (state S.Store conn).now.schema ≡ no_schema → StartsIdle (state S.Store conn)
+            → IfOk result (λ store. Keeps S.Store store head_line) }
+        ensures there { (state S.Store conn).now.schema ≡ store_schema → IsOkAnd result (λ store. store.conn ≡ conn) }
+        ensures known { OnOk result (((state S.Store conn).now.schema ≡ no_schema) ⊎ ((state S.Store conn).now.schema ≡ store_schema)) }
+        ensures store { StartsIdle (state S.Store conn) → IfOk result (IsStore S.Store) }
+        ensures clean { IfOk result (λ store. HasCleanDisk (within S.Store store) → HasCleanDisk (state S.Store conn)) }
     {
-        let Store { conn } = self;
-        conn
+        Store::over_store(conn)
+    }
+
+    /// What `over_store` says where the store has to be there, else what `over` says. Who calls it at a store in files
+    /// calls one function of any `S` and not two, since each such call is dear to prove.
+    pub(crate) fn over_as(conn: Connection<S>, is_there: bool) -> Result<Store<S>, StoreFault>
+        ensures made { (state S.Store conn).now.schema ≡ no_schema → StartsIdle (state S.Store conn)
+            → IfOk result (λ store. Keeps S.Store store head_line) }
+        ensures there { (state S.Store conn).now.schema ≡ store_schema → IsOkAnd result (λ store. store.conn ≡ conn) }
+        ensures known { OnOk result (((state S.Store conn).now.schema ≡ no_schema) ⊎ ((state S.Store conn).now.schema ≡ store_schema)) }
+        ensures store { StartsIdle (state S.Store conn) → IfOk result (IsStore S.Store) }
+        ensures clean { IfOk result (λ store. HasCleanDisk (within S.Store store) → HasCleanDisk (state S.Store conn)) }
+    {
+        if is_there {
+            Store::over_there(conn)
+        } else {
+            Store::over(conn)
+        }
     }
 
     /// The lines of the store of a database that is one, outside a transaction, which is given up. It refuses what
@@ -99,11 +122,19 @@ impl<S: Alter + Drop> Store<S> {
     pub(crate) fn lines_over_any(
         conn: Connection<S>,
         alloc: Global,
-    ) -> Result<Option<StoredLines>, StoreFault> {
+    ) -> Result<Option<StoredLines>, StoreFault>
+        ensures found { IsAlwaysClean S.Store → IfOk result (λ any. IfSome any (λ found. (text : List ℕ)
+            → ((state S.Store conn).now.schema ≡ store_schema → Keeps S.Store (record { conn = conn }) text)
+            → found.text.items ≡ text)) }
+        ensures head { IfOk result (λ any. IfSome any (λ found. Begins found.text.items (head_of found.version))) }
+    {
         if is_blank(conn.schema()) {
             return Ok(None);
         }
-        Ok(Some(Store::lines_over(conn, alloc)?))
+        match Store::lines_over(conn, alloc) {
+            Ok(found) => Ok(Some(found)),
+            Err(fault) => Err(fault),
+        }
     }
 
     /// A store of these lines, in a database outside a transaction that has nothing in it: a copy of the store whose
@@ -197,6 +228,18 @@ impl<S: Alter + Drop> Store<S> {
             (LeavesOthers (within S.Store self.old) lines.now) }
     {
         rewrite(&mut self.conn, lines)
+    }
+}
+
+impl<D: Disk + Drop> Store<FileStore<D>> {
+    /// The connection, as it is. It takes no memory.
+    pub(crate) fn into_connection(self) -> Connection<FileStore<D>>
+        ensures same { result ≡ self.conn }
+        ensures live { IsLive (file_state self.conn) }
+    {
+        let Store { conn } = self;
+        let _schema = conn.schema();
+        conn
     }
 }
 

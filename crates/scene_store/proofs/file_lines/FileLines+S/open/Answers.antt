@@ -1,12 +1,8 @@
-use Rattle.std.proofs.Common.{sym}
 use Rattle.sqlite.specs.WalFiles.{image_at}
-use Rattle.scene_store.proofs.FileLemmas.{opens_over}
 use Rattle.scene_store.proofs.file_lines.FileLines+S.open.Goals as goal
 
-pub returns-in-Ok-connection-clause-store : goal.returns-in-Ok-connection-clause-store
-returns-in-Ok-connection-clause-store g c =
-    c.over.ensures.store (λ clean. let opened = c.in-Ok-connection.ensures.opened clean in (sym opened.0.clean, opened.0.autocommit))
+pub returns-in-Ok-clause-store : goal.returns-in-Ok-clause-store
+returns-in-Ok-clause-store g c = c.over_files.ensures.store c.connection.ensures.opened
 
-pub returns-in-Ok-connection-clause-found : goal.returns-in-Ok-connection-clause-found
-returns-in-Ok-connection-clause-found g c =
-    opens_over c.in-Ok-connection.conn (image_at g.S.Start) c.over.result c.in-Ok-connection.ensures.opened c.in-Ok-connection.ensures.found c.over.ensures.known c.over.ensures.clean c.over.ensures.made c.over.ensures.there
+pub returns-in-Ok-clause-found : goal.returns-in-Ok-clause-found
+returns-in-Ok-clause-found g c = c.over_files.ensures.found (image_at g.S.Start) c.connection.ensures.opened c.connection.ensures.found
