@@ -1,5 +1,6 @@
 pub mod CellWrites
 pub mod Columns
+pub mod Grown
 pub mod LiveRuns
 pub mod Plain
 pub mod RowCells

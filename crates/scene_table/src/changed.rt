@@ -1,9 +1,8 @@
 //! The ticks at which the cells of a run's columns were changed.
-ghost use Rattle.std.specs.Prelude.{◌≡◌, ◌+◌, ◌<◌, ◌≤◌, ℕ, true, All, Some, IfOk, length, map, replicate, slice_get};
+ghost use Rattle.std.specs.Prelude.{◌≡◌, ◌+◌, ◌<◌, ◌≤◌, ℕ, true, All, Some, IfOk, IfSome, length, map, replicate, slice_get};
 ghost use Rattle.std.specs.List.{list_all};
 ghost use Rattle.scene_table.specs.Runs.{changed_of, Same, Each};
 
-use crate::writer::ColumnWriter;
 use std::alloc::{AllocError, Global};
 use std::marker::Model;
 
@@ -59,13 +58,23 @@ impl ChangedTicks {
         }
     }
 
-    /// Writes the ticks of the column of a number, by a writer.
-    pub(crate) fn put<W: ColumnWriter>(&self, writer: &W, number: usize, changed: &mut [u64])
+    /// The one tick of all cells, where there is one.
+    pub(crate) fn one_tick(&self) -> Option<u64>
+        ensures { IfSome result (λ tick. self.now ≡ Same tick) }
+    {
+        match &self.ticks {
+            Ticks::Same(tick) => Some(*tick),
+            Ticks::Each(_) => None,
+        }
+    }
+
+    /// Writes the ticks of the column of a number.
+    pub(crate) fn put(&self, number: usize, changed: &mut [u64])
         requires { length (changed_of self.now number (length changed.old)) ≡ length changed.old }
         ensures { changed.new ≡ changed_of self.now number (length changed.old) }
     {
         match &self.ticks {
-            Ticks::Same(tick) => writer.put_tick(changed, *tick),
+            Ticks::Same(tick) => changed.fill(*tick),
             Ticks::Each(columns) => {
                 if number < columns.len() {
                     changed.copy_from_slice(columns[number].as_slice());

@@ -157,8 +157,9 @@ impl Column {
         ensures cells { self.new.cells ≡ cells_of (grown series.now turns) (map (λ cell. cell.added) self.old.cells)
             (changed_of changed.now number (length self.old.cells)) }
     {
-        series.put(writer, self.values.as_mut_slice(), turns);
-        self.changed.put(writer, number, changed);
+        let values = self.values.as_mut_slice();
+        self.changed
+            .put_with(writer, values, series.after(turns), number, changed);
     }
 
     /// Whether a cell may be one of those since a tick: where this says no, none of any part is.

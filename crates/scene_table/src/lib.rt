@@ -21,6 +21,7 @@ mod changed;
 mod column;
 mod columns;
 mod entities;
+mod grown;
 mod home;
 mod plain;
 mod reach;
@@ -39,6 +40,7 @@ mod written;
 
 pub use changed::ChangedTicks;
 pub use column::ColumnRef;
+pub use grown::Grown;
 pub use home::Home;
 pub use plain::{has_text, is_text, plain_cell};
 pub use row_cells::RowCells;

@@ -2,9 +2,10 @@
 ghost use Rattle.std.specs.Prelude.{◌≡◌, ◌<◌, true, Some, length, slice_get};
 ghost use Rattle.scene_kinds.specs.Ranges.{is_i64, is_in_range};
 ghost use Rattle.scene_kinds.specs.declared.value.Value.TheVariants.{Int, Vec3};
+ghost use Rattle.scene_table.specs.Grown.{values_in};
 ghost use Rattle.scene_table.specs.Runs.{AreInRange, grown, ints_after, number_after, vector_after, vecs_after};
 
-use crate::writer::ColumnWriter;
+use crate::grown::Grown;
 use scene_kinds::Value;
 
 /// The numbers of a column before the first turn of a run, and what each turn adds: the same number to each, or to each
@@ -150,17 +151,21 @@ impl Series {
         }
     }
 
-    /// Writes the values after so many turns.
-    pub(crate) fn put<W: ColumnWriter>(&self, writer: &W, values: &mut [Value], turns: i64)
-        requires range { AreInRange (grown self.now turns) }
-        requires long { length (grown self.now turns) ≡ length values.old }
-        ensures { values.new ≡ grown self.now turns }
+    /// Those after so many turns, as a writer takes them.
+    pub(crate) fn after(&self, turns: i64) -> Grown<'_>
+        ensures { values_in result ≡ grown self.now turns }
     {
         match self {
-            Series::Ints { base, by } => writer.put_ints(values, base.as_slice(), *by, turns),
-            Series::Vecs { base, by } => {
-                writer.put_vecs(values, base.as_slice(), by.as_slice(), turns)
-            }
+            Series::Ints { base, by } => Grown::Ints {
+                base: base.as_slice(),
+                by: *by,
+                turns,
+            },
+            Series::Vecs { base, by } => Grown::Vecs {
+                base: base.as_slice(),
+                by: by.as_slice(),
+                turns,
+            },
         }
     }
 

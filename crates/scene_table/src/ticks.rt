@@ -2,10 +2,13 @@
 ghost use Rattle.std.specs.Prelude.{◌≡◌, ◌+◌, ◌<◌, ◌≤◌, ℕ, [], length, slice_get, slice_range, slice_set, Some, IsOk, OnOk, IfOk, nat_lt, false};
 ghost use Rattle.std.specs.List.{list_any};
 ghost use Rattle.scene_table.specs.Rows.{swap_out, put_back};
-ghost use Rattle.scene_table.specs.Runs.{changed_of};
+ghost use Rattle.scene_table.specs.Grown.{values_in};
+ghost use Rattle.scene_table.specs.Runs.{AreInRange, changed_of};
 
 use crate::changed::ChangedTicks;
+use crate::grown::Grown;
 use crate::writer::ColumnWriter;
+use scene_kinds::Value;
 use std::alloc::{AllocError, Global};
 use std::marker::Model;
 
@@ -82,13 +85,34 @@ impl TickList {
         std::mem::replace(&mut self.ticks[at], written)
     }
 
-    /// Writes the ticks of the column of a number of a run in place of all of these, by a writer.
-    pub(crate) fn put<W: ColumnWriter>(&mut self, writer: &W, number: usize, changed: &ChangedTicks)
-        requires { length (changed_of changed.now number (length self.old.items)) ≡ length self.old.items }
-        ensures { self.new ≡ record self.old { items = changed_of changed.now number (length self.old.items) } }
+    /// Writes what a column of a run has after so many turns, by a writer: the values over those of the column whose
+    /// changed ticks these are, and over these the ticks of the column of that number.
+    pub(crate) fn put_with<W: ColumnWriter>(
+        &mut self,
+        writer: &W,
+        values: &mut [Value],
+        grown: Grown<'_>,
+        number: usize,
+        changed: &ChangedTicks,
+    )
+        requires range { AreInRange (values_in grown) }
+        requires long { length (values_in grown) ≡ length values.old }
+        requires same { length self.old.items ≡ length values.old }
+        requires ticks { length (changed_of changed.now number (length self.old.items)) ≡ length self.old.items }
+        ensures values { values.new ≡ values_in grown.entry }
+        ensures ticks { self.new ≡ record self.old { items = changed_of changed.now number (length self.old.items) } }
     {
-        changed.put(writer, number, self.ticks.as_mut_slice());
-        self.latest = changed.latest(number);
+        match changed.one_tick() {
+            Some(tick) => {
+                writer.put(values, self.ticks.as_mut_slice(), grown, tick);
+                self.latest = tick;
+            }
+            None => {
+                writer.put(values, self.ticks.as_mut_slice(), grown, 0);
+                changed.put(number, self.ticks.as_mut_slice());
+                self.latest = changed.latest(number);
+            }
+        }
     }
 
     /// The tick at a place.

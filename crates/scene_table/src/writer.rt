@@ -1,10 +1,11 @@
-//! How the values and the ticks of a run's columns are written: by the calling thread, or by several.
-ghost use Rattle.std.specs.Prelude.{◌≡◌, ◌+◌, ◌<◌, ◌≤◌, drop, length, replicate, take};
+//! How the values and the changed ticks of a run's columns are written: by the calling thread, or by several.
+ghost use Rattle.std.specs.Prelude.{◌≡◌, ◌<◌, length, replicate};
 ghost use Rattle.std.specs.Thread.{IsSync};
-ghost use Rattle.scene_table.specs.Runs.{AreInRange, ints_after, vecs_after};
+ghost use Rattle.scene_table.specs.Grown.{values_in};
+ghost use Rattle.scene_table.specs.Runs.{AreInRange};
 
-use crate::series::{put_ints, put_vecs};
-use rayon::prelude::*;
+use crate::grown::Grown;
+use rayon::join_mut;
 use scene_kinds::Value;
 use std::thread::Threads;
 
@@ -12,29 +13,19 @@ use std::thread::Threads;
 /// save; from here on two take some two thirds of the time of one, where processors are free.
 pub const PARTED_VALUES: usize = 131_072;
 
-/// Writes what a column has after so many turns in place of its values.
+/// Writes what a column has after so many turns in place of its values, and one tick in place of its changed ticks.
 pub trait ColumnWriter {
     /// By what it starts threads, if it does.
     type Runtime: Sync;
 
-    /// Writes numbers after so many turns, of which each adds the same.
-    fn put_ints(&self, values: &mut [Value], base: &[i64], by: i64, turns: i64)
+    /// Writes the values that a series has, and a tick at each place.
+    fn put(&self, values: &mut [Value], ticks: &mut [u64], grown: Grown<'_>, tick: u64)
         requires sync { IsSync Self.Runtime.row }
-        requires range { AreInRange (ints_after base.now by turns) }
-        requires long { length base.now ≡ length values.old }
-        ensures { values.new ≡ ints_after base.now by turns };
-
-    /// Writes vectors after so many turns, of which each adds to each its own.
-    fn put_vecs(&self, values: &mut [Value], base: &[[i64; 3]], by: &[[i64; 3]], turns: i64)
-        requires sync { IsSync Self.Runtime.row }
-        requires range { AreInRange (vecs_after base.now by.now turns) }
-        requires long { length (vecs_after base.now by.now turns) ≡ length values.old }
-        ensures { values.new ≡ vecs_after base.now by.now turns };
-
-    /// Writes one tick at all places.
-    fn put_tick(&self, ticks: &mut [u64], tick: u64)
-        requires sync { IsSync Self.Runtime.row }
-        ensures { ticks.new ≡ replicate (length ticks.old) tick };
+        requires range { AreInRange (values_in grown) }
+        requires long { length (values_in grown) ≡ length values.old }
+        requires ticks { length ticks.old ≡ length values.old }
+        ensures values { values.new ≡ values_in grown.entry }
+        ensures ticks { ticks.new ≡ replicate (length ticks.old) tick };
 }
 
 /// The calling thread writes all columns.
@@ -44,15 +35,8 @@ pub struct WritesAlone;
 impl ColumnWriter for WritesAlone {
     type Runtime = ();
 
-    fn put_ints(&self, values: &mut [Value], base: &[i64], by: i64, turns: i64) {
-        put_ints(values, base, by, turns);
-    }
-
-    fn put_vecs(&self, values: &mut [Value], base: &[[i64; 3]], by: &[[i64; 3]], turns: i64) {
-        put_vecs(values, base, by, turns);
-    }
-
-    fn put_tick(&self, ticks: &mut [u64], tick: u64) {
+    fn put(&self, values: &mut [Value], ticks: &mut [u64], grown: Grown<'_>, tick: u64) {
+        grown.put(values);
         ticks.fill(tick);
     }
 }
@@ -65,101 +49,93 @@ pub struct WritesShared<R> {
     pub workers: usize,
 }
 
-/// Writes numbers by parts of a size, each in a thread.
-fn put_ints_parted<R: Threads + Sync>(
+/// Writes so many parts of a column, each in a thread: its values and its ticks in one go, since it is what one thread
+/// waits for another that costs.
+#[cycle(parts)]
+fn put_parts<R: Threads + Sync>(
     rt: &R,
+    parts: usize,
     values: &mut [Value],
-    base: &[i64],
-    by: i64,
-    turns: i64,
-    size: usize,
+    ticks: &mut [u64],
+    grown: Grown<'_>,
+    tick: u64,
 )
-    requires size { 0 < size }
-    requires range { AreInRange (ints_after base.now by turns) }
-    requires long { length base.now ≡ length values.old }
-    ensures { values.new ≡ ints_after base.now by turns }
+    requires range { AreInRange (values_in grown) }
+    requires long { length (values_in grown) ≡ length values.old }
+    requires ticks { length ticks.old ≡ length values.old }
+    ensures values { values.new ≡ values_in grown.entry }
+    ensures ticks { ticks.new ≡ replicate (length ticks.old) tick }
 {
-    par_chunks_mut_for_each(
+    if parts < 2 {
+        grown.put(values);
+        ticks.fill(tick);
+        return;
+    }
+    let low = parts / 2;
+    let at = values.len() / parts * low;
+    let (front_values, back_values) = values.split_at_mut(at);
+    let (front_ticks, back_ticks) = ticks.split_at_mut(at);
+    let (front, back) = grown.split_at(at);
+    put_both(
         rt,
-        values,
-        size,
-        |start: usize, part: &mut [Value]|
-            requires { (start + length part.now ≤ length base.now) × AreInRange (ints_after base.now by turns) }
-            ensures { part.exit.now ≡ take (length part.entry.now) (drop start (ints_after base.entry.now by turns)) }
-        {
-            let end = start + part.len();
-            put_ints(part, &base[start..end], by, turns)
-        },
+        low,
+        front_values,
+        front_ticks,
+        front,
+        parts - low,
+        back_values,
+        back_ticks,
+        back,
+        tick,
     );
 }
 
-/// Writes vectors by parts of a size, each in a thread.
-fn put_vecs_parted<R: Threads + Sync>(
+/// Writes two parts side by side.
+#[cycle(parts)]
+fn put_both<R: Threads + Sync>(
     rt: &R,
-    values: &mut [Value],
-    base: &[[i64; 3]],
-    by: &[[i64; 3]],
-    turns: i64,
-    size: usize,
+    low: usize,
+    front_values: &mut [Value],
+    front_ticks: &mut [u64],
+    front: Grown<'_>,
+    high: usize,
+    back_values: &mut [Value],
+    back_ticks: &mut [u64],
+    back: Grown<'_>,
+    tick: u64,
 )
-    requires size { 0 < size }
-    requires range { AreInRange (vecs_after base.now by.now turns) }
-    requires long { length (vecs_after base.now by.now turns) ≡ length values.old }
-    ensures { values.new ≡ vecs_after base.now by.now turns }
+    requires both { (0 < low) × (0 < high) }
+    requires front_range { AreInRange (values_in front) }
+    requires front_long { length (values_in front) ≡ length front_values.old }
+    requires front_ticks { length front_ticks.old ≡ length front_values.old }
+    requires back_range { AreInRange (values_in back) }
+    requires back_long { length (values_in back) ≡ length back_values.old }
+    requires back_ticks { length back_ticks.old ≡ length back_values.old }
+    ensures front_values { front_values.new ≡ values_in front.entry }
+    ensures front_ticks { front_ticks.new ≡ replicate (length front_ticks.old) tick }
+    ensures back_values { back_values.new ≡ values_in back.entry }
+    ensures back_ticks { back_ticks.new ≡ replicate (length back_ticks.old) tick }
 {
-    par_chunks_mut_for_each(
-        rt,
-        values,
-        size,
-        |start: usize, part: &mut [Value]|
-            requires { (start + length part.now ≤ length base.now) × (start + length part.now ≤ length by.now) × AreInRange (vecs_after base.now by.now turns) }
-            ensures { part.exit.now ≡ take (length part.entry.now) (drop start (vecs_after base.entry.now by.entry.now turns)) }
-        {
-            let end = start + part.len();
-            put_vecs(part, &base[start..end], &by[start..end], turns)
-        },
-    );
-}
-
-/// Writes one tick at all places by parts of a size, each in a thread.
-fn put_tick_parted<R: Threads + Sync>(rt: &R, ticks: &mut [u64], tick: u64, size: usize)
-    requires size { 0 < size }
-    ensures { ticks.new ≡ replicate (length ticks.old) tick }
-{
-    par_chunks_mut_for_each(
-        rt,
-        ticks,
-        size,
-        |_start: usize, part: &mut [u64]|
-            ensures { part.exit.now ≡ replicate (length part.entry.now) tick }
-        { part.fill(tick) },
-    );
+    let mut write_front = ||
+        requires { IsSync R.row × AreInRange (values_in front) × (length (values_in front) ≡ length front_values.now) × (length front_ticks.now ≡ length front_values.now) }
+        ensures { (front_values.exit.now ≡ values_in front.entry) × (front_ticks.exit.now ≡ replicate (length front_ticks.entry.now) tick) }
+    { put_parts(rt, low, front_values, front_ticks, front, tick) };
+    let mut write_back = ||
+        requires { IsSync R.row × AreInRange (values_in back) × (length (values_in back) ≡ length back_values.now) × (length back_ticks.now ≡ length back_values.now) }
+        ensures { (back_values.exit.now ≡ values_in back.entry) × (back_ticks.exit.now ≡ replicate (length back_ticks.entry.now) tick) }
+    { put_parts(rt, high, back_values, back_ticks, back, tick) };
+    join_mut(rt, &mut write_front, &mut write_back);
 }
 
 impl<R: Threads + Sync> ColumnWriter for WritesShared<R> {
     type Runtime = R;
 
-    fn put_ints(&self, values: &mut [Value], base: &[i64], by: i64, turns: i64) {
-        if self.workers < 2 || values.len() < PARTED_VALUES {
-            return put_ints(values, base, by, turns);
-        }
-        let size = values.len().div_ceil(self.workers);
-        put_ints_parted(&self.rt, values, base, by, turns, size);
-    }
-
-    fn put_vecs(&self, values: &mut [Value], base: &[[i64; 3]], by: &[[i64; 3]], turns: i64) {
-        if self.workers < 2 || values.len() < PARTED_VALUES {
-            return put_vecs(values, base, by, turns);
-        }
-        let size = values.len().div_ceil(self.workers);
-        put_vecs_parted(&self.rt, values, base, by, turns, size);
-    }
-
-    fn put_tick(&self, ticks: &mut [u64], tick: u64) {
-        if self.workers < 2 || ticks.len() < PARTED_VALUES {
-            return ticks.fill(tick);
-        }
-        let size = ticks.len().div_ceil(self.workers);
-        put_tick_parted(&self.rt, ticks, tick, size);
+    fn put(&self, values: &mut [Value], ticks: &mut [u64], grown: Grown<'_>, tick: u64) {
+        let parts = if values.len() < PARTED_VALUES {
+            1
+        } else {
+            self.workers
+        };
+        put_parts(&self.rt, parts, values, ticks, grown, tick);
     }
 }
