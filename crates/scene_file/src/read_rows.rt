@@ -28,7 +28,7 @@ fn cells_from(
         (cells_from shapes.now (path_bytes path.now) 0 (views parts.entry)) }
 {
     let mut parts = parts;
-    let mut cells = Vec::new(alloc);
+    let mut cells = Vec::with_capacity(alloc, parts.len())?;
     'cells: while let Some(part) = parts.next() {
         let place = cells.len();
         let form = CellForm(shapes[place]);
@@ -73,7 +73,9 @@ impl Form for CellsForm<'_> {
 fn with_kinds(alloc: Global, kinds: &[u8], cells: Vec<Cell>) -> Result<Vec<(u8, Cell)>, AllocError>
     ensures { IfOk result (λ row. row.items ≡ zip kinds.now cells.items) }
 {
-    kinds.iter().copied().zip(cells).collect(alloc)
+    let mut row = Vec::with_capacity(alloc, cells.len())?;
+    row.extend(kinds.iter().copied().zip(cells))?;
+    Ok(row)
 }
 
 /// Rows of kinds with these shapes.

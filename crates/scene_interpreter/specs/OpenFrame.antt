@@ -34,7 +34,3 @@ queues_of f = f.complete ++ f.last ∷ []
 abbrev pub queue_count : Option Opened → ℕ
 queue_count None = 0
 queue_count (Some f) = length f.complete + 1
-
--- the queues of a frame of one command
-abbrev pub alone : Command → List QueueState
-alone command = record { limit = 1; commands = command ∷ [] } ∷ []

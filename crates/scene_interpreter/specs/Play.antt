@@ -9,11 +9,12 @@ use Rattle.scene_kinds.specs.Answers.{Outcome, refusal_of}
 use Rattle.scene_kinds.specs.Schema.{Kinds, with_kind}
 use Rattle.scene_model.specs.World.{World, new_world, row_of}
 use Rattle.scene_machine.specs.Machine.{most_frames}
+use Rattle.scene_queue.specs.Frames.{lone_frame}
 use Rattle.scene_session.specs.Calls.{Answer, Asked, Submit, Advance as AdvanceCall, Undo as UndoCall, Redo as RedoCall}
 use Rattle.scene_session.specs.Whole.{Whole, whole_of}
 use Rattle.scene_session.specs.Owner.{OwnerState, machine_at, opening_owner, performed, whole_at, with_session}
 use Rattle.scene_interpreter.specs.Phases.{with_phase, with_system}
-use Rattle.scene_interpreter.specs.OpenFrame.{Opened, new_frame, with_command, with_queue, queues_of, alone}
+use Rattle.scene_interpreter.specs.OpenFrame.{Opened, new_frame, with_command, with_queue, queues_of}
 use Rattle.scene_kinds.specs.declared.cells.Row.{Row}
 use Rattle.scene_pass.specs.Pass.{changed_since, added_since}
 use Rattle.scene_pass.specs.declared.cell_name.CellName.{CellName}
@@ -152,7 +153,7 @@ lone_reply s (Slots n) = bad_reply s SetupEnded
 lone_reply s (Load text) = bad_reply s SetupEnded
 lone_reply s (Calls n) = bad_reply s SetupEnded
 lone_reply s (Depth n) = bad_reply s SetupEnded
-lone_reply s (Do command) = call_reply s (Submit (alone command))
+lone_reply s (Do command) = call_reply s (Submit (lone_frame command))
 lone_reply s Begin = query_reply (with_frame s (Some new_frame)) Taken
 lone_reply s Queue = bad_reply s NoFrame
 lone_reply s Commit = bad_reply s NoFrame

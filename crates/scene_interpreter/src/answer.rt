@@ -128,6 +128,29 @@ impl LineAnswer {
         }
     }
 
+    /// Adds the answer as `write_text` does, and gives why the line is bad, where it is. Where nothing stands there yet, a
+    /// text is handed on and not copied. An error only where no memory was found; a part may be added then.
+    pub fn tell(
+        self,
+        alloc: Global,
+        schema: &Schema,
+        out: &mut String,
+    ) -> Result<Option<BadLine>, AllocError>
+        ensures text { OnOk result (Adds out.old out.new (said_text schema.now (said_of self))) }
+        ensures bad { IfOk result (λ bad. bad ≡ bad_in (said_of self)) }
+    {
+        match self {
+            LineAnswer::Text(text) if out.is_empty() => {
+                *out = text;
+                Ok(None)
+            }
+            other => {
+                other.write_text(alloc, schema, out)?;
+                Ok(other.into_bad_line())
+            }
+        }
+    }
+
     /// Why the line is bad, where it is.
     pub fn into_bad_line(self) -> Option<BadLine>
         ensures { result ≡ bad_in (said_of self) }

@@ -316,8 +316,8 @@ impl<O: ScriptOwner> Interpreter<O> {
             ≡ halted h (reached O.state O.most self.old) (interpreter_reply (reached O.state O.most self.old) bytes.now).interpreter) }
     {
         let answer = self.play(performer, bytes)?;
-        match answer.write_text(self.alloc, self.schema(), out) {
-            Ok(()) => Ok(answer.into_bad_line()),
+        match answer.tell(self.alloc, self.schema(), out) {
+            Ok(bad) => Ok(bad),
             Err(AllocError) => Err(Halt::After),
         }
     }

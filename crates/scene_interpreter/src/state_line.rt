@@ -1,9 +1,9 @@
 //! The answer to one line behind the setup.
 ghost use Rattle.std.specs.Prelude.{◌≡◌, ◌≢◌, ◌≤◌, length, IfErr, IfOk, OnErr, OnOk, Some, None};
 ghost use Rattle.scene_script.specs.declared.script_line.Line.TheVariants.{Added, As, Begin, Changed, DumpAll, History, Mark};
+ghost use Rattle.scene_queue.specs.Frames.{lone_frame};
 ghost use Rattle.scene_session.specs.Calls.{Submit, asked, queue_count};
 ghost use Rattle.scene_interpreter.specs.Answer.{Says};
-ghost use Rattle.scene_interpreter.specs.OpenFrame.{alone};
 ghost use Rattle.scene_interpreter.specs.Play.{call_reply, line_reply, lone_reply, now, query_reply, said_reply, state_by};
 ghost use Rattle.scene_interpreter.specs.Questions.{asked_said};
 
@@ -15,7 +15,6 @@ use crate::question::{EditorText, WorldText};
 use crate::systems_line::{answer_advance, answer_clear, answer_phase, answer_system};
 use scene_commands::Command;
 use scene_pass::Filter;
-use scene_queue::Queue;
 use scene_script::{BadLine, Line, SessionNumber};
 use scene_session::{AddedSince, Call, ChangedSince, CursorNow, Performer, SessionOwner};
 use std::alloc::{AllocError, Global};
@@ -54,19 +53,6 @@ pub(crate) fn answer_call<O: SessionOwner, P: Performer<O>>(
     }
 }
 
-/// The queues of a frame of one command. An empty queue has room for it, so only memory can be wanting.
-fn lone_queue(alloc: Global, command: Command) -> Result<Vec<Queue>, AllocError>
-    ensures { IfOk result (λ queues. queues.items ≡ alone command) }
-{
-    let mut queue = Queue::with_limit(alloc, 1);
-    if queue.push(command).is_err() {
-        return Err(AllocError);
-    }
-    let mut queues = Vec::with_capacity(alloc, 1)?;
-    queues.push(queue)?;
-    Ok(queues)
-}
-
 /// A command where no frame is open.
 fn answer_command<O: SessionOwner, P: Performer<O>>(
     performer: &P,
@@ -75,11 +61,11 @@ fn answer_command<O: SessionOwner, P: Performer<O>>(
     command: Command,
 ) -> Result<LineAnswer, AllocError>
     ensures answer { IfOk result (λ answer. Says answer (state_by O.state state.new)
-        (call_reply (state_by O.state state.old) (Submit (alone command)))) }
+        (call_reply (state_by O.state state.old) (Submit (lone_frame command)))) }
     ensures same { OnErr result (state_by O.state state.new ≡ state_by O.state state.old) }
 {
-    let queues = lone_queue(alloc, command)?;
-    answer_call(performer, alloc, state, Call::Submit(queues))
+    let given = performer.perform_one(alloc, &mut state.owner, command)?;
+    Ok(LineAnswer::Replied(given))
 }
 
 /// `begin`.

@@ -10,6 +10,7 @@ ghost use Rattle.scene_json.specs.NodeData.{IsNumber};
 
 use crate::node::Node;
 use fast_float::Numeral;
+use scene_kinds::digits_number;
 
 /// Whether a number is below zero, or is -0.
 fn has_minus(text: &[u8]) -> bool
@@ -101,17 +102,10 @@ const SURE_DIGITS: usize = 18;
 fn few_digits(bytes: &[u8]) -> Option<u64>
     ensures { IfSome result (λ n. IsNumeral 10 bytes.now × (n ≡ digits_value 10 bytes.now) × (n < 10 ^ 18)) }
 {
-    if bytes.is_empty() || bytes.len() > SURE_DIGITS {
+    if bytes.len() > SURE_DIGITS {
         return None;
     }
-    let mut number = 0u64;
-    for byte in bytes {
-        if !byte.is_ascii_digit() {
-            return None;
-        }
-        number = number * 10 + (*byte - b'0') as u64;
-    }
-    Some(number)
+    digits_number(bytes).ok()
 }
 
 /// The node of a number, where the number is in range. A whole one is read here, once, and another is kept as its text.

@@ -1,7 +1,8 @@
 -- The queues of a frame, and what applying them did.
-use Rattle.std.specs.Prelude.{◌≡◌, ℕ, List, [], Ok, Err, map, take, get_or}
+use Rattle.std.specs.Prelude.{◌≡◌, ℕ, List, [], ◌∷◌, Ok, Err, map, take, get_or}
 use Rattle.scene_kinds.specs.declared.entity.Entity.{Entity}
 use Rattle.scene_kinds.specs.Answers.{Outcome}
+use Rattle.scene_commands.specs.declared.command.Command.{Command}
 use Rattle.scene_model.specs.World.{World}
 use Rattle.scene_model.specs.Perform.{Act}
 use Rattle.scene_machine.specs.Queue.{Request}
@@ -13,6 +14,10 @@ use Rattle.scene_queue.specs.Queue.{QueueState, IsLeft}
 -- what the queues of a frame ask of a world
 abbrev pub frame_of : List QueueState → List (List Request)
 frame_of queues = map (λ q. requests q.commands) queues
+
+-- the queues of a frame of one command
+abbrev pub lone_frame : Command → List QueueState
+lone_frame command = record { limit = 1; commands = command ∷ [] } ∷ []
 
 -- the state that the first queues of a frame leave, and then the first commands of the next one
 abbrev pub ArePassed : {S : Type 0} → Act S → List (List Request) → (old new : S) → Type 0

@@ -13,7 +13,7 @@ ghost use Rattle.scene_world.specs.Room.{IsWider};
 ghost use Rattle.scene_world.specs.Stage.{act};
 ghost use Rattle.scene_queue.specs.Queue.{usual_limit, empty_queue, push_of, refusal_in, spawned_by, spawns, IsPassed, Stops};
 ghost use Rattle.scene_queue.specs.Requests.{on_both, request_of, requests};
-ghost use Rattle.scene_queue.specs.Frames.{frame_of, ArePassed};
+ghost use Rattle.scene_queue.specs.Frames.{frame_of, lone_frame, ArePassed};
 
 use scene_commands::{Command, Components, Target};
 use scene_kinds::{Entity, Fault, Place, Refusal, Text, Value};
@@ -375,7 +375,7 @@ fn do_command<S: Stage>(
     }
 }
 
-/// Does one command of a queue that is used up. What a spawn gives isn't copied.
+/// Does one command of a queue that is used up. The components and values that it gives aren't copied.
 fn do_owned<S: Stage>(
     command: Command,
     spawned: &[Entity],
@@ -389,6 +389,10 @@ fn do_owned<S: Stage>(
 {
     match command {
         Command::Spawn(components) => spawn_owned(components, stage),
+        Command::Insert(target, kind, value) => {
+            no_entity(stage.insert(target.entity(spawned)?, kind, value))
+        }
+        Command::PutResource(name, value) => no_entity(stage.put_resource(name.as_str(), value)),
         other => do_command(&other, spawned, stage),
     }
 }
@@ -643,4 +647,36 @@ pub fn apply_owned<S: Stage>(
         at += 1;
     }
     Ok(spawned)
+}
+
+/// Applies a frame of one command as `apply_owned` does, without a queue for it: what the command gives isn't copied.
+///
+/// Refused: what `apply_owned` refuses, with the queue 0 and the command 0, and the stage is then as before.
+pub fn apply_lone<S: Stage>(
+    alloc: Global,
+    command: Command,
+    stage: &mut S,
+) -> Result<Vec<Entity>, Refusal>
+    ensures whole { IfOk result (λ spawned. queues_from (act S.note) 0 (frame_of (lone_frame command)) (S.seen stage.old)
+        ≡ Ok (spawned.items, S.seen stage.new)) }
+    ensures refused { IfErr result (λ r. r ≢ refusal_of NoMemory → queues_from (act S.note) 0 (frame_of (lone_frame command)) (S.seen stage.old) ≡ Err r) }
+    ensures passed { OnErr result (ArePassed (act S.note) (frame_of (lone_frame command)) (S.seen stage.old) (S.seen stage.new)) }
+    ensures world { IfOk result (λ spawned. queues_from perform 0 (frame_of (lone_frame command)) (S.seen stage.old).world
+        ≡ Ok (spawned.items, (S.seen stage.new).world)) }
+    ensures world_refused { IfErr result (λ r. r ≢ refusal_of NoMemory
+        → queues_from perform 0 (frame_of (lone_frame command)) (S.seen stage.old).world ≡ Err r) }
+    ensures opening { S.opening stage.new ≡ S.opening stage.old }
+    ensures wide { IsWider (S.room stage.old) (S.room stage.new) }
+{
+    let mut spawned = Vec::new(alloc);
+    if make_room_for(&command, &mut spawned).is_err() {
+        return Err(Refusal::from(Fault::NoMemory));
+    }
+    match do_owned(command, spawned.as_slice(), stage) {
+        Ok(made) => {
+            note_spawned(&mut spawned, made);
+            Ok(spawned)
+        }
+        Err(refusal) => Err(placed(refusal, 0, 0)),
+    }
 }

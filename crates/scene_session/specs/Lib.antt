@@ -2,6 +2,7 @@ pub mod AllPasses
 pub mod Calls
 pub mod Codes
 pub mod History
+pub mod Logged
 pub mod Owner
 pub mod OwnerCodes
 pub mod Passes

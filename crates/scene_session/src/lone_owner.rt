@@ -1,21 +1,23 @@
 //! An owner without a lock: an editor that no other thread can reach.
-ghost use Rattle.std.specs.Prelude.{◌≡◌, ◌≢◌, ◌≤◌, ◌<◌, ◌+◌, ◌++◌, ◌∷◌, [], length, IfOk, IfErr, MatchResult, Some, None};
+ghost use Rattle.std.specs.Prelude.{◌≡◌, ◌≢◌, ◌≤◌, ◌<◌, ◌+◌, ◌++◌, ◌∷◌, [], length, IfOk, IfErr, OnErr, MatchResult, Some, None};
 ghost use Rattle.scene_kinds.specs.Answers.{refusal_of};
 ghost use Rattle.scene_kinds.specs.declared.fault.Fault.TheVariants.{HistoryFull, NoMemory};
-ghost use Rattle.scene_session.specs.Calls.{Refused, asked, queue_count, told};
+ghost use Rattle.scene_queue.specs.Frames.{lone_frame};
+ghost use Rattle.scene_session.specs.Calls.{Refused, Submit, asked, queue_count, told};
+ghost use Rattle.scene_session.specs.Logged.{logged};
 ghost use Rattle.scene_session.specs.State.{stopping_at};
 ghost use Rattle.scene_session.specs.Whole.{whole_of};
 ghost use Rattle.scene_session.specs.Owner.{opening_owner, performed, whole_at};
 
 use crate::call::{Call, Reply, Stopped};
-use crate::entry::Entry;
-use crate::log::Log;
+use crate::log::{Log, Logged, LoggedCall};
 use crate::owner::SessionOwner;
 use crate::query::EditorQuery;
-use crate::step::{call_editor, call_editor_with};
+use crate::step::{call_editor, call_editor_one, call_editor_with};
+use scene_commands::Command;
 use scene_kinds::{Fault, Refusal};
 use scene_undo::Editor;
-use std::alloc::Global;
+use std::alloc::{AllocError, Global};
 use std::marker::Model;
 use std::snapshot::Snapshot;
 use std::thread::Threads;
@@ -66,8 +68,21 @@ impl Model for LoneOwner {
         × (h.room + length h.log.calls ≡ h.limit) };
 }
 
+/// Enters a call that was done, and gives its reply.
+fn enter(log: &mut Log, room: &mut u64, done: Logged) -> Reply
+    requires { 1 ≤ room.old }
+    ensures entered { log.new.calls ≡ log.old.calls ++ logged done ∷ [] }
+    ensures reply { result ≡ done.reply }
+    ensures room { room.new + 1 ≡ room.old }
+{
+    *log = log.and(&done);
+    *room -= 1;
+    let Logged { reply, .. } = done;
+    reply
+}
+
 /// Enters a call with its reply, which it gives. Where there is none, no memory was found: the call is handed back.
-fn enter(
+fn enter_call(
     log: &mut Log,
     room: &mut u64,
     session: u32,
@@ -83,15 +98,13 @@ fn enter(
 {
     match reply {
         Some(reply) => {
-            let entry = Entry {
+            let call = LoggedCall::of_call(&call);
+            let done = Logged {
                 session,
                 call,
                 reply,
             };
-            *log = log.and(&entry);
-            *room -= 1;
-            let Entry { reply, .. } = entry;
-            Ok(reply)
+            Ok(enter(log, room, done))
         }
         None => {
             let refusal = Refusal::from(Fault::NoMemory);
@@ -141,7 +154,7 @@ impl LoneOwner {
             return Err(turned_back(self.limit, call));
         }
         let reply = call_editor(&mut self.editor, &call);
-        enter(&mut self.log, &mut self.room, self.session, call, reply)
+        enter_call(&mut self.log, &mut self.room, self.session, call, reply)
     }
 
     /// The same, with the large columns of an advance written by as many threads as there are workers.
@@ -162,7 +175,30 @@ impl LoneOwner {
             return Err(turned_back(self.limit, call));
         }
         let reply = call_editor_with(rt, &mut self.editor, &call, workers);
-        enter(&mut self.log, &mut self.room, self.session, call, reply)
+        enter_call(&mut self.log, &mut self.room, self.session, call, reply)
+    }
+
+    /// Performs a frame of one command, of the session whose turn it is. Where the history is full the command is
+    /// dropped, and so it is where no memory was found.
+    pub(crate) fn perform_one(&mut self, command: Command) -> Result<Reply, AllocError>
+        ensures done { IfOk result (λ reply. performed self.old (Submit (lone_frame command)) ≡ (self.new, told reply)) }
+        ensures same { OnErr result (self.new ≡ self.old) }
+    {
+        if self.room == 0 {
+            let full = Refusal::from(Fault::HistoryFull(self.limit));
+            return Ok(Reply::Refused(full));
+        }
+        let session = self.session;
+        let call = LoggedCall::of_command(&command);
+        let Some(reply) = call_editor_one(&mut self.editor, command) else {
+            return Err(AllocError);
+        };
+        let done = Logged {
+            session,
+            call,
+            reply,
+        };
+        Ok(enter(&mut self.log, &mut self.room, done))
     }
 
     /// Asks a question of the editor.

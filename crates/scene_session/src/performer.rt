@@ -1,7 +1,8 @@
 //! Who performs the calls of an owner, and asks its queries.
-ghost use Rattle.std.specs.Prelude.{◌≡◌, ◌≢◌, ◌≤◌, ◌<◌, length, IfErr, IfOk};
+ghost use Rattle.std.specs.Prelude.{◌≡◌, ◌≢◌, ◌≤◌, ◌<◌, length, IfErr, IfOk, OnErr};
 ghost use Rattle.std.specs.Thread.{IsSync};
-ghost use Rattle.scene_session.specs.Calls.{asked, queue_count, told};
+ghost use Rattle.scene_queue.specs.Frames.{lone_frame};
+ghost use Rattle.scene_session.specs.Calls.{Submit, asked, queue_count, told};
 ghost use Rattle.scene_session.specs.Owner.{performed, whole_at};
 ghost use Rattle.scene_session.specs.Performed.{Came};
 
@@ -10,8 +11,10 @@ use crate::lone_owner::LoneOwner;
 use crate::owner::SessionOwner;
 use crate::query::EditorQuery;
 use crate::shared_owner::SharedOwner;
+use scene_commands::Command;
 use scene_kinds::Fault;
-use std::alloc::Global;
+use scene_queue::Queue;
+use std::alloc::{AllocError, Global};
 use std::sync::Wait;
 use std::thread::Threads;
 
@@ -34,6 +37,20 @@ pub trait Performer<O: SessionOwner> {
         ensures done { IfOk result (λ reply. performed (O.state owner.old) (asked call) ≡ (O.state owner.new, told reply)) }
         ensures back { IfErr result (λ back. (back ≡ call) × (owner.new ≡ owner.old)
             × (length (O.state owner.old).history < (O.state owner.old).limit)) };
+
+    /// Performs a frame of one command of the session whose turn it is, as `perform` does a frame of one queue with it.
+    /// It costs what the command costs, and over a lock the queue and some thirty loads of a word.
+    ///
+    /// Where no memory is found, nothing is entered and the command is dropped.
+    fn perform_one(
+        &self,
+        alloc: Global,
+        owner: &mut O,
+        command: Command,
+    ) -> Result<Reply, AllocError>
+        requires { IsSync Self.Runtime.row }
+        ensures done { IfOk result (λ reply. performed (O.state owner.old) (Submit (lone_frame command)) ≡ (O.state owner.new, told reply)) }
+        ensures same { OnErr result (owner.new ≡ owner.old) };
 
     /// Asks a question of the editor, for the session whose turn it is: what is found is of the editor after just these
     /// calls. It costs what the question costs, and over a lock some thirty loads of a word; it takes no memory but
@@ -77,11 +94,38 @@ fn entered(done: Result<Reply, Stopped>) -> Result<Reply, Call>
     }
 }
 
+/// The queues of a frame of one command. An empty queue has room for it, so only memory can be wanting.
+fn lone_queue(alloc: Global, command: Command) -> Result<Vec<Queue>, AllocError>
+    ensures { IfOk result (λ queues. queues.items ≡ lone_frame command) }
+{
+    let mut queue = Queue::with_limit(alloc, 1);
+    if queue.push(command).is_err() {
+        return Err(AllocError);
+    }
+    let mut queues = Vec::with_capacity(alloc, 1)?;
+    queues.push(queue)?;
+    Ok(queues)
+}
+
+// The history under the lock keeps its calls, so the command has a queue.
 impl<R: Threads + Wait + Sync> Performer<SharedOwner> for OnThreads<R> {
     type Runtime = R;
 
     fn perform(&self, alloc: Global, owner: &mut SharedOwner, call: Call) -> Result<Reply, Call> {
         entered(owner.perform(&self.rt, alloc, call, self.workers))
+    }
+
+    fn perform_one(
+        &self,
+        alloc: Global,
+        owner: &mut SharedOwner,
+        command: Command,
+    ) -> Result<Reply, AllocError> {
+        let call = Call::Submit(lone_queue(alloc, command)?);
+        match entered(owner.perform(&self.rt, alloc, call, self.workers)) {
+            Ok(reply) => Ok(reply),
+            Err(_) => Err(AllocError),
+        }
     }
 
     fn ask<Q: EditorQuery>(&self, alloc: Global, owner: &mut SharedOwner, query: &Q) -> Q::Found {
@@ -96,6 +140,15 @@ impl<R: Threads + Sync> Performer<LoneOwner> for OnThreads<R> {
         entered(owner.perform_with(&self.rt, call, self.workers))
     }
 
+    fn perform_one(
+        &self,
+        _alloc: Global,
+        owner: &mut LoneOwner,
+        command: Command,
+    ) -> Result<Reply, AllocError> {
+        owner.perform_one(command)
+    }
+
     fn ask<Q: EditorQuery>(&self, alloc: Global, owner: &mut LoneOwner, query: &Q) -> Q::Found {
         owner.ask(alloc, query)
     }
@@ -106,6 +159,15 @@ impl Performer<LoneOwner> for ThisThread {
 
     fn perform(&self, _alloc: Global, owner: &mut LoneOwner, call: Call) -> Result<Reply, Call> {
         entered(owner.perform(call))
+    }
+
+    fn perform_one(
+        &self,
+        _alloc: Global,
+        owner: &mut LoneOwner,
+        command: Command,
+    ) -> Result<Reply, AllocError> {
+        owner.perform_one(command)
     }
 
     fn ask<Q: EditorQuery>(&self, alloc: Global, owner: &mut LoneOwner, query: &Q) -> Q::Found {

@@ -118,10 +118,10 @@ impl<'a> Session<'a> {
         self.perform(rt, alloc, Call::Submit(queues), 1)
     }
 
-    /// Advances by a schedule, once no other session is inside, as one frame, with large columns written by as many threads
-    /// as there are workers; a number below 1 is taken as 1, and one above 16 as 16 (docs/SESSIONS.md, "What a session
-    /// promises"). The reply is the same for every number. It costs what the systems read and change, and its entry,
-    /// which keeps the schedule.
+    /// Advances by a schedule, once no other session is inside, as one frame, with large columns written by as many
+    /// threads as there are workers; a number below 1 is taken as 1, and one above 16 as 16 (docs/SESSIONS.md, "What a
+    /// session promises"). The reply is the same for every number. It costs what the systems read and change, and its
+    /// entry, which keeps the schedule.
     ///
     /// An advance that the editor refuses is entered with the reply `Refused`. Stopped, in this order, and then nothing
     /// is entered and the schedule comes back: `HistoryFull` with the limit of the history; `NoMemory`.

@@ -4,11 +4,13 @@
 ghost use Rattle.std.specs.Prelude.{◌≡◌, ◌≢◌, ◌≤◌, length, option_map, IfSome, IfNone};
 ghost use Rattle.scene_kinds.specs.Answers.{refusal_of};
 ghost use Rattle.scene_kinds.specs.declared.fault.Fault.TheVariants.{NoMemory};
+ghost use Rattle.scene_queue.specs.Frames.{lone_frame};
 ghost use Rattle.scene_session.specs.declared.call.Reply.TheVariants.{Refused};
 ghost use Rattle.scene_session.specs.Calls.{Submit, Advance, Undo, Redo, asked, queue_count, told};
 ghost use Rattle.scene_session.specs.Whole.{step, whole_of};
 
 use crate::call::{Call, Reply};
+use scene_commands::Command;
 use scene_kinds::{Fault, Refusal};
 use scene_queue::Queue;
 use scene_schedule::Schedule;
@@ -172,4 +174,17 @@ pub fn call_editor_with<R: Threads + Sync>(
     ensures none { IfNone result (editor.new ≡ editor.old) }
 {
     one(do_call_with(rt, editor, call, workers))
+}
+
+/// Performs a frame of one command on an editor as `call_editor` does one of a queue with it, but without the queue.
+///
+/// `None` where no memory was found: then the editor is as it was, and the command is dropped.
+pub(crate) fn call_editor_one(editor: &mut Editor, command: Command) -> Option<Reply>
+    ensures done { IfSome result (λ r. step (whole_of editor.old) (Submit (lone_frame command)) ≡ (whole_of editor.new, told r)) }
+    ensures none { IfNone result (editor.new ≡ editor.old) }
+{
+    match editor.submit_one(command) {
+        Ok(entities) => Some(Reply::Done(entities)),
+        Err(refusal) => one(refused(refusal)),
+    }
 }

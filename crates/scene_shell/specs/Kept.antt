@@ -43,6 +43,7 @@ noted p l held = held ++ (if changes p l then ended l else [])
 abbrev pub kept_line : Keeping → List ℕ → Keeping
 kept_line k l = released (interpreter_reply k.interpreter l).interpreter k.due (noted k.interpreter l k.held)
 
+-- lines are played and noted, one after another
 abbrev pub kept_after : Keeping → List (List ℕ) → Keeping
 kept_after = fold kept_line
 

@@ -1,5 +1,6 @@
 -- An editor as its contracts see it, and the machine of saved worlds that it is.
 use Rattle.std.specs.Prelude.{◌≡◌, ℕ, List, [], ◌∷◌, take, Result, Ok, Err}
+use Rattle.std.specs.Global.{Vec}
 use Rattle.scene_kinds.specs.declared.entity.Entity.{Entity}
 use Rattle.scene_kinds.specs.declared.refusal.Refusal.{Refusal}
 use Rattle.scene_model.specs.World.{World}
@@ -46,6 +47,11 @@ machine_of s = record {
 abbrev pub entities_of : Result Made Refusal → Result (List Entity) Refusal
 entities_of (Ok made) = Ok made.entities.items
 entities_of (Err r) = Err r
+
+-- the same where they are listed once
+abbrev pub items_of : Result (Vec Entity) Refusal → Result (List Entity) Refusal
+items_of (Ok entities) = Ok entities.items
+items_of (Err r) = Err r
 
 -- a record tells what was noted where a frame was played on the world with its tick raised, and came to these entities
 -- and this world

@@ -5,16 +5,15 @@ ghost use Rattle.scene_kinds.specs.declared.fault.Fault.TheVariants.{NoMemory};
 ghost use Rattle.scene_machine.specs.Frame.{Submit, call, framed};
 ghost use Rattle.scene_machine.specs.Machine.{most_frames, opening, opening_with, redo, submitted, undo};
 ghost use Rattle.scene_world.specs.Room.{IsWider};
-ghost use Rattle.scene_queue.specs.Frames.{frame_of};
+ghost use Rattle.scene_queue.specs.Frames.{frame_of, lone_frame};
 ghost use Rattle.scene_journal.specs.Frames.{frame_record, size};
 ghost use Rattle.scene_deltas.specs.Notes.{deltas_of};
 ghost use Rattle.scene_journal.specs.Records.{Record, undone};
-ghost use Rattle.scene_journal.specs.Recorder.{began, staged_of};
 ghost use Rattle.scene_undo.specs.declared.direction.Direction.TheVariants.{Undo, Redo};
 ghost use Rattle.scene_undo.specs.BackAndForth.{IsWithinDepth, RedoThenUndo, UndoThenRedo};
 ghost use Rattle.scene_undo.specs.Cursor.{cursor_of, since};
 ghost use Rattle.scene_undo.specs.Direction.{AllFit};
-ghost use Rattle.scene_undo.specs.Editor.{IsRecordOf, at_depth, entities_of, machine_of, new_editor};
+ghost use Rattle.scene_undo.specs.Editor.{IsRecordOf, at_depth, entities_of, items_of, machine_of, new_editor};
 ghost use Rattle.scene_undo.specs.Kept.{CanUndo};
 ghost use Rattle.scene_undo.specs.Parts.{NamesFrame};
 ghost use Rattle.scene_undo.specs.Size.{IsNewestWithin};
@@ -24,10 +23,12 @@ ghost use Rattle.scene_journal.specs.FirstFaults.{FutureFits, IsFaultOf, PastFit
 use crate::cursor::Cursor;
 use crate::direction::Direction;
 use crate::made::Made;
+use crate::once::{FrameOnce, Lent, LoneCommand};
 use crate::parts::{after_frames, try_records};
 use crate::stacks::Stacks;
+use scene_commands::Command;
 use scene_journal::{FrameRecord, Recorder};
-use scene_kinds::{Fault, Refusal};
+use scene_kinds::{Entity, Fault, Refusal};
 use scene_queue::{Queue, Queues};
 use scene_world::{Frame, Stage, World};
 use std::alloc::Global;
@@ -84,33 +85,17 @@ struct Framed {
     kept: FrameRecord,
 }
 
-/// Runs a frame on a recorder, and lists twice what it spawned. After a refusal the recorder can still go back to where
-/// it began.
-fn apply<F: Frame>(alloc: Global, asked: &F, recorder: &mut Recorder) -> Result<Made, Refusal>
-    requires { F.can asked.now }
-    ensures noted { IfOk result (λ m. F.plays deltas_of asked.now (staged_of recorder.old) ≡ Ok (m.entities.items, staged_of recorder.new)) }
-    ensures world { IfOk result (λ m. F.does asked.now recorder.old.world ≡ Ok (m.entities.items, recorder.new.world)) }
-    ensures copy { IfOk result (λ m. m.copy.items ≡ m.entities.items) }
-    ensures refused { IfErr result (λ r. r ≢ refusal_of NoMemory → F.does asked.now recorder.old.world ≡ Err r) }
-    ensures opening { began recorder.new ≡ began recorder.old }
-    ensures wide { IsWider recorder.old.room recorder.new.room }
-{
-    let entities = asked.run(alloc, recorder)?;
-    let copy = entities.clone()?;
-    Ok(Made { entities, copy })
-}
-
 /// Does a frame in a recorder between two frames, all or nothing: it raises the tick and runs the frame. After a
 /// refusal the world is as it was.
-fn frame<F: Frame>(alloc: Global, recorder: &mut Recorder, asked: &F) -> Result<Framed, Refusal>
-    requires can { F.can asked.now }
+fn frame<F: FrameOnce>(alloc: Global, recorder: &mut Recorder, asked: F) -> Result<Framed, Refusal>
+    requires can { F.can asked }
     requires empty { recorder.old.frame.deltas ≡ [] }
-    ensures done { IfOk result (λ f. framed (F.does asked.now) recorder.old.world ≡ Ok (f.made.entities.items, recorder.new.world)) }
-    ensures copy { IfOk result (λ f. f.made.copy.items ≡ f.made.entities.items) }
-    ensures noted { IfOk result (λ f. IsRecordOf (F.plays deltas_of asked.now) recorder.old.world recorder.new.world f.made.entities.items f.kept) }
+    ensures done { IfOk result (λ f. framed (F.does asked) recorder.old.world ≡ Ok (f.made.entities.items, recorder.new.world)) }
+    ensures listed { IfOk result (λ f. F.lists asked f.made) }
+    ensures noted { IfOk result (λ f. IsRecordOf (F.plays asked) recorder.old.world recorder.new.world f.made.entities.items f.kept) }
     ensures can { IfOk result (λ f. CanUndo recorder.new.room f.kept recorder.new.world) }
     ensures back { IfOk result (λ f. undone f.kept recorder.new.world ≡ recorder.old.world) }
-    ensures refused { IfErr result (λ r. r ≢ refusal_of NoMemory → framed (F.does asked.now) recorder.old.world ≡ Err r) }
+    ensures refused { IfErr result (λ r. r ≢ refusal_of NoMemory → framed (F.does asked) recorder.old.world ≡ Err r) }
     ensures same { OnErr result (recorder.new.world ≡ recorder.old.world) }
     ensures empty { recorder.new.frame.deltas ≡ [] }
     ensures wide { IsWider recorder.old.room recorder.new.room }
@@ -119,7 +104,7 @@ fn frame<F: Frame>(alloc: Global, recorder: &mut Recorder, asked: &F) -> Result<
     if let Err(refusal) = recorder.begin() {
         return Err(refusal);
     }
-    match apply(alloc, asked, recorder) {
+    match asked.apply(alloc, recorder) {
         Ok(made) => {
             let kept = recorder.finish();
             Ok(Framed { made, kept })
@@ -301,6 +286,28 @@ impl Editor {
         self.run(&Queues(queues))
     }
 
+    /// Does a frame of one command as `submit` does one of a queue with it, but without the queue: what the command
+    /// gives isn't copied, and the entity that it spawned, if any, is listed once. It costs what the command changes,
+    /// refused or not, and the records that are forgotten.
+    ///
+    /// Refused as by `submit`, and then the editor is as it was; the command is dropped.
+    pub fn submit_one(&mut self, command: Command) -> Result<Vec<Entity>, Refusal>
+        ensures machine { Answers (items_of result) (machine_of self.old) (machine_of self.new)
+            (call (machine_of self.old) (Submit (frame_of (lone_frame command)))) }
+        ensures records { OnOk result ((self.new.past ≡ take self.old.depth (frame_record (frame_of (lone_frame command)) self.old.world ∷ self.old.past))
+            × (self.new.future ≡ [])) }
+        ensures few { OnOk result (IsNewestWithin (size (frame_of (lone_frame command)) self.old.world) self.new.past) }
+        ensures same { OnErr result (self.new ≡ self.old) }
+    {
+        match self.run_once(LoneCommand(command)) {
+            Ok(made) => {
+                let Made { entities, .. } = made;
+                Ok(entities)
+            }
+            Err(refusal) => Err(refusal),
+        }
+    }
+
     /// Does a frame of any kind, all or nothing: it raises the world's tick by one and runs the frame
     /// (docs/MODEL.md, "The rule of frames"). What was undone is forgotten. It costs what the frame does, refused or
     /// not, and the records that are forgotten. `submit` is this for queues; a kind of its own, outside of this crate,
@@ -313,6 +320,19 @@ impl Editor {
             (submitted (machine_of self.old) (framed (F.does asked.now) self.old.world)) }
         ensures copy { IfOk result (λ m. m.copy.items ≡ m.entities.items) }
         ensures records { IfOk result (λ m. (r : Record) × (IsRecordOf (F.plays deltas_of asked.now) self.old.world self.new.world m.entities.items r
+            × ((self.new.past ≡ take self.old.depth (r ∷ self.old.past)) × (self.new.future ≡ [])))) }
+        ensures same { OnErr result (self.new ≡ self.old) }
+    {
+        self.run_once(Lent(asked))
+    }
+
+    /// The same of a frame that is used up.
+    fn run_once<F: FrameOnce>(&mut self, asked: F) -> Result<Made, Refusal>
+        requires { F.can asked }
+        ensures machine { Answers (entities_of result) (machine_of self.old) (machine_of self.new)
+            (submitted (machine_of self.old) (framed (F.does asked) self.old.world)) }
+        ensures listed { IfOk result (F.lists asked) }
+        ensures records { IfOk result (λ m. (r : Record) × (IsRecordOf (F.plays asked) self.old.world self.new.world m.entities.items r
             × ((self.new.past ≡ take self.old.depth (r ∷ self.old.past)) × (self.new.future ≡ [])))) }
         ensures same { OnErr result (self.new ≡ self.old) }
     {

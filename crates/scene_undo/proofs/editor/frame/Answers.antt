@@ -1,7 +1,6 @@
 use Rattle.std.proofs.Common.{sym, subst}
 use Rattle.scene_world.specs.Room.{IsWider}
 use Rattle.scene_world.proofs.Room.{wider_wider}
-use Rattle.scene_deltas.specs.Notes.{deltas_of}
 use Rattle.scene_undo.proofs.WholeFrames.{cancels, done_with, kept_can, kept_is, kept_undoes}
 use Rattle.scene_undo.proofs.editor.frame.Goals as goal
 
@@ -11,14 +10,14 @@ cancel-requires g c =
 
 pub returns-in-Ok-clause-done : goal.returns-in-Ok-clause-done
 returns-in-Ok-clause-done g c =
-    done_with (g.F.Frame.does c.args.asked.now) c.args.recorder.now.world c.begin.new.self.world c.in_default.ensures.answer
+    done_with (g.F.FrameOnce.does c.args.asked) c.args.recorder.now.world c.begin.new.self.world c.in_default.ensures.answer
     c.in-Ok.made.entities.items c.apply.new.recorder.world c.finish-kept.new.self.world c.finish-kept.ensures.world c.in-Ok.ensures.world
 
 pub returns-in-Ok-clause-noted : goal.returns-in-Ok-clause-noted
 returns-in-Ok-clause-noted g c =
     kept_is c.args.recorder.now.world c.begin.new.self c.apply.new.recorder c.world_is_sound.ensures.valid c.in_default.ensures.answer c.in_default.ensures.frame c.apply.ensures.opening
     c.finish-kept.result c.finish-kept.new.self.world c.finish-kept.ensures.record c.finish-kept.ensures.world
-    (g.F.Frame.plays deltas_of c.args.asked.now) c.in-Ok.made.entities.items c.in-Ok.ensures.noted
+    (g.F.FrameOnce.plays c.args.asked) c.in-Ok.made.entities.items c.in-Ok.ensures.noted
 
 pub returns-in-Ok-clause-can : goal.returns-in-Ok-clause-can
 returns-in-Ok-clause-can g c =

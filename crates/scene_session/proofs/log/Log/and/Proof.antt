@@ -26,8 +26,8 @@ use denote.Triple.Spec.{Meets, triple_of}
 use denote.Triple.Table.{entered}
 use denote.Triple.Walked.{says, Stays, stay_dropped, walk_of, ends_at, walk_Meets, Goes-dropped}
 use Rattle.scene_session.proofs.Bare.{bare, bare_made}
-use Rattle.scene_session.specs.contracts.entry.Entry as Entry
-use Rattle.scene_session.specs.Owner.{made}
+use Rattle.scene_session.specs.Logged.{logged}
+use Rattle.scene_session.specs.contracts.log.Logged as Logged
 use Rattle.scene_session.specs.contracts.log.Log as Log
 use Rattle.scene_session.specs.contracts.log.Log.and as F
 use Rattle.scene_session.specs.contracts.log.Log.and.Key.{name as #self}
@@ -62,7 +62,7 @@ module _ {M : Type 1} {𝓤 : Ura M} (𝓛 : Logic 𝓤) (at_mem : Memory → SP
         let vss = z.0.4 in
         let u : Val = vptr a.0.ref_ptr.0 a.0.ref_ptr.1 in
         let v : Val = vptr a.1.0.ref_ptr.0 a.1.0.ref_ptr.1 in
-        let log : (Log.the_row).Denot = record { calls = a.0.now.calls ++ made a.1.0.now ∷ [] } in
+        let log : (Log.the_row).Denot = record { calls = a.0.now.calls ++ logged a.1.0.now ∷ [] } in
         qed 𝓛 ((raw toks ⊛ ‵ (owns (types_at ended.signature.params z.0.0) a vss)) ∷ raw ((held z.0.0 a).requires z.1) ∷ []) ∵
         keep ! (0 ∷ []) $ split ! $ move ! (1 ∷ []) $ fsplit ! $ fsplit ! $ feq_l ! (λ is₀. drop ! $ fsplit ! $ fsplit ! $ feq_l ! (λ is₁. drop ! $ drop ! $
         regoal ! (λ (us : List Val). prop (WpFn 𝓤 H C Λ function (us ++ (vss.1.0 ++ [])) Post)) is₀ refl $
@@ -78,7 +78,7 @@ module _ {M : Type 1} {𝓤 : Ura M} (𝓛 : Logic 𝓤) (at_mem : Memory → SP
   meets 𝓣 =
       walk_Meets 𝓛 ended stayed (
         Goes-dropped 𝓛 2 (RefOf (0 ∷ []) tt (plain (λ _. Log.the_row)) (λ _. tt)) yes (λ κs x f. refl),
-        (Goes-dropped 𝓛 2 (RefOf (1 ∷ []) tt (plain (λ _. Entry.the_row)) (λ _. tt)) yes (λ κs x f. refl), tt),
+        (Goes-dropped 𝓛 2 (RefOf (1 ∷ []) tt (plain (λ _. Logged.the_row)) (λ _. tt)) yes (λ κs x f. refl), tt),
       ) held
       (WpFn 𝓤 H 𝓣.C 𝓣.Λ function) (WpFn-mono 𝓤 H 𝓛.laws 𝓣 function) (walks 𝓣.C 𝓣.Λ)
 

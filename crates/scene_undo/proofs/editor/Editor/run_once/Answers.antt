@@ -6,7 +6,7 @@ use Rattle.scene_undo.specs.Kept.{CanUndoAll, CanRedoAll}
 use Rattle.scene_undo.proofs.EditorLaws.{found, newest, of_equal, within}
 use Rattle.scene_undo.proofs.Kept.{undo_wider, redo_wider}
 use Rattle.scene_undo.proofs.Machines.{machine_framed}
-use Rattle.scene_undo.proofs.editor.Editor.run.Goals as goal
+use Rattle.scene_undo.proofs.editor.Editor.run_once.Goals as goal
 
 pub invariant_of-self : goal.invariant_of-self
 invariant_of-self g c =
@@ -56,7 +56,7 @@ returns-in-Ok-clause-machine g c =
     let kept = c.in-Ok.done.kept in
     let es = c.in-Ok.done.made.entities.items in
     let n = c.self.inside.rewinds in
-    let does = framed (g.F.Frame.does c.args.asked.now) in
+    let does = framed (g.F.FrameOnce.does c.args.asked) in
     let start : EditorState = record { world = w.world; past = s.past; future = s.future; rewinds = n; depth = s.depth } in
     let onto : t.past ≡ take s.depth (kept ∷ s.past) = c.keep.ensures.past ∙ (λ i. take (room.depth i) (kept ∷ room.past i)) in
     let deep : t.depth ≡ s.depth = c.keep.ensures.depth ∙ room.depth in
