@@ -1,5 +1,5 @@
 -- A frame of one command.
-use Rattle.std.proofs.Common.{◌≡◌, ◌≢◌, List, [], ◌∷◌, ◌++◌, refl, ap, sym, ◌∙◌, Option, Ok, append-nil}
+use Rattle.std.proofs.Common.{◌≡◌, ◌≢◌, List, [], ◌∷◌, ◌++◌, ap, sym, ◌∙◌, Option, Ok, append-nil}
 use Rattle.std.specs.Prelude.{Err}
 use Rattle.scene_kinds.specs.declared.entity.Entity.{Entity}
 use Rattle.scene_kinds.specs.declared.refusal.Refusal.{Refusal}
@@ -7,9 +7,8 @@ use Rattle.scene_kinds.specs.declared.fault.Fault.TheVariants.{NoMemory}
 use Rattle.scene_kinds.specs.Answers.{Outcome, refusal_of}
 use Rattle.scene_model.specs.Commands.{and_then}
 use Rattle.scene_model.specs.Perform.{Act}
-use Rattle.scene_machine.specs.Queue.{Request, reached, refused_at, and_spawned, whole, unless_refused, request, play_from}
+use Rattle.scene_machine.specs.Queue.{Request, reached, refused_at, and_spawned, unless_refused, request, play_from}
 use Rattle.scene_machine.specs.Frame.{whole_or_refused, queues_from}
-use Rattle.scene_queue.specs.Frames.{ArePassed}
 
 module _ {S : Type 0} (act : Act S) (r : Request) (s : S) where
   -- what the frame comes to, by what its command does where nothing is spawned yet
@@ -30,7 +29,3 @@ module _ {S : Type 0} (act : Act S) (r : Request) (s : S) where
   lone_refused given why found none fact is other =
       let named : why ≢ refusal_of NoMemory = λ e. other (is ∙ ap (λ (w : Refusal). refused_at 0 0 w.fault) e) in
       ap (λ gs. after_one (request act r (reached s gs))) (sym none) ∙ ap after_one (fact named) ∙ ap (λ w. Err w) (sym is)
-
-  -- and then nothing was done
-  pub lone_passed : (t : S) → t ≡ s → ArePassed act ((r ∷ []) ∷ []) s t
-  lone_passed t same = (0, (s, ([], (refl, (0, ([], ap (λ v. whole (reached v [])) (sym same)))))))

@@ -651,7 +651,8 @@ pub fn apply_owned<S: Stage>(
 
 /// Applies a frame of one command as `apply_owned` does, without a queue for it: what the command gives isn't copied.
 ///
-/// Refused: what `apply_owned` refuses, with the queue 0 and the command 0, and the stage is then as before.
+/// Refused: what `apply_owned` refuses, with the queue 0 and the command 0; `NoMemory`. What is seen of the stage is then
+/// as before. The world to which it can be taken back, if it keeps a way back, stays, and no room is lost.
 pub fn apply_lone<S: Stage>(
     alloc: Global,
     command: Command,
@@ -660,7 +661,7 @@ pub fn apply_lone<S: Stage>(
     ensures whole { IfOk result (λ spawned. queues_from (act S.note) 0 (frame_of (lone_frame command)) (S.seen stage.old)
         ≡ Ok (spawned.items, S.seen stage.new)) }
     ensures refused { IfErr result (λ r. r ≢ refusal_of NoMemory → queues_from (act S.note) 0 (frame_of (lone_frame command)) (S.seen stage.old) ≡ Err r) }
-    ensures passed { OnErr result (ArePassed (act S.note) (frame_of (lone_frame command)) (S.seen stage.old) (S.seen stage.new)) }
+    ensures same { OnErr result (S.seen stage.new ≡ S.seen stage.old) }
     ensures world { IfOk result (λ spawned. queues_from perform 0 (frame_of (lone_frame command)) (S.seen stage.old).world
         ≡ Ok (spawned.items, (S.seen stage.new).world)) }
     ensures world_refused { IfErr result (λ r. r ≢ refusal_of NoMemory

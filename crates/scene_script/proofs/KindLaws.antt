@@ -1,9 +1,8 @@
 -- What holds of the kind that a name names.
-use Rattle.std.proofs.Common.{◌≡◌, ℕ, ◌<◌, ◌∙◌, List, length, arith, Option, Some, None, Ok, refl, sym, ap, option_map}
-use Rattle.std.specs.Prelude.{slice_get}
+use Rattle.std.proofs.Common.{◌≡◌, ℕ, ◌<◌, List, length, arith, Option, Some, None, Ok}
 use Rattle.std.specs.Str.{bytes_eq}
 use Rattle.scene_kinds.specs.declared.shape.Shape.{Shape}
-use Rattle.scene_kinds.specs.Schema.{Kinds, IsSchema, number_of, name_of}
+use Rattle.scene_kinds.specs.Schema.{Kinds, IsSchema, number_of}
 use Rattle.scene_kinds.proofs.Positions.{found}
 use Rattle.scene_script.specs.declared.bad_line.BadLine.{BadLine}
 use Rattle.scene_script.specs.declared.bad_line.BadLine.TheVariants as bad

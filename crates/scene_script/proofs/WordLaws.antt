@@ -1,18 +1,13 @@
 -- Where a word is cut.
-use Rattle.std.proofs.Common.{◌≡◌, ◌≢◌, ℕ, suc, ◌<◌, Bool, true, false, cond, List, [], ◌∷◌, ◌++◌, length, get_or, refl, ap, sym, ◌∙◌, subst, arith, Option, Some, None, option_map}
-use Rattle.std.specs.Prelude.{◌==◌, ◌≤◌, position, filter, nat_lt, take, drop, ◌+◌, not}
-use Rattle.std.proofs.Math.Numerals.{add-one}
-use Rattle.std.specs.List.{slice_split, onto_first, position_or_len}
-use borrow.Author.Tests.{ltb-false}
+use Rattle.std.proofs.Common.{◌≡◌, ◌≢◌, ℕ, Bool, true, false, cond, List, [], ◌∷◌, length, refl, ap, sym, ◌∙◌, arith, Option, Some, None, option_map}
+use Rattle.std.specs.Prelude.{◌==◌, ◌≤◌, filter, nat_lt, ◌+◌, not}
+use Rattle.std.specs.List.{slice_split, onto_first}
 use Rattle.std.proofs.lemmas.Bool.Decides.{nat_tests}
-use Rattle.std.proofs.Math.Seq.{split_at}
-use Rattle.std.proofs.lemmas.List.{get_or-take, length-take-le}
-use Rattle.std.proofs.lemmas.List.Quantifiers.{position-Some}
-use Rattle.std.proofs.lemmas.List.Sums.{fails_before_first, length-filter}
+use Rattle.std.proofs.lemmas.List.Sums.{length-filter}
 use Rattle.std.proofs.lemmas.List.Splits.{length-slice_split, slice_split-cons_no, slice_split-cons_yes}
 use Rattle.std.proofs.lemmas.List.Filters.{length-filter_both}
 use Rattle.scene_kinds.specs.EntityReading.{cut_at}
-use Rattle.scene_kinds.proofs.EntityReading.{cut_at-none, cut_at-parts, onto, without}
+use Rattle.scene_kinds.proofs.EntityReading.{onto, without}
 use Rattle.scene_script.specs.Words.{without_spaces, words_of}
 
 -- a text that no space begins stands as it is

@@ -1,15 +1,11 @@
 //! Numbers and entities as words.
-ghost use Rattle.std.specs.Prelude.{◌≡◌, ℤ, IsTrue, ◌↔◌, Some, IfOk, IfSome};
+ghost use Rattle.std.specs.Prelude.{◌≡◌, ◌≢◌, ◌≤◌, ◌↔◌, ℤ, pos, negsuc, FitsSigned, IsTrue, Some, Err, IfOk, IfSome, length, slice_index};
+ghost use Rattle.std.specs.Char.{is_ascii_digit};
 ghost use Rattle.std.specs.Fmt.{signed_decimal};
-ghost use Rattle.std.specs.Prelude.{FitsSigned};
 ghost use Rattle.std.specs.Int.{w64};
 ghost use Rattle.std.specs.List.{list_all};
-ghost use Rattle.std.specs.Char.{is_ascii_digit};
+ghost use Rattle.std.specs.Str.Parse.{ParsesSigned};
 ghost use Rattle.scene_script.specs.Numbers.{number_in, is_digits, is_whole, bad_number, number_said, entity_said};
-ghost use Rattle.std.specs.Prelude.{◌≢◌, ◌≤◌, ◌<◌, ◌^◌, length, slice_index, Err, pos, negsuc};
-ghost use Rattle.std.specs.Result.{OkIff};
-ghost use Rattle.std.specs.Str.Parse.{IsNumeral, digits_value, ParsesSigned};
-ghost use Rattle.scene_kinds.specs.EntityReading.{count_in, entity_in};
 ghost use Rattle.scene_script.specs.declared.bad_line.BadLine.TheVariants as bad;
 ghost use Rattle.scene_script.specs.Begins.{BeginsWhole};
 ghost use Rattle.scene_script.specs.Reading.{Reads};

@@ -1,7 +1,6 @@
 //! Where a word is cut.
-ghost use Rattle.std.specs.Prelude.{◌≡◌, ◌<◌, ◌==◌, IfOk, map, position};
+ghost use Rattle.std.specs.Prelude.{◌≡◌, ◌<◌, ◌==◌, IfOk, map};
 ghost use Rattle.std.specs.List.{slice_split};
-ghost use Rattle.std.specs.Option.{option_map};
 ghost use Rattle.scene_script.specs.Words.{without_spaces, behind_first};
 
 use scene_kinds::cut;

@@ -1,14 +1,11 @@
-use Rattle.std.proofs.Common.{ap, sym, ◌∙◌, refl}
+use Rattle.std.proofs.Common.{ap, sym, ◌∙◌}
 use Rattle.scene_world.specs.Stage.{act}
 use Rattle.scene_machine.specs.Queue.{and_spawned}
 use Rattle.scene_queue.specs.Requests.{request_of}
 use Rattle.scene_queue.specs.Frames.{frame_of, lone_frame, on_world}
-use Rattle.scene_queue.proofs.Lone.{lone_done, lone_passed, lone_refused}
+use Rattle.scene_queue.proofs.Lone.{lone_done, lone_refused}
 use Rattle.scene_queue.proofs.Worlds.{queues_world}
 use Rattle.scene_queue.proofs.queue.apply_lone.Goals as goal
-
-pub returns-then-is_err-clause-passed : goal.returns-then-is_err-clause-passed
-returns-then-is_err-clause-passed g c = lone_passed (act g.S.Stage.note) (request_of c.args.command) (g.S.Stage.seen c.args.stage.now) _ refl
 
 pub returns-in-Ok-clause-whole : goal.returns-in-Ok-clause-whole
 returns-in-Ok-clause-whole g c =
@@ -27,10 +24,6 @@ pub returns-in-Err-clause-refused : goal.returns-in-Err-clause-refused
 returns-in-Err-clause-refused g c =
     lone_refused (act g.S.Stage.note) (request_of c.args.command) (g.S.Stage.seen c.args.stage.now) _ c.in-Err.refusal _
     (c.as_slice.ensures.value ∙ c.make_room_for.ensures.items ∙ c.new-spawned.ensures.items) c.in-Err.ensures.answer.1 c.placed.ensures
-
-pub returns-in-Err-clause-passed : goal.returns-in-Err-clause-passed
-returns-in-Err-clause-passed g c =
-    lone_passed (act g.S.Stage.note) (request_of c.args.command) (g.S.Stage.seen c.args.stage.now) _ c.in-Err.ensures.answer.0
 
 pub returns-in-Err-clause-world_refused : goal.returns-in-Err-clause-world_refused
 returns-in-Err-clause-world_refused g c = λ other.
