@@ -37,5 +37,5 @@ returns-in_err-cell c =
     let first : IsTextFault f whole =
     one_faulty path c.args.shapes.now whole f c.cells.cells.items n part (views c.cells.parts) (views c.next.new.self) count c.in-Some.ensures
     c.cells.invariant fault in
-    handed_on (λ cells. cells.items) c.from_residual.result whole _ c.from_residual.ensures.1 (λ e same.
+    handed_on (λ cells. cells.items) c.from_residual-in_err-cell.result whole _ c.from_residual-in_err-cell.ensures.1 (λ e same.
     let is : f ≡ e = cc in subst (λ (g : FileFault). IsTextFault g whole) is first)
