@@ -128,8 +128,8 @@ impl LineAnswer {
         }
     }
 
-    /// Adds the answer as `write_text` does, and gives why the line is bad, where it is. Where nothing stands there yet, a
-    /// text is handed on and not copied. An error only where no memory was found; a part may be added then.
+    /// Adds the answer as `write_text` does, and gives why the line is bad, where it is. Where nothing stands there
+    /// yet, a text is handed on and not copied. An error only where no memory was found; a part may be added then.
     pub fn tell(
         self,
         alloc: Global,
