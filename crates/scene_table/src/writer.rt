@@ -71,60 +71,60 @@ fn put_parts<R: Threads + Sync>(
         ticks.fill(tick);
         return;
     }
-    let low = parts / 2;
-    let at = values.len() / parts * low;
-    let (front_values, back_values) = values.split_at_mut(at);
-    let (front_ticks, back_ticks) = ticks.split_at_mut(at);
-    let (front, back) = grown.split_at(at);
-    put_both(
+    let at = values.len() / parts;
+    let (first_values, other_values) = values.split_at_mut(at);
+    let (first_ticks, other_ticks) = ticks.split_at_mut(at);
+    let (first, others) = grown.split_at(at);
+    put_first(
         rt,
-        low,
-        front_values,
-        front_ticks,
-        front,
-        parts - low,
-        back_values,
-        back_ticks,
-        back,
+        first_values,
+        first_ticks,
+        first,
+        parts - 1,
+        other_values,
+        other_ticks,
+        others,
         tick,
     );
 }
 
-/// Writes two parts side by side.
+/// Writes the first part in a thread of its own, and so many others beside it. This thread starts them all, one after
+/// another: where threads start threads, two that start at once often come to one processor.
 #[cycle(parts)]
-fn put_both<R: Threads + Sync>(
+fn put_first<R: Threads + Sync>(
     rt: &R,
-    low: usize,
-    front_values: &mut [Value],
-    front_ticks: &mut [u64],
-    front: Grown<'_>,
-    high: usize,
-    back_values: &mut [Value],
-    back_ticks: &mut [u64],
-    back: Grown<'_>,
+    first_values: &mut [Value],
+    first_ticks: &mut [u64],
+    first: Grown<'_>,
+    parts: usize,
+    other_values: &mut [Value],
+    other_ticks: &mut [u64],
+    others: Grown<'_>,
     tick: u64,
 )
-    requires both { (0 < low) × (0 < high) }
-    requires front_range { AreInRange (values_in front) }
-    requires front_long { length (values_in front) ≡ length front_values.old }
-    requires front_ticks { length front_ticks.old ≡ length front_values.old }
-    requires back_range { AreInRange (values_in back) }
-    requires back_long { length (values_in back) ≡ length back_values.old }
-    requires back_ticks { length back_ticks.old ≡ length back_values.old }
-    ensures front_values { front_values.new ≡ values_in front.entry }
-    ensures front_ticks { front_ticks.new ≡ replicate (length front_ticks.old) tick }
-    ensures back_values { back_values.new ≡ values_in back.entry }
-    ensures back_ticks { back_ticks.new ≡ replicate (length back_ticks.old) tick }
+    requires first_range { AreInRange (values_in first) }
+    requires first_long { length (values_in first) ≡ length first_values.old }
+    requires first_ticks { length first_ticks.old ≡ length first_values.old }
+    requires other_range { AreInRange (values_in others) }
+    requires other_long { length (values_in others) ≡ length other_values.old }
+    requires other_ticks { length other_ticks.old ≡ length other_values.old }
+    ensures first_values { first_values.new ≡ values_in first.entry }
+    ensures first_ticks { first_ticks.new ≡ replicate (length first_ticks.old) tick }
+    ensures other_values { other_values.new ≡ values_in others.entry }
+    ensures other_ticks { other_ticks.new ≡ replicate (length other_ticks.old) tick }
 {
-    let mut write_front = ||
-        requires { IsSync R.row × AreInRange (values_in front) × (length (values_in front) ≡ length front_values.now) × (length front_ticks.now ≡ length front_values.now) }
-        ensures { (front_values.exit.now ≡ values_in front.entry) × (front_ticks.exit.now ≡ replicate (length front_ticks.entry.now) tick) }
-    { put_parts(rt, low, front_values, front_ticks, front, tick) };
-    let mut write_back = ||
-        requires { IsSync R.row × AreInRange (values_in back) × (length (values_in back) ≡ length back_values.now) × (length back_ticks.now ≡ length back_values.now) }
-        ensures { (back_values.exit.now ≡ values_in back.entry) × (back_ticks.exit.now ≡ replicate (length back_ticks.entry.now) tick) }
-    { put_parts(rt, high, back_values, back_ticks, back, tick) };
-    join_mut(rt, &mut write_front, &mut write_back);
+    let mut write_first = ||
+        requires { AreInRange (values_in first) × (length (values_in first) ≡ length first_values.now) }
+        ensures { (first_values.exit.now ≡ values_in first.entry) × (first_ticks.exit.now ≡ replicate (length first_ticks.entry.now) tick) }
+    {
+        first.put(first_values);
+        first_ticks.fill(tick)
+    };
+    let mut write_others = ||
+        requires { IsSync R.row × AreInRange (values_in others) × (length (values_in others) ≡ length other_values.now) × (length other_ticks.now ≡ length other_values.now) }
+        ensures { (other_values.exit.now ≡ values_in others.entry) × (other_ticks.exit.now ≡ replicate (length other_ticks.entry.now) tick) }
+    { put_parts(rt, parts, other_values, other_ticks, others, tick) };
+    join_mut(rt, &mut write_first, &mut write_others);
 }
 
 impl<R: Threads + Sync> ColumnWriter for WritesShared<R> {

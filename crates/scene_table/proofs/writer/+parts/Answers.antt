@@ -6,18 +6,18 @@ use Rattle.scene_table.specs.Runs.{AreInRange}
 use Rattle.scene_table.proofs.Parted.{passes_take, passes_drop}
 use Rattle.scene_table.proofs.writer.+parts.Goals as goal
 
-pub put_parts-put_both-requires-clause-front_range : goal.put_parts-put_both-requires-clause-front_range
-put_parts-put_both-requires-clause-front_range g t c κs within =
+pub put_parts-put_first-requires-clause-first_range : goal.put_parts-put_first-requires-clause-first_range
+put_parts-put_first-requires-clause-first_range g t c κs within =
     subst AreInRange (sym c.split_at.ensures.front) (passes_take is_in_range _ (values_in c.args.grown) c.requires.range)
 
-pub put_parts-put_both-requires-clause-back_range : goal.put_parts-put_both-requires-clause-back_range
-put_parts-put_both-requires-clause-back_range g t c κs within =
+pub put_parts-put_first-requires-clause-other_range : goal.put_parts-put_first-requires-clause-other_range
+put_parts-put_first-requires-clause-other_range g t c κs within =
     subst AreInRange (sym c.split_at.ensures.back) (passes_drop is_in_range _ (values_in c.args.grown) c.requires.range)
 
 pub put_parts-returns-clause-ticks : goal.put_parts-returns-clause-ticks
 put_parts-returns-clause-ticks g t c =
-    let cut = c.split_at_mut-front_ticks in
+    let cut = c.split_at_mut-first_ticks in
     let long : length cut.result.0.now + length cut.result.1.now ≡ length c.args.ticks.now = omega (arith, cut.ensures.front_len, cut.ensures.back_len) in
-    (λ i. c.put_both.ensures.front_ticks i ++ c.put_both.ensures.back_ticks i)
+    (λ i. c.put_first.ensures.first_ticks i ++ c.put_first.ensures.other_ticks i)
     ∙ replicate-append-replicate (length cut.result.0.now) (length cut.result.1.now) c.args.tick
     ∙ ap (λ n. replicate n c.args.tick) long
