@@ -15,7 +15,7 @@ use crate::ending::Ending;
 use crate::shell_store::stored_shell;
 use crate::store_looks::{backup_store, log_store, show_store};
 use crate::stored::compact_store;
-use scene_app::{AppFault, BadLines, check_scene, print_scene, run_alone};
+use scene_app::{AloneEnd, AppFault, BadLines, check_scene, print_scene, run_alone};
 use scene_command_line::{Asked, ShellWords, mistake_in, read_words};
 use scene_interpreter::InterpreterSettings;
 use scene_script::Limit;
@@ -24,6 +24,7 @@ use scene_shell::{AnswerStyle, ShellSettings, run_shell};
 use scene_streams::{Sink, Source};
 use std::fmt::Display;
 use std::io::{BufReader, ErrorKind, IsTerminal};
+use std::mem::ManuallyDrop;
 use std::process::ExitCode;
 use std::sync::Wait;
 use std::thread::Threads;
@@ -57,7 +58,10 @@ fn run(rt: &HostRuntime, threads: &(impl Threads + Wait + Sync), workers: u8) ->
         &mut source,
         &mut sink,
     ) {
-        Ok(bad) => {
+        Ok(end) => {
+            let AloneEnd { bad, owner } = end;
+            // The process ends, and its memory with it: to take the scene apart first costs a quarter of a run.
+            let _left = ManuallyDrop::new(owner);
             // A standard error that can't be written changes no status.
             let _told = tell_bad_lines(rt, &bad);
             Ending::after_bad_lines(bad.count)

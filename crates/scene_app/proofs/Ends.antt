@@ -3,8 +3,8 @@ use Rattle.std.proofs.Common.{◌≡◌, ℕ, List, length, subst, Option, Some,
 use Rattle.std.specs.Prelude.{take}
 use Rattle.scene_session.specs.Passes.{AreOf}
 use Rattle.scene_app.specs.declared.run.RunEnd.{RunEnd}
-use Rattle.scene_app.specs.declared.alone.BadLines.{BadLines}
-use Rattle.scene_app.specs.Alone.{AreBadLinesOf}
+use Rattle.scene_app.specs.declared.alone.AloneEnd.{AloneEnd}
+use Rattle.scene_app.specs.Alone.{IsAloneEndOf}
 use Rattle.scene_interpreter.specs.Printed.{bad_lines, owner_after}
 use Rattle.scene_app.specs.Run.{IsEndOf}
 
@@ -20,11 +20,13 @@ ends_so (Some s) bytes end is bad reports passes = record {
   eight = (owner_after bytes, passes);
 }
 
--- and so it is of the bad lines alone
-pub told_so : (script : Option (List ℕ)) (bytes : List ℕ) (told : BadLines) → IfSome script (λ s. bytes ≡ s)
-    → told.count ≡ length (bad_lines bytes) → told.first.items ≡ take 10 (bad_lines bytes) → AreBadLinesOf script told
-told_so None bytes told is count first = record { count = tt; first = tt }
-told_so (Some s) bytes told is count first = record {
-  count = subst (λ b. told.count ≡ length (bad_lines b)) is count;
-  first = subst (λ b. told.first.items ≡ take 10 (bad_lines b)) is first;
+-- and so does one without a lock
+pub alone_ends_so : (script : Option (List ℕ)) (bytes : List ℕ) (end : AloneEnd) → IfSome script (λ s. bytes ≡ s)
+    → end.bad.count ≡ length (bad_lines bytes) → end.bad.first.items ≡ take 10 (bad_lines bytes) → end.owner ≡ owner_after bytes
+    → IsAloneEndOf script end
+alone_ends_so None bytes end is count first owner = record { count = tt; first = tt; owner = tt }
+alone_ends_so (Some s) bytes end is count first owner = record {
+  count = subst (λ b. end.bad.count ≡ length (bad_lines b)) is count;
+  first = subst (λ b. end.bad.first.items ≡ take 10 (bad_lines b)) is first;
+  owner = subst (λ b. end.owner ≡ owner_after b) is owner;
 }

@@ -13,7 +13,7 @@ mod play;
 mod report;
 mod run;
 
-pub use alone::{BadLines, run_alone};
+pub use alone::{AloneEnd, BadLines, run_alone};
 pub use check::{check_scene, print_scene};
 pub use run::{RunEnd, run_script};
 pub use scene_interpreter::BadLineReport;

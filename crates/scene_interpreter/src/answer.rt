@@ -140,6 +140,15 @@ impl LineAnswer {
         ensures bad { IfOk result (λ bad. bad ≡ bad_in (said_of self)) }
     {
         match self {
+            // Most lines are answered so, and then nothing is handed on.
+            LineAnswer::Replied(reply) => {
+                write_reply(out, &reply)?;
+                Ok(None)
+            }
+            LineAnswer::Queued => {
+                out.push_str("queued\n")?;
+                Ok(None)
+            }
             LineAnswer::Text(text) if out.is_empty() => {
                 *out = text;
                 Ok(None)

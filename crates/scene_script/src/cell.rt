@@ -12,7 +12,7 @@ use scene_kinds::{ParseShapeError, Schema, Shape, Value, cut};
 use std::alloc::Global;
 
 /// For how many cells at most a list has room at once. A line of many spaces has fewer words than it seems.
-const CELLS_AT_ONCE: usize = 8;
+pub(crate) const CELLS_AT_ONCE: usize = 8;
 
 /// Three whole numbers with commas between them.
 fn vec3(alloc: Global, text: &str) -> Result<[i64; 3], LineError>

@@ -19,6 +19,7 @@ mod script_line;
 mod session_number;
 mod system;
 mod target;
+mod usual;
 mod word;
 mod words;
 
