@@ -625,12 +625,12 @@ def examples_twice(program: str) -> None:
 
 
 def library_example(library: str) -> None:
-    """The example of README.md for a library runs without a word on standard error."""
+    """The example of docs/BINDINGS.md for a library runs without a word on standard error."""
     codes = [code for code in fenced() if "library=" in code]
     assert len(codes) == 1
     with tempfile.TemporaryDirectory() as room:
         os.symlink(Path(library).parent, f"{room}/FOLDER")
-        run_example(f"import scene\n{codes[0]}", room)
+        run_example(codes[0], room)
 
 
 def all_files() -> None:
@@ -643,8 +643,9 @@ def all_files() -> None:
 
 
 def fenced() -> List[str]:
-    """The examples in Python of README.md."""
-    return re.findall(r"```python\n(.*?)```", (TOP / "README.md").read_text(), re.DOTALL)
+    """The examples in Python of README.md and docs/BINDINGS.md."""
+    text = "".join((TOP / name).read_text() for name in ("README.md", "docs/BINDINGS.md"))
+    return re.findall(r"```python\n(.*?)```", text, re.DOTALL)
 
 
 def run_example(code: str, room: str) -> None:
