@@ -443,7 +443,7 @@ def names_of_faults(library: str) -> None:
     """The library has the name of each fault that a scene can have, and its version is that of VERSION."""
     from scene_library import Library
 
-    known = re.findall(r"^\| (\d+) \| (\w+)", (TOP / "docs/MODEL.md").read_text(), re.MULTILINE)
+    known = re.findall(r"^- (\d+) (\w+)", (TOP / "docs/MODEL.md").read_text(), re.MULTILINE)
     names = {int(number): name for number, name in known if int(number) < 60}
     scene_of = Library(library)
     assert len(names) > 30 and names[1] == "NoSuchEntity"
