@@ -33,7 +33,7 @@ typedef struct scene scene;
 
 /* The version of this header: 10,000 times its first number, 100 times its second, and its third. scene_version gives
  * that of the library. */
-#define SCENE_VERSION 100
+#define SCENE_VERSION 200
 
 /* What a call came to. But for SCENE_DONE and SCENE_UNTOLD nothing was done. */
 typedef enum scene_code {
