@@ -73,12 +73,12 @@ pub const UNTOLD: u32 = 5;
 pub const LOST: u32 = 6;
 
 /// The version of the library: 10,000 times its first number, 100 times its second, and its third.
-pub const VERSION: u32 = 100;
+pub const VERSION: u32 = 200;
 
 /// The version of the library.
 #[unsafe(no_mangle)]
 pub extern "C" fn scene_version() -> u32
-    ensures { result ≡ 100 }
+    ensures { result ≡ 200 }
 {
     VERSION
 }

@@ -64,6 +64,7 @@ impl Held {
     }
 
     /// Puts a segment last, for which there is room.
+    #[inline(always)]
     fn push(&mut self, segment: Segment)
         requires { 0 < held_room self.old }
         ensures segments { held_segments self.new ≡ held_segments self.old ++ segment ∷ [] }
@@ -283,6 +284,7 @@ impl Deltas {
     }
 
     /// Puts the deltas of a segment last, for which there is room.
+    #[inline(always)]
     fn push_segment(&mut self, segment: Segment)
         requires room { 0 < self.old.room }
         requires few { length self.old.items + length (shown segment) < 2 ^ 64 }
@@ -294,6 +296,7 @@ impl Deltas {
     }
 
     /// Puts a delta last, for which there is room.
+    #[inline(always)]
     pub fn push_reserved(&mut self, delta: Delta)
         requires room { 0 < self.old.room }
         requires few { length self.old.items + 1 < 2 ^ 64 }
@@ -346,6 +349,9 @@ impl Deltas {
     pub fn shrink_to_fit(&mut self)
         ensures { self.new.items ≡ self.old.items }
     {
+        if let Held::Lone(_) = &self.held {
+            return;
+        }
         let held = mem::replace(&mut self.held, Held::Empty);
         self.held = shrunk(held);
     }

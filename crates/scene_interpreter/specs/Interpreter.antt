@@ -13,7 +13,8 @@ use Rattle.scene_interpreter.specs.declared.interpreter.Interpreter.{Interpreter
 use Rattle.scene_interpreter.specs.declared.interpreter.Mode.{Mode}
 use Rattle.scene_interpreter.specs.declared.interpreter.Mode.TheVariants as code
 use Rattle.scene_interpreter.specs.Answer.{said_of}
-use Rattle.scene_interpreter.specs.Play.{PlayState, StateReply, SetupReply, SetupState, first_owner, first_setup, first_state, said_reply, setup_kinds, setup_said, state_by, with_frame}
+use Rattle.scene_interpreter.specs.OpenFrame.{Opened}
+use Rattle.scene_interpreter.specs.Play.{PlayState, StateReply, SetupReply, SetupState, first_owner, first_setup, first_state, frame_reply, said_reply, setup_kinds, setup_said, state_by, with_frame}
 use Rattle.scene_interpreter.specs.Said.{Said, bad_in, said_text}
 use Rattle.scene_interpreter.specs.Setup.{setup_by, without_base}
 
@@ -126,6 +127,17 @@ halted Before old new = old
 halted Begun old new = begun old
 halted After old new = new
 halted Lost old new = lost old
+
+-- a line in an open frame was answered, whatever else the state has: a text was added, and the frame, and why the line is
+-- bad, are those of its reply
+abbrev pub IsAnsweredWithin : (old new : List ℕ) → (before after : Opened) → Option BadLine → Line → Type 0
+IsAnsweredWithin old new before after bad line =
+    (s : PlayState) → IsAnswered old new (Playing (with_frame s (Some after))) bad (played (frame_reply s before line))
+
+-- what want of memory leaves of an open frame, whatever else the state has
+abbrev pub IsHaltedWithin : Halt → (before after : Opened) → Line → Type 0
+IsHaltedWithin h before after line =
+    (s : PlayState) → Playing (with_frame s (Some after)) ≡ halted h (Playing (with_frame s (Some before))) (Playing (frame_reply s before line).state)
 
 -- and of a setup
 abbrev pub HaltsSetup : Halt → SetupState → SetupState → Type 0

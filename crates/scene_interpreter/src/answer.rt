@@ -89,7 +89,7 @@ fn write_made(out: &mut String, entities: &[Entity]) -> Result<(), AllocError>
 }
 
 /// Adds what a call came to.
-fn write_reply(out: &mut String, reply: &Reply) -> Result<(), AllocError>
+pub(crate) fn write_reply(out: &mut String, reply: &Reply) -> Result<(), AllocError>
     ensures { OnOk result (Adds out.old out.new (answer_text (told reply.now))) }
 {
     match reply {

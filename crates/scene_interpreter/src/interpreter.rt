@@ -19,8 +19,9 @@ use crate::settings::InterpreterSettings;
 use crate::setup::{Base, Setup};
 use crate::setup_line::{SetupAnswer, answer_setup};
 use crate::state_line::answer;
+use crate::usual::tell_usual;
 use scene_kinds::Schema;
-use scene_script::{BadLine, Limit, Line, LineError, read_line};
+use scene_script::{BadLine, Limit, Line, LineError, read_line, usual_line};
 use scene_session::{LoneOwner, Performer};
 use scene_systems::Phase;
 use scene_undo::Editor;
@@ -49,8 +50,8 @@ impl<O: ScriptOwner> Drop for Interpreter<O> {
     }
 }
 
-/// What a line says, or why it is bad.
-pub(crate) fn said_in(
+/// What any line says, or why it is bad.
+fn read_said(
     alloc: Global,
     schema: &Schema,
     bytes: &[u8],
@@ -61,6 +62,20 @@ pub(crate) fn said_in(
         Ok(line) => Ok(Ok(line)),
         Err(LineError::Bad(reason)) => Ok(Err(reason)),
         Err(LineError::NoMemory) => Err(AllocError),
+    }
+}
+
+/// What a line says, mostly a usual one, or why it is bad.
+pub(crate) fn said_in(
+    alloc: Global,
+    schema: &Schema,
+    bytes: &[u8],
+) -> Result<Result<Line, BadLine>, AllocError>
+    ensures { IfOk result (λ said. said ≡ line_in schema.now bytes.now) }
+{
+    match usual_line(alloc, schema, bytes) {
+        Some(said) => Ok(Ok(said.into_line())),
+        None => read_said(alloc, schema, bytes),
     }
 }
 
@@ -315,7 +330,32 @@ impl<O: ScriptOwner> Interpreter<O> {
         ensures halted { IfErr result (λ h. reached O.state O.most self.new
             ≡ halted h (reached O.state O.most self.old) (interpreter_reply (reached O.state O.most self.old) bytes.now).interpreter) }
     {
-        let answer = self.play(performer, bytes)?;
+        if let Mode::Playing(state) = &mut self.mode {
+            if let Some(said) = usual_line(self.alloc, &state.schema, bytes) {
+                return tell_usual(performer, self.alloc, state, said, out);
+            }
+        }
+        self.other_line(performer, bytes, out)
+    }
+
+    /// Plays a line as `line` does that is mostly no usual one.
+    // A function pays for the room of its locals, and a usual line needs none of these.
+    #[inline(never)]
+    fn other_line<P: Performer<O>>(
+        &mut self,
+        performer: &P,
+        bytes: &[u8],
+        out: &mut String,
+    ) -> Result<Option<BadLine>, Halt>
+        ensures answer { IfOk result (λ bad. IsAnswered (string_bytes out.old) (string_bytes out.new) (reached O.state O.most self.new) bad
+            (interpreter_reply (reached O.state O.most self.old) bytes.now)) }
+        ensures halted { IfErr result (λ h. reached O.state O.most self.new
+            ≡ halted h (reached O.state O.most self.old) (interpreter_reply (reached O.state O.most self.old) bytes.now).interpreter) }
+    {
+        let Ok(said) = read_said(self.alloc, self.schema(), bytes) else {
+            return Err(Halt::Before);
+        };
+        let answer = self.play_said(performer, said)?;
         match answer.tell(self.alloc, self.schema(), out) {
             Ok(bad) => Ok(bad),
             Err(AllocError) => Err(Halt::After),

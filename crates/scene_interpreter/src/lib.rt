@@ -28,6 +28,7 @@ mod setup;
 mod setup_line;
 mod state_line;
 mod systems_line;
+mod usual;
 
 pub use answer::LineAnswer;
 pub use bad_line_report::BadLineReport;

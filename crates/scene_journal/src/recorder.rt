@@ -162,9 +162,9 @@ impl Recorder {
         ensures room { self.new.room ≡ self.old.room }
         ensures empty { self.new.frame.deltas ≡ [] }
     {
-        let mut deltas = std::mem::replace(&mut self.deltas, Deltas::new(self.alloc));
-        deltas.shrink_to_fit();
         self.runs.finish();
+        self.deltas.shrink_to_fit();
+        let deltas = std::mem::replace(&mut self.deltas, Deltas::new(self.alloc));
         FrameRecord::new(self.tick_before, deltas)
     }
 

@@ -7,7 +7,7 @@ use Rattle.scene_kinds.specs.Schema.{Kinds, number_of}
 use Rattle.scene_kinds.specs.declared.value.Value.{Value}
 use Rattle.scene_script.specs.declared.bad_line.BadLine.{BadLine}
 use Rattle.scene_script.specs.declared.bad_line.BadLine.TheVariants as bad
-use Rattle.scene_script.specs.Cells.{cell_name, cell_of_parts, cell_said, cells_behind, is_text, next_cell, tag_said, valued_said}
+use Rattle.scene_script.specs.Cells.{cell_of_parts, cell_said, cells_behind, is_text, next_cell, tag_said, valued_said}
 use Rattle.scene_script.specs.Reading.{◌>>=◌, or_bad}
 
 abbrev Cell : Type 0

@@ -5,4 +5,5 @@ pub mod Numbers
 pub mod Reading
 pub mod Script
 pub mod Systems
+pub mod Usual
 pub mod Words

@@ -47,14 +47,28 @@ impl LineForm {
     pub fn named(word: &str) -> Option<LineForm>
         ensures { result ≡ form_named word.now }
     {
-        match word.len() {
-            3 => named_by_three(word),
-            4 => named_by_four(word),
-            5 => named_by_five(word),
-            6 => named_by_six(word),
-            7 => named_by_seven(word),
-            _ => named_otherwise(word),
+        match word.as_bytes() {
+            b"spawn" => Some(LineForm::Spawn),
+            b"insert" => Some(LineForm::Insert),
+            b"remove" => Some(LineForm::Remove),
+            b"parent" => Some(LineForm::Parent),
+            b"despawn" => Some(LineForm::Despawn),
+            _ => named_by_length(word),
         }
+    }
+}
+
+/// The form that any word names.
+fn named_by_length(word: &str) -> Option<LineForm>
+    ensures { result ≡ form_named word.now }
+{
+    match word.len() {
+        3 => named_by_three(word),
+        4 => named_by_four(word),
+        5 => named_by_five(word),
+        6 => named_by_six(word),
+        7 => named_by_seven(word),
+        _ => named_otherwise(word),
     }
 }
 

@@ -31,4 +31,5 @@ pub use number::read_number;
 pub use script_line::{Line, read_line};
 pub use session_number::SessionNumber;
 pub use target::read_target;
+pub use usual::{UsualLine, usual_line};
 pub use word::behind_first;

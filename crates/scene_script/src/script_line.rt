@@ -1,7 +1,6 @@
 //! What a line of a script says, or why it is bad.
 ghost use Rattle.std.specs.Prelude.{◌≡◌, Err};
 ghost use Rattle.scene_script.specs.Reading.{Reads, ended, ended_behind};
-ghost use Rattle.scene_script.specs.Words.{words_of};
 ghost use Rattle.scene_script.specs.declared.bad_line.BadLine.TheVariants as bad;
 ghost use Rattle.scene_script.specs.Script.{line_in, line_of_words, named_line, line_of_form, kind_line, limit_said, slots_line, load_line, calls_line, depth_line, spawn_line, insert_line, despawn_line, remove_line, parent_line, unparent_line, despawnall_line, despawnifalive_line, put_line, drop_line, get_line, system_line, session_said, as_line};
 
@@ -13,7 +12,6 @@ use crate::number::{bad_number, entity_word};
 use crate::session_number::SessionNumber;
 use crate::system::system_rule;
 use crate::target::target_word;
-use crate::usual::usual_line;
 use crate::word::behind_first;
 use crate::words::Words;
 use scene_commands::Command;
@@ -481,7 +479,7 @@ fn named_line(
 }
 
 /// A line by its words.
-#[inline(never)]
+#[inline(always)]
 fn line_of_words(
     alloc: Global,
     schema: &Schema,
@@ -499,17 +497,6 @@ fn line_of_words(
     named_line(alloc, schema, line, first, rest)
 }
 
-/// A line by its text. Most lines of long scripts are usual ones.
-#[inline(always)]
-fn line_of_text(alloc: Global, schema: &Schema, line: &str) -> Result<Line, LineError>
-    ensures { Reads result (line_of_words schema.now line.now (words_of line.now)) }
-{
-    match usual_line(alloc, schema, line) {
-        Some(said) => Ok(said),
-        None => line_of_words(alloc, schema, line, Words::of(line)),
-    }
-}
-
 /// What a line says, where these kinds are declared. It costs a walk over the line.
 ///
 /// Refused: `Bad` with the first mistake, read from the left, where the line has no form of the language, and
@@ -519,6 +506,6 @@ pub fn read_line(alloc: Global, schema: &Schema, bytes: &[u8]) -> Result<Line, L
 {
     match str::from_utf8(bytes) {
         Err(_) => Err(LineError::Bad(BadLine::NotUtf8)),
-        Ok(text) => line_of_text(alloc, schema, text),
+        Ok(text) => line_of_words(alloc, schema, text, Words::of(text)),
     }
 }

@@ -1,8 +1,10 @@
 //! Lines that long scripts have most, where they have no mistake: each is read in the fewest steps.
 ghost use Rattle.std.specs.Prelude.{◌≡◌, ℕ, List, ◌∷◌, [], Ok, IfSome};
 ghost use Rattle.scene_script.specs.Cells.{cell_said, cells_said, lone_name, value_said, vec3_said};
-ghost use Rattle.scene_script.specs.Script.{despawn_line, insert_line, line_of_form, line_of_words, parent_line, remove_line, spawn_line, unparent_line};
+ghost use Rattle.scene_script.specs.Script.{despawn_line, insert_line, line_in, line_of_form, line_of_words, parent_line, remove_line, spawn_line, unparent_line};
+ghost use Rattle.scene_script.specs.Usual.{line_of};
 ghost use Rattle.scene_script.specs.Words.{words_of};
+ghost use Rattle.scene_script.specs.declared.script_line.Line.TheVariants.{Do};
 
 use crate::bad_line::text_of;
 use crate::cell::CELLS_AT_ONCE;
@@ -14,6 +16,28 @@ use crate::words::Words;
 use scene_commands::{Command, Components};
 use scene_kinds::{Schema, Shape, Value, cut, read_entity};
 use std::alloc::Global;
+
+/// What a line of a usual form says.
+#[derive(Drop, Debug)]
+pub enum UsualLine {
+    /// A command.
+    Do(Command),
+    Undo,
+    Redo,
+}
+
+impl UsualLine {
+    /// The line, among all lines.
+    pub fn into_line(self) -> Line
+        ensures { result ≡ line_of self }
+    {
+        match self {
+            UsualLine::Do(command) => Line::Do(command),
+            UsualLine::Undo => Line::Undo,
+            UsualLine::Redo => Line::Redo,
+        }
+    }
+}
 
 /// Three whole numbers with commas between them.
 fn vec3(text: &str) -> Option<[i64; 3]>
@@ -88,90 +112,105 @@ fn only<'a>(words: Words<'a>) -> Option<&'a str>
 
 /// `spawn CELL..`.
 #[inline(never)]
-fn spawn(alloc: Global, schema: &Schema, words: Words) -> Option<Line>
-    ensures { IfSome result (λ line. spawn_line schema.now words.entry ≡ Ok line) }
+fn spawn(alloc: Global, schema: &Schema, words: Words) -> Option<Command>
+    ensures { IfSome result (λ command. spawn_line schema.now words.entry ≡ Ok (Do command)) }
 {
-    Some(Line::Do(Command::Spawn(cells(alloc, schema, words)?)))
+    Some(Command::Spawn(cells(alloc, schema, words)?))
 }
 
 /// `insert T CELL`.
 #[inline(never)]
-fn insert(alloc: Global, schema: &Schema, words: Words) -> Option<Line>
-    ensures { IfSome result (λ line. insert_line schema.now words.entry ≡ Ok line) }
+fn insert(alloc: Global, schema: &Schema, words: Words) -> Option<Command>
+    ensures { IfSome result (λ command. insert_line schema.now words.entry ≡ Ok (Do command)) }
 {
     let (target, rest) = words.split_first()?;
     let target = read_target(target)?;
     let (kind, value) = cell(alloc, schema, only(rest)?)?;
-    Some(Line::Do(Command::Insert(target, kind, value)))
+    Some(Command::Insert(target, kind, value))
 }
 
 /// `remove T NAME`.
 #[inline(never)]
-fn remove(schema: &Schema, words: Words) -> Option<Line>
-    ensures { IfSome result (λ line. remove_line schema.now words.entry ≡ Ok line) }
+fn remove(schema: &Schema, words: Words) -> Option<Command>
+    ensures { IfSome result (λ command. remove_line schema.now words.entry ≡ Ok (Do command)) }
 {
     let (target, rest) = words.split_first()?;
     let target = read_target(target)?;
     let kind = schema.number_of(only(rest)?)?;
-    Some(Line::Do(Command::Remove(target, kind)))
+    Some(Command::Remove(target, kind))
 }
 
 /// `parent T T`, the child and then its parent.
 #[inline(never)]
-fn parent(words: Words) -> Option<Line>
-    ensures { IfSome result (λ line. parent_line words.entry ≡ Ok line) }
+fn parent(words: Words) -> Option<Command>
+    ensures { IfSome result (λ command. parent_line words.entry ≡ Ok (Do command)) }
 {
     let (child, rest) = words.split_first()?;
     let child = read_target(child)?;
     let parent = read_target(only(rest)?)?;
-    Some(Line::Do(Command::SetParent(child, parent)))
+    Some(Command::SetParent(child, parent))
 }
 
 /// `despawn T`.
 #[inline(never)]
-fn despawn(words: Words) -> Option<Line>
-    ensures { IfSome result (λ line. despawn_line words.entry ≡ Ok line) }
+fn despawn(words: Words) -> Option<Command>
+    ensures { IfSome result (λ command. despawn_line words.entry ≡ Ok (Do command)) }
 {
     let target = read_target(only(words)?)?;
-    Some(Line::Do(Command::Despawn(target)))
+    Some(Command::Despawn(target))
 }
 
 /// `unparent T`.
 #[inline(never)]
-fn unparent(words: Words) -> Option<Line>
-    ensures { IfSome result (λ line. unparent_line words.entry ≡ Ok line) }
+fn unparent(words: Words) -> Option<Command>
+    ensures { IfSome result (λ command. unparent_line words.entry ≡ Ok (Do command)) }
 {
     let child = read_target(only(words)?)?;
-    Some(Line::Do(Command::RemoveParent(child)))
+    Some(Command::RemoveParent(child))
 }
 
 /// A line of a usual form, by the words behind the first.
 #[inline(always)]
-fn line_of_form(alloc: Global, schema: &Schema, form: LineForm, words: Words) -> Option<Line>
-    ensures { IfSome result (λ said. (line : List ℕ) → line_of_form schema.now form line words.entry ≡ Ok said) }
+fn line_of_form(alloc: Global, schema: &Schema, form: LineForm, words: Words) -> Option<UsualLine>
+    ensures { IfSome result (λ said. (line : List ℕ) → line_of_form schema.now form line words.entry ≡ Ok (line_of said)) }
 {
     match form {
-        LineForm::Spawn => spawn(alloc, schema, words),
-        LineForm::Insert => insert(alloc, schema, words),
-        LineForm::Despawn => despawn(words),
-        LineForm::Remove => remove(schema, words),
-        LineForm::Parent => parent(words),
-        LineForm::Unparent => unparent(words),
-        LineForm::Undo if words.split_first().is_none() => Some(Line::Undo),
-        LineForm::Redo if words.split_first().is_none() => Some(Line::Redo),
+        LineForm::Spawn => Some(UsualLine::Do(spawn(alloc, schema, words)?)),
+        LineForm::Insert => Some(UsualLine::Do(insert(alloc, schema, words)?)),
+        LineForm::Despawn => Some(UsualLine::Do(despawn(words)?)),
+        LineForm::Remove => Some(UsualLine::Do(remove(schema, words)?)),
+        LineForm::Parent => Some(UsualLine::Do(parent(words)?)),
+        LineForm::Unparent => Some(UsualLine::Do(unparent(words)?)),
+        LineForm::Undo if words.split_first().is_none() => Some(UsualLine::Undo),
+        LineForm::Redo if words.split_first().is_none() => Some(UsualLine::Redo),
         _ => None,
     }
 }
 
-/// What a line says, where it has one of the forms that long scripts have most, and no mistake. `None` tells nothing of
-/// the line, which is then to be read whole.
+/// A line by its text.
 #[inline(always)]
-pub(crate) fn usual_line(alloc: Global, schema: &Schema, line: &str) -> Option<Line>
-    ensures { IfSome result (λ said. line_of_words schema.now line.now (words_of line.now) ≡ Ok said) }
+fn usual_text(alloc: Global, schema: &Schema, line: &str) -> Option<UsualLine>
+    ensures { IfSome result (λ said. line_of_words schema.now line.now (words_of line.now) ≡ Ok (line_of said)) }
 {
     let (first, rest) = Words::of(line).split_first()?;
     if first.starts_with('#') {
         return None;
     }
     line_of_form(alloc, schema, LineForm::named(first)?, rest)
+}
+
+/// What a line says, where it has one of the forms that long scripts have most, and no mistake. `None` tells nothing of
+/// the line, which is then `read_line`'s to read: it has another form, or a mistake, or no memory was found. It costs a
+/// walk over the line.
+pub fn usual_line(alloc: Global, schema: &Schema, bytes: &[u8]) -> Option<UsualLine>
+    ensures { IfSome result (λ said. line_in schema.now bytes.now ≡ Ok (line_of said)) }
+{
+    match bytes {
+        b"undo" => Some(UsualLine::Undo),
+        b"redo" => Some(UsualLine::Redo),
+        _ => match str::from_utf8(bytes) {
+            Ok(text) => usual_text(alloc, schema, text),
+            Err(_) => None,
+        },
+    }
 }

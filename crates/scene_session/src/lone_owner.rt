@@ -3,8 +3,8 @@ ghost use Rattle.std.specs.Prelude.{◌≡◌, ◌≢◌, ◌≤◌, ◌<◌, �
 ghost use Rattle.scene_kinds.specs.Answers.{refusal_of};
 ghost use Rattle.scene_kinds.specs.declared.fault.Fault.TheVariants.{HistoryFull, NoMemory};
 ghost use Rattle.scene_queue.specs.Frames.{lone_frame};
-ghost use Rattle.scene_session.specs.Calls.{Refused, Submit, asked, queue_count, told};
-ghost use Rattle.scene_session.specs.Logged.{logged};
+ghost use Rattle.scene_session.specs.Calls.{Redo, Refused, Submit, Undo, asked, queue_count, told};
+ghost use Rattle.scene_session.specs.Logged.{asked_in, logged};
 ghost use Rattle.scene_session.specs.State.{stopping_at};
 ghost use Rattle.scene_session.specs.Whole.{whole_of};
 ghost use Rattle.scene_session.specs.Owner.{opening_owner, performed, whole_at};
@@ -13,7 +13,7 @@ use crate::call::{Call, Reply, Stopped};
 use crate::log::{Log, Logged, LoggedCall};
 use crate::owner::SessionOwner;
 use crate::query::EditorQuery;
-use crate::step::{call_editor, call_editor_one, call_editor_with};
+use crate::step::{call_editor, call_editor_one, call_editor_with, redo_editor, undo_editor};
 use scene_commands::Command;
 use scene_kinds::{Fault, Refusal};
 use scene_undo::Editor;
@@ -113,6 +113,38 @@ fn enter_call(
     }
 }
 
+/// Enters a call that is told by its snapshot, with its reply, which it gives. Where there is none, no memory was found.
+fn enter_lone(
+    log: &mut Log,
+    room: &mut u64,
+    session: u32,
+    call: LoggedCall,
+    reply: Option<Reply>,
+) -> Result<Reply, AllocError>
+    requires { 1 ≤ room.old }
+    ensures entered { IfOk result (λ r. (reply ≡ Some r)
+        × (log.new.calls ≡ log.old.calls ++ record { session = session; call = asked_in call; answer = told r } ∷ [])) }
+    ensures stopped { OnErr result ((reply ≡ None) × (log.new.calls ≡ log.old.calls)) }
+    ensures room { MatchResult result (λ _. room.new + 1 ≡ room.old) (λ _. room.new ≡ room.old) }
+{
+    let Some(reply) = reply else {
+        return Err(AllocError);
+    };
+    let done = Logged {
+        session,
+        call,
+        reply,
+    };
+    Ok(enter(log, room, done))
+}
+
+/// The reply to a call for which there is no room.
+fn full(limit: u64) -> Reply
+    ensures { told result ≡ Refused (refusal_of (HistoryFull limit)) }
+{
+    Reply::Refused(Refusal::from(Fault::HistoryFull(limit)))
+}
+
 /// Hands back a call for which there is no room.
 fn turned_back(limit: u64, call: Call) -> Stopped
     ensures { (result.call ≡ call) × (result.refusal ≡ refusal_of (HistoryFull limit)) }
@@ -185,20 +217,38 @@ impl LoneOwner {
         ensures same { OnErr result (self.new ≡ self.old) }
     {
         if self.room == 0 {
-            let full = Refusal::from(Fault::HistoryFull(self.limit));
-            return Ok(Reply::Refused(full));
+            let full = full(self.limit);
+            return Ok(full);
         }
-        let session = self.session;
         let call = LoggedCall::of_command(&command);
-        let Some(reply) = call_editor_one(&mut self.editor, command) else {
-            return Err(AllocError);
-        };
-        let done = Logged {
-            session,
-            call,
-            reply,
-        };
-        Ok(enter(&mut self.log, &mut self.room, done))
+        let reply = call_editor_one(&mut self.editor, command);
+        enter_lone(&mut self.log, &mut self.room, self.session, call, reply)
+    }
+
+    /// Takes the newest frame back for the session whose turn it is.
+    pub(crate) fn undo(&mut self) -> Result<Reply, AllocError>
+        ensures done { IfOk result (λ reply. performed self.old Undo ≡ (self.new, told reply)) }
+        ensures same { OnErr result (self.new ≡ self.old) }
+    {
+        if self.room == 0 {
+            return Ok(full(self.limit));
+        }
+        let call = LoggedCall::of_call(&Call::Undo);
+        let reply = undo_editor(&mut self.editor);
+        enter_lone(&mut self.log, &mut self.room, self.session, call, reply)
+    }
+
+    /// Does the newest undone frame again for the session whose turn it is.
+    pub(crate) fn redo(&mut self) -> Result<Reply, AllocError>
+        ensures done { IfOk result (λ reply. performed self.old Redo ≡ (self.new, told reply)) }
+        ensures same { OnErr result (self.new ≡ self.old) }
+    {
+        if self.room == 0 {
+            return Ok(full(self.limit));
+        }
+        let call = LoggedCall::of_call(&Call::Redo);
+        let reply = redo_editor(&mut self.editor);
+        enter_lone(&mut self.log, &mut self.room, self.session, call, reply)
     }
 
     /// Asks a question of the editor.

@@ -1,8 +1,8 @@
 //! Who performs the calls of an owner, and asks its queries.
-ghost use Rattle.std.specs.Prelude.{◌≡◌, ◌≢◌, ◌≤◌, ◌<◌, length, IfErr, IfOk, OnErr};
+ghost use Rattle.std.specs.Prelude.{◌≡◌, ◌≢◌, ◌≤◌, ◌<◌, Ok, length, IfErr, IfOk, IsErr, OnErr};
 ghost use Rattle.std.specs.Thread.{IsSync};
 ghost use Rattle.scene_queue.specs.Frames.{lone_frame};
-ghost use Rattle.scene_session.specs.Calls.{Submit, asked, queue_count, told};
+ghost use Rattle.scene_session.specs.Calls.{Redo, Submit, Undo, asked, queue_count, told};
 ghost use Rattle.scene_session.specs.Owner.{performed, whole_at};
 ghost use Rattle.scene_session.specs.Performed.{Came};
 
@@ -52,6 +52,24 @@ pub trait Performer<O: SessionOwner> {
         ensures done { IfOk result (λ reply. performed (O.state owner.old) (Submit (lone_frame command)) ≡ (O.state owner.new, told reply)) }
         ensures same { OnErr result (owner.new ≡ owner.old) };
 
+    /// Takes the newest frame back for the session whose turn it is, as `perform` does a call `Undo`, and costs what the
+    /// frame changed.
+    ///
+    /// Where no memory is found, nothing is entered.
+    fn undo(&self, alloc: Global, owner: &mut O) -> Result<Reply, AllocError>
+        requires { IsSync Self.Runtime.row }
+        ensures done { IfOk result (λ reply. performed (O.state owner.old) Undo ≡ (O.state owner.new, told reply)) }
+        ensures same { OnErr result (owner.new ≡ owner.old) };
+
+    /// Does the newest undone frame again for the session whose turn it is, as `perform` does a call `Redo`, and costs
+    /// what the frame changes.
+    ///
+    /// Where no memory is found, nothing is entered.
+    fn redo(&self, alloc: Global, owner: &mut O) -> Result<Reply, AllocError>
+        requires { IsSync Self.Runtime.row }
+        ensures done { IfOk result (λ reply. performed (O.state owner.old) Redo ≡ (O.state owner.new, told reply)) }
+        ensures same { OnErr result (owner.new ≡ owner.old) };
+
     /// Asks a question of the editor, for the session whose turn it is: what is found is of the editor after just these
     /// calls. It costs what the question costs, and over a lock some thirty loads of a word; it takes no memory but
     /// what the question takes.
@@ -94,6 +112,17 @@ fn entered(done: Result<Reply, Stopped>) -> Result<Reply, Call>
     }
 }
 
+/// The reply, without a call that was handed back.
+fn without_call(performed: Result<Reply, Call>) -> Result<Reply, AllocError>
+    ensures done { IfOk result (λ reply. performed ≡ Ok reply) }
+    ensures stopped { OnErr result (IsErr performed) }
+{
+    match performed {
+        Ok(reply) => Ok(reply),
+        Err(_) => Err(AllocError),
+    }
+}
+
 /// The queues of a frame of one command. An empty queue has room for it, so only memory can be wanting.
 fn lone_queue(alloc: Global, command: Command) -> Result<Vec<Queue>, AllocError>
     ensures { IfOk result (λ queues. queues.items ≡ lone_frame command) }
@@ -122,10 +151,15 @@ impl<R: Threads + Wait + Sync> Performer<SharedOwner> for OnThreads<R> {
         command: Command,
     ) -> Result<Reply, AllocError> {
         let call = Call::Submit(lone_queue(alloc, command)?);
-        match entered(owner.perform(&self.rt, alloc, call, self.workers)) {
-            Ok(reply) => Ok(reply),
-            Err(_) => Err(AllocError),
-        }
+        without_call(self.perform(alloc, owner, call))
+    }
+
+    fn undo(&self, alloc: Global, owner: &mut SharedOwner) -> Result<Reply, AllocError> {
+        without_call(self.perform(alloc, owner, Call::Undo))
+    }
+
+    fn redo(&self, alloc: Global, owner: &mut SharedOwner) -> Result<Reply, AllocError> {
+        without_call(self.perform(alloc, owner, Call::Redo))
     }
 
     fn ask<Q: EditorQuery>(&self, alloc: Global, owner: &mut SharedOwner, query: &Q) -> Q::Found {
@@ -149,6 +183,14 @@ impl<R: Threads + Sync> Performer<LoneOwner> for OnThreads<R> {
         owner.perform_one(command)
     }
 
+    fn undo(&self, _alloc: Global, owner: &mut LoneOwner) -> Result<Reply, AllocError> {
+        owner.undo()
+    }
+
+    fn redo(&self, _alloc: Global, owner: &mut LoneOwner) -> Result<Reply, AllocError> {
+        owner.redo()
+    }
+
     fn ask<Q: EditorQuery>(&self, alloc: Global, owner: &mut LoneOwner, query: &Q) -> Q::Found {
         owner.ask(alloc, query)
     }
@@ -168,6 +210,14 @@ impl Performer<LoneOwner> for ThisThread {
         command: Command,
     ) -> Result<Reply, AllocError> {
         owner.perform_one(command)
+    }
+
+    fn undo(&self, _alloc: Global, owner: &mut LoneOwner) -> Result<Reply, AllocError> {
+        owner.undo()
+    }
+
+    fn redo(&self, _alloc: Global, owner: &mut LoneOwner) -> Result<Reply, AllocError> {
+        owner.redo()
     }
 
     fn ask<Q: EditorQuery>(&self, alloc: Global, owner: &mut LoneOwner, query: &Q) -> Q::Found {

@@ -176,6 +176,24 @@ pub fn call_editor_with<R: Threads + Sync>(
     one(do_call_with(rt, editor, call, workers))
 }
 
+/// Takes the newest frame back on an editor as `call_editor` does. `None` where no memory was found: then the editor is
+/// as it was.
+pub(crate) fn undo_editor(editor: &mut Editor) -> Option<Reply>
+    ensures done { IfSome result (λ r. step (whole_of editor.old) Undo ≡ (whole_of editor.new, told r)) }
+    ensures none { IfNone result (editor.new ≡ editor.old) }
+{
+    one(undo(editor))
+}
+
+/// Does the newest undone frame again on an editor as `call_editor` does. `None` where no memory was found: then the
+/// editor is as it was.
+pub(crate) fn redo_editor(editor: &mut Editor) -> Option<Reply>
+    ensures done { IfSome result (λ r. step (whole_of editor.old) Redo ≡ (whole_of editor.new, told r)) }
+    ensures none { IfNone result (editor.new ≡ editor.old) }
+{
+    one(redo(editor))
+}
+
 /// Performs a frame of one command on an editor as `call_editor` does one of a queue with it, but without the queue.
 ///
 /// `None` where no memory was found: then the editor is as it was, and the command is dropped.

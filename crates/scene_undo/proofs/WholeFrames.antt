@@ -27,7 +27,7 @@ use Rattle.scene_deltas.proofs.ComeBack.{back_all_keeps_tick}
 use Rattle.scene_deltas.proofs.Turns.{ready_fits_back}
 use Rattle.scene_undo.specs.declared.made.Made.{Made}
 use Rattle.scene_undo.specs.Editor.{IsRecordOf}
-use Rattle.scene_undo.specs.Kept.{CanUndo}
+use Rattle.scene_undo.specs.Kept.{CanUndo, CanUndoWhereReady}
 
 -- ---- a frame that was accepted is the fold of its queues
 
@@ -130,6 +130,24 @@ module _ (w : World) (u v : Recording) (valid : IsValid w) (raises : raise_tick 
 module _ (does : World → Outcome (List Entity) World) (w u : World) (raises : raise_tick w ≡ Ok (tt, u)) where
   pub done_with : (es : List Entity) (v x : World) → x ≡ v → does u ≡ Ok (es, v) → framed does w ≡ Ok (es, x)
   done_with es v x same done = ap (λ o. and_then o (λ _ y. does y)) raises ∙ done ∙ (λ i. Ok (es, sym same i))
+
+-- ---- what a recorder had noted, once it is handed out with its world
+
+module _ (v f : Recording) (kept : Record) (is : kept ≡ v.frame) (same : f.world ≡ v.world) where
+  out : (P : Record → World → Type 0) → P v.frame v.world → P kept f.world
+  out P h = subst (P kept) (sym same) (subst (λ r. P r v.world) (sym is) h)
+
+  pub out_can : CanUndoWhereReady v.frame v.world → AreReady f.room kept.deltas f.world → CanUndo f.room kept f.world
+  out_can can ready =
+      let there = subst (AreReady f.room v.frame.deltas) same (subst (λ (r : Record). AreReady f.room r.deltas f.world) is ready) in
+      out (CanUndo f.room) (can f.room there)
+
+  pub out_back : (w : World) → undone v.frame v.world ≡ w → undone kept f.world ≡ w
+  out_back w back = (λ i. undone (is i) (same i)) ∙ back
+
+  pub out_noted : (plays : Staged Delta → Outcome (List Entity) (Staged Delta)) (w : World) (es : List Entity)
+      → IsRecordOf plays w v.world es v.frame → IsRecordOf plays w f.world es kept
+  out_noted plays w es = out (λ r x. IsRecordOf plays w x es r)
 
 -- ---- the record of a frame of queues
 

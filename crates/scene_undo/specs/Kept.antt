@@ -11,6 +11,10 @@ pub record CanUndo (room : Room) (r : Record) (w : World) : Type 0 where
   pub fits : RecordFitsBack r w
   pub ready : AreReady room r.deltas w
 
+-- a record can be undone in each room in which its deltas are ready
+abbrev pub CanUndoWhereReady : Record → World → Type 0
+CanUndoWhereReady r w = (room : Room) → AreReady room r.deltas w → CanUndo room r w
+
 -- a record fits, and the room holds each world on the way
 pub record CanRedo (room : Room) (r : Record) (w : World) : Type 0 where
   pub fits : RecordFitsOn r w

@@ -14,7 +14,7 @@ ghost use Rattle.scene_undo.specs.BackAndForth.{IsWithinDepth, RedoThenUndo, Und
 ghost use Rattle.scene_undo.specs.Cursor.{cursor_of, since};
 ghost use Rattle.scene_undo.specs.Direction.{AllFit};
 ghost use Rattle.scene_undo.specs.Editor.{IsRecordOf, at_depth, entities_of, items_of, machine_of, new_editor};
-ghost use Rattle.scene_undo.specs.Kept.{CanUndo};
+ghost use Rattle.scene_undo.specs.Kept.{CanUndoWhereReady};
 ghost use Rattle.scene_undo.specs.Parts.{NamesFrame};
 ghost use Rattle.scene_undo.specs.Size.{IsNewestWithin};
 ghost use Rattle.scene_undo.specs.Stacks.{IsRedone, IsUndone};
@@ -78,26 +78,19 @@ impl Model for Editor {
 /// The greatest depth that the lines of a script may set, and that of an editor where none was set.
 pub const MOST_FRAMES: u32 = 1_048_576;
 
-/// An accepted frame: what it made, and the record to keep.
-#[derive(Drop)]
-struct Framed {
-    made: Made,
-    kept: FrameRecord,
-}
-
-/// Does a frame in a recorder between two frames, all or nothing: it raises the tick and runs the frame. After a
-/// refusal the world is as it was.
-fn frame<F: FrameOnce>(alloc: Global, recorder: &mut Recorder, asked: F) -> Result<Framed, Refusal>
+/// Does a frame in a recorder between two frames, all or nothing: it raises the tick and runs the frame, whose record
+/// the recorder has then. After a refusal the world is as it was.
+fn frame<F: FrameOnce>(alloc: Global, recorder: &mut Recorder, asked: F) -> Result<Made, Refusal>
     requires can { F.can asked }
     requires empty { recorder.old.frame.deltas ≡ [] }
-    ensures done { IfOk result (λ f. framed (F.does asked) recorder.old.world ≡ Ok (f.made.entities.items, recorder.new.world)) }
-    ensures listed { IfOk result (λ f. F.lists asked f.made) }
-    ensures noted { IfOk result (λ f. IsRecordOf (F.plays asked) recorder.old.world recorder.new.world f.made.entities.items f.kept) }
-    ensures can { IfOk result (λ f. CanUndo recorder.new.room f.kept recorder.new.world) }
-    ensures back { IfOk result (λ f. undone f.kept recorder.new.world ≡ recorder.old.world) }
+    ensures done { IfOk result (λ m. framed (F.does asked) recorder.old.world ≡ Ok (m.entities.items, recorder.new.world)) }
+    ensures listed { IfOk result (F.lists asked) }
+    ensures noted { IfOk result (λ m. IsRecordOf (F.plays asked) recorder.old.world recorder.new.world m.entities.items recorder.new.frame) }
+    ensures can { OnOk result (CanUndoWhereReady recorder.new.frame recorder.new.world) }
+    ensures back { OnOk result (undone recorder.new.frame recorder.new.world ≡ recorder.old.world) }
     ensures refused { IfErr result (λ r. r ≢ refusal_of NoMemory → framed (F.does asked) recorder.old.world ≡ Err r) }
     ensures same { OnErr result (recorder.new.world ≡ recorder.old.world) }
-    ensures empty { recorder.new.frame.deltas ≡ [] }
+    ensures empty { OnErr result (recorder.new.frame.deltas ≡ []) }
     ensures wide { IsWider recorder.old.room recorder.new.room }
 {
     recorder.world_is_sound();
@@ -105,10 +98,7 @@ fn frame<F: FrameOnce>(alloc: Global, recorder: &mut Recorder, asked: F) -> Resu
         return Err(refusal);
     }
     match asked.apply(alloc, recorder) {
-        Ok(made) => {
-            let kept = recorder.finish();
-            Ok(Framed { made, kept })
-        }
+        Ok(made) => Ok(made),
         Err(refusal) => {
             recorder.cancel();
             Err(refusal)
@@ -338,9 +328,8 @@ impl Editor {
     {
         self.stacks.make_room()?;
         match frame(self.alloc, &mut self.recorder, asked) {
-            Ok(done) => {
-                let Framed { made, kept } = done;
-                self.stacks.keep(kept);
+            Ok(made) => {
+                self.stacks.keep(self.recorder.finish());
                 Ok(made)
             }
             Err(refusal) => Err(refusal),

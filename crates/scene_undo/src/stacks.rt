@@ -7,6 +7,9 @@ use scene_journal::{Deltas, FrameRecord};
 use std::alloc::{AllocError, Global};
 use std::marker::Model;
 
+/// As many places of dropped records are left empty, however few records there are.
+const FEW_PLACES: usize = 64;
+
 /// The records of the frames before the world now, and those of the frames that were undone, in one list: an undo and a
 /// redo move the place where the one ends and the other begins, and no record.
 ///
@@ -151,6 +154,7 @@ impl Stacks {
     }
 
     /// Keeps the record of a further frame, for which there is a place, and forgets what was undone.
+    #[inline(always)]
     pub(crate) fn keep(&mut self, newest: FrameRecord)
         requires { 0 < self.old.places }
         ensures past { self.new.past ≡ take self.old.depth (newest ∷ self.old.past) }
@@ -206,14 +210,15 @@ impl Stacks {
         self.dropped += 1;
     }
 
-    /// Closes the empty places up, where they are the most: so each of them costs a constant time in the long run.
+    /// Closes the empty places up, where they are the most and not just a few: so each of them costs a constant time in
+    /// the long run.
     fn close_up(&mut self)
         ensures past { self.new.past ≡ self.old.past }
         ensures future { self.new.future ≡ self.old.future }
         ensures depth { self.new.depth ≡ self.old.depth }
     {
         let kept = self.records.len() - self.dropped;
-        if kept < self.dropped {
+        if kept < self.dropped && self.dropped >= FEW_PLACES {
             self.records.rotate_left(self.dropped);
             self.records.truncate(kept);
             self.middle -= self.dropped;

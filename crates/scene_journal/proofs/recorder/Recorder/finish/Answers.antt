@@ -8,7 +8,7 @@ use Rattle.scene_journal.proofs.recorder.Recorder.finish.Goals as goal
 pub returns-clause-ready : goal.returns-clause-ready
 returns-clause-ready c =
     let w = c.self.inside.world in
-    let same = ap (λ (r : Record). r.deltas) c.new-2.ensures ∙ c.shrink_to_fit.ensures ∙ ap (λ ds. ds.items) c.replace-deltas.ensures.value in
+    let same = ap (λ (r : Record). r.deltas) c.new-2.ensures ∙ ap (λ ds. ds.items) c.replace-deltas.ensures.value ∙ c.shrink_to_fit.ensures in
     subst (λ ds. AreReady w.room ds w.world) (sym same) (found_ready w.room c.self.inside.deltas.items w.world c.self.invariant.0)
 
 pub invariant_of-self : goal.invariant_of-self

@@ -3,8 +3,8 @@ use Rattle.scene_undo.specs.Stacks.{Stacked}
 use Rattle.scene_undo.proofs.StackLaws.{along, closed_up}
 use Rattle.scene_undo.proofs.stacks.Stacks.close_up.Goals as goal
 
-pub returns-then-kept-self-clause-past : goal.returns-then-kept-self-clause-past
-returns-then-kept-self-clause-past c =
+pub returns-then-self-ge-FEW_PLACES-clause-past : goal.returns-then-self-ge-FEW_PLACES-clause-past
+returns-then-self-ge-FEW_PLACES-clause-past c =
     let xs = c.self.inside.records.items in
     let d = c.self.inside.dropped in
     let m = c.self.inside.middle in
