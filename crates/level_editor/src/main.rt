@@ -1,5 +1,5 @@
 //! What a tool does with an `Editor`: things are placed and dragged, a cycle and a thing that is gone are refused, and
-//! changes are taken back and made again. README.md, "As a library", says how such a crate comes about.
+//! changes are taken back and made again. docs/LIBRARY.md says how such a crate comes about.
 #![tactic(auto)]
 
 mod error;
