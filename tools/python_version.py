@@ -97,7 +97,9 @@ def faults_by(interpreter, path, text):
     """What an interpreter doesn't compile, or import, in a file."""
     words = [interpreter, "-B", "-c", "import sys; compile(sys.stdin.read(), 'text', 'exec')"]
     if path.suffix == ".py" and not is_script(path):
-        words = [interpreter, "-B", "-c", IMPORT, str(path), str(path.parent), str(TOP / "tools")]
+        # What is in a package imports the rest of it by the package's name.
+        folder = path.parent.parent if (path.parent / "__init__.py").exists() else path.parent
+        words = [interpreter, "-B", "-c", IMPORT, str(path), str(folder), str(TOP / "tools")]
     done = subprocess.run(words, input=text, stdout=subprocess.PIPE, stderr=subprocess.PIPE, text=True, check=False)
     return [] if done.returncode == 0 else [done.stderr.strip().split("\n")[-1]]
 

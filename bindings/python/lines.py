@@ -3,12 +3,12 @@
 
     bindings/python/lines.py [LIBRARY] < SCRIPT
 
-Without a path, the library is libscene.so in the folder that SCENE_LIB_DIR names. The status is 0, and 1 where a line
-was bad; 3 where memory was wanting. Why a line is bad, standard error tells.
+Without a path, the library is the one that SCENE_LIBRARY names, or else libscene.so in the folder of SCENE_LIB_DIR. The
+status is 0, and 1 where a line was bad; 3 where memory was wanting. Why a line is bad, standard error tells.
 """
 import sys
 
-from scene_library import BAD, DONE, REFUSED, Library
+from scene.library import BAD, DONE, REFUSED, Library
 
 
 def without_break(line: bytes) -> bytes:

@@ -22,10 +22,10 @@ from pathlib import Path
 from typing import TYPE_CHECKING, Any, Callable, Dict, Iterator, List, Optional, Tuple, Type, TypeVar
 
 import scene
-from scene import BadLine, Calls, Ended, Entity, KindsDiffer, Refused, StoreError
+from scene import BadLine, Calls, Closed, Ended, Entity, KindsDiffer, Refused, StoreError
 
 if TYPE_CHECKING:
-    from scene_library import LibraryScene
+    from scene.library import LibraryScene
 
 TOP = Path(__file__).resolve().parents[2]
 KINDS = {"Name": "Text", "Health": "Int", "At": "Vec3", "Hidden": "Tag", "Target": "Link"}
@@ -374,7 +374,7 @@ def closes(begin: Begin) -> None:
     world.spawn()
     world.close()
     for call in (world.spawn, lambda: world.spawn(Health=1), world.show, lambda: world.get("0v1", "Name")):
-        assert "closed" in str(error_of(ValueError, call))
+        assert "closed" in str(error_of(Closed, call))
     world.close()
 
 
@@ -395,7 +395,7 @@ def reasons(begin: Begin) -> None:
 
 def dropped_frames(begin: Begin) -> None:
     """A frame that is dropped does nothing, and isn't a call."""
-    from scene_library import LibraryScene
+    from scene.library import LibraryScene
 
     with begin() as world:
         assert isinstance(world, LibraryScene)
@@ -414,7 +414,7 @@ def dropped_frames(begin: Begin) -> None:
         world.undo()
         assert not world.rows()
         world.close()
-        assert "closed" in str(error_of(ValueError, world.drop_frame))
+        assert "closed" in str(error_of(Closed, world.drop_frame))
 
 
 def fail_in_frame(world: Calls) -> None:
@@ -441,7 +441,7 @@ def refused_lines(begin: Begin) -> None:
 
 def names_of_faults(library: str) -> None:
     """The library has the name of each fault that a scene can have, and its version is that of VERSION."""
-    from scene_library import Library
+    from scene.library import Library
 
     known = re.findall(r"^- (\d+) (\w+)", (TOP / "docs/MODEL.md").read_text(), re.MULTILINE)
     names = {int(number): name for number, name in known if int(number) < 60}

@@ -1,0 +1,93 @@
+"""Scenes from Python: over the program's shell, or over its C library. Both have the same calls (`Calls`).
+
+    with scene.open("level.db", kinds={"Name": "Text", "Health": "Int"}) as level:
+        cat = level.spawn(Name="cat", Health=9)
+        with level.frame():
+            level.insert(cat, Health=5)
+            level.spawn(Name="kitten")
+        level.undo()
+        print(level.get(cat, "Health"))
+
+- `Scene` runs the program `scene shell`: each call is a line, and waits for its answer (docs/SHELL.md). With a store
+  each change is kept in a file before the call returns, and the next scene on the file goes on there.
+- `scene.library.LibraryScene` calls libscene.so in this process, without a text on the way; it keeps nothing by itself.
+
+`scene.open` gives either. docs/MODEL.md says what the calls do, docs/SCRIPTS.md what lines do, docs/BINDINGS.md how the
+package is installed.
+
+Values are True for a Tag, int, three ints, str, and an entity for a Link; numbers may be given as a line writes them. A
+text with a space or a line break has no place on a line: over the shell it is a `BadLine`.
+
+What goes wrong is a `SceneError`. `Refused` and `BadLine`, a ValueError, leave the scene as it was, and so does the
+TypeError of a value whose type its kind doesn't take. `KindsDiffer` tells of a store with other kinds, `Closed`, a
+ValueError, of a call that comes too late. `Ended` and `StoreError` end the scene; a store has all that was answered.
+`NoMemory`, a MemoryError, with `Lost` and `Untold`, and `OtherVersion` are the library's. What else the program says on
+standard error goes to the log `scene`.
+"""
+from __future__ import annotations
+
+import os
+from pathlib import Path
+from typing import Mapping, Optional, Sequence, Union
+
+from scene.calls import Calls
+from scene.errors import BadLine, Closed, Ended, KindsDiffer, Lost, NoMemory, OtherVersion, Refused, SceneError
+from scene.errors import StoreError, Untold
+from scene.shell import Scene
+from scene.values import Cell, Entity, Given, Row, Value
+from scene.version import __version__
+
+__license__ = "MIT"
+__all__ = [
+    "BadLine",
+    "Calls",
+    "Cell",
+    "Closed",
+    "Ended",
+    "Entity",
+    "Given",
+    "KindsDiffer",
+    "Lost",
+    "NoMemory",
+    "OtherVersion",
+    "Refused",
+    "Row",
+    "Scene",
+    "SceneError",
+    "StoreError",
+    "Untold",
+    "Value",
+    "__version__",
+    "open",
+]
+
+
+def open(  # pylint: disable=redefined-builtin
+    store: Union[str, Path, None] = None,
+    kinds: Optional[Mapping[str, str]] = None,
+    program: Union[str, Path, None] = None,
+    options: Sequence[str] = (),
+    library: Union[str, Path, None] = None,
+) -> Calls:
+    """Opens a scene, which `with` or `close` ends.
+
+    - `store`: the path of a file that has each change before its call returns, and goes on where it ended
+    - `kinds`: shapes by the names of kinds, as `{"Health": "Int"}`; those that aren't there are declared
+    - `program`: the program whose shell it is over; without it the one that SCENE_PROGRAM names, or `scene` on the path
+    - `options`: more words for the shell, as `["--depth", "100"]`
+    - `library`: the path of libscene.so, for a scene over that, which keeps nothing by itself: so with a store or
+      options it is a ValueError
+
+    Where none of the last three is given, nor a store, but SCENE_LIBRARY names a library, it is over that. What isn't
+    there is an OSError; `Scene` and `LibraryScene` say what else is raised.
+    """
+    if library is None and store is None and program is None and not options:
+        library = os.environ.get("SCENE_LIBRARY") or None
+    if library is None:
+        return Scene(store, kinds, program, options)
+    if store is not None or options:
+        raise ValueError("a store and options are the shell's: a library keeps nothing by itself")
+    # (a Python without ctypes has the shell)
+    from scene.library import LibraryScene  # pylint: disable=import-outside-toplevel
+
+    return LibraryScene(kinds, library)
