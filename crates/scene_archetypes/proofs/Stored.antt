@@ -1,6 +1,6 @@
 -- The tables of the code after one of them was made, grown or written.
-use Rattle.std.proofs.Common.{◌≡◌, ℕ, zero, suc, ◌<◌, Bool, true, false, cond, List, [], ◌∷◌, ◌++◌, length, refl, ap, subst, sym, ◌∙◌, arith, Option, Some, None, nat_eq, length-set}
-use Rattle.std.specs.Prelude.{slice_set, slice_index_or, option_map}
+use Rattle.std.proofs.Common.{◌≡◌, ◌≢◌, ℕ, zero, suc, ◌<◌, Bool, true, false, cond, List, [], ◌∷◌, ◌++◌, length, refl, ap, subst, sym, ◌∙◌, arith, Option, Some, None, nat_eq, length-set}
+use Rattle.std.specs.Prelude.{slice_set, slice_get, slice_index_or, option_map}
 use Rattle.std.specs.List.{position_from}
 use Rattle.std.specs.Ordering.{nat_cmp}
 use Rattle.std.specs.Cmp.{nat_cmp_total}
@@ -13,7 +13,7 @@ use Rattle.scene_kinds.proofs.Lists.{list_at_same, list_at_apart, with_list-with
 use Rattle.scene_kinds.proofs.Maps.{same_map}
 use Rattle.scene_table.specs.Table.{TableState}
 use Rattle.scene_table.specs.Tables.{Tables, rows_at, with_rows}
-use Rattle.scene_archetypes.specs.KindTables.{tables_of, IsFirstOf, StandsAt, NoneHas, AreApart}
+use Rattle.scene_archetypes.specs.KindTables.{tables_of, IsFirstOf, StandsAt, NoneHas, AreApart, masks_in}
 use Rattle.scene_kinds.proofs.Positions.{found, missed}
 
 -- ---- which rows are seen
@@ -65,6 +65,21 @@ none_found mask ts h = missed (λ (t : TableState). nat_eq t.mask mask) (NoneHas
 pub none_seen : (mask : ℕ) (ts : List TableState) → NoneHas mask ts → rows_at (tables_of ts) mask ≡ []
 none_seen mask [] h = refl
 none_seen mask (t ∷ ts) h = list_at_apart nat_cmp_total nat_cmp-IsAntisymmetric (tables_of ts) t.mask mask t.rows h.0 ∙ none_seen mask ts h.1
+
+-- ---- a place that was guessed
+
+none_there : (m mask : ℕ) (ts : List TableState) (i : ℕ) → NoneHas m ts → slice_get (masks_in ts) i ≡ Some mask → m ≢ mask
+none_there m mask [] i none e = absurd (cc e)
+none_there m mask (t ∷ ts) zero none e = λ s. none.0 (s ∙ sym (cc e))
+none_there m mask (t ∷ ts) (suc i) none e = none_there m mask ts i none.1 e
+
+-- where a kind set is listed, its table stands
+pub listed_there : (mask : ℕ) (ts : List TableState) (i : ℕ) → AreApart ts → slice_get (masks_in ts) i ≡ Some mask → StandsAt ts mask i
+listed_there mask [] i apart e = absurd (cc e)
+listed_there mask (t ∷ ts) zero apart e = record { within = omega arith; first = cc e }
+listed_there mask (t ∷ ts) (suc i) apart e =
+    let later = listed_there mask ts i apart.1 e in
+    record { within = omega (arith, later.within); first = (none_there t.mask mask ts i apart.0 e, later.first) }
 
 first_pushed : (mask : ℕ) (ts : List TableState) (new : TableState) → NoneHas mask ts → new.mask ≡ mask → IsFirstOf (ts ++ new ∷ []) mask (length ts)
 first_pushed mask [] new h e = e

@@ -1,6 +1,5 @@
 //! The tables of a world by kind set.
-ghost use Rattle.std.specs.Prelude.{◌≡◌, ◌<◌, ◌≤◌, ◌^◌, ◌++◌, ◌∷◌, [], ℕ, All, length, Some, OnOk, OnErr, IfOk, IfSome, IfNone, IsOk, IsSome, slice_get, true, false, nat_eq, vec_capacity, map as each};
-ghost use Rattle.std.specs.List.{position_from};
+ghost use Rattle.std.specs.Prelude.{◌≡◌, ◌<◌, ◌≤◌, ◌^◌, ◌++◌, ◌∷◌, [], ℕ, All, length, Some, OnOk, OnErr, IfOk, IfSome, IfNone, IsOk, IsSome, slice_get, true, false, vec_capacity, map as each};
 ghost use Rattle.std.specs.Option.{option_map};
 ghost use Rattle.scene_kinds.specs.Cells.{HasKinds, mask_of, shown};
 ghost use Rattle.scene_kinds.specs.KindSet.{has_kind, set_with, set_without};
@@ -15,6 +14,7 @@ ghost use Rattle.scene_table.specs.Tables.{Tables, rows_at, row_at, row_for, wit
 ghost use Rattle.scene_archetypes.specs.KindTables.{TablesState, AreListed, AreMoved, AreSound, HoldRows, NoneHas, StandsAt, IsKnown, HasRoomFor, IsWider, IsWithin, entity_at, tables_of, rooms_of};
 
 use crate::clones::clone_tables;
+use crate::guesses::Guesses;
 use crate::kind_sets::{kind_sets_of, tables_by_kind_set};
 use crate::places::{Moved, drop_row, entity_in, move_with, move_without, put_row};
 use indexmap::IndexSet;
@@ -32,6 +32,7 @@ use std::mem;
 pub(crate) struct KindTables {
     alloc: Global,
     kind_sets: IndexSet<KindSet>,
+    guesses: Guesses,
     tables: Vec<Table>,
 }
 
@@ -51,37 +52,48 @@ impl Model for KindTables {
     ghost invariant = { λ t. AreSound t.kind_sets.keys t.tables.items };
 }
 
-/// So many kind sets are walked sooner than one of them is hashed.
-const FEW: usize = 8;
-
-/// The place of a kind set in a list.
-fn place_in(kind_sets: &[KindSet], mask: KindSet) -> Option<usize>
-    ensures { result ≡ position_from (nat_eq mask) 0 kind_sets.now }
-{
-    kind_sets.iter().position(|known| mask == *known)
-}
-
-/// The index of the table of a kind set. Among few it costs a walk, among more a hash.
-fn find_table(kind_sets: &IndexSet<KindSet>, tables: &[Table], mask: KindSet) -> Option<usize>
+/// The index of the table of a kind set, by a hash.
+#[cold]
+#[inline(never)]
+fn hashed_table(kind_sets: &IndexSet<KindSet>, tables: &[Table], mask: KindSet) -> Option<usize>
     requires { AreListed kind_sets.now.keys tables.now }
     ensures some { IfSome result (StandsAt tables.now mask) }
     ensures none { IfNone result (NoneHas mask tables.now) }
 {
     prove!(tables.len() >= 0);
-    if kind_sets.len() <= FEW {
-        place_in(kind_sets.as_slice(), mask)
-    } else {
-        kind_sets.get_index_of(&mask)
+    kind_sets.get_index_of(&mask)
+}
+
+/// The index of the table of a kind set. It mostly costs a guess, else a hash.
+#[inline(always)]
+fn find_table(
+    kind_sets: &IndexSet<KindSet>,
+    guesses: &Guesses,
+    tables: &[Table],
+    mask: KindSet,
+) -> Option<usize>
+    requires { AreListed kind_sets.now.keys tables.now }
+    ensures some { IfSome result (StandsAt tables.now mask) }
+    ensures none { IfNone result (NoneHas mask tables.now) }
+{
+    match guesses.place_in(kind_sets.as_slice(), mask) {
+        Some(at) => Some(at),
+        None => hashed_table(kind_sets, tables, mask),
     }
 }
 
 /// The index of the table of a kind set that has one.
-fn known_table(kind_sets: &IndexSet<KindSet>, tables: &[Table], mask: KindSet) -> usize
+fn known_table(
+    kind_sets: &IndexSet<KindSet>,
+    guesses: &Guesses,
+    tables: &[Table],
+    mask: KindSet,
+) -> usize
     requires listed { AreListed kind_sets.now.keys tables.now }
     requires known { IsKnown (rooms_of tables.now) mask }
     ensures { StandsAt tables.now mask result }
 {
-    match find_table(kind_sets, tables, mask) {
+    match find_table(kind_sets, guesses, tables, mask) {
         Some(at) => at,
         None => unreachable!(),
     }
@@ -115,6 +127,7 @@ impl KindTables {
         KindTables {
             alloc,
             kind_sets: IndexSet::new(alloc),
+            guesses: Guesses::new(),
             tables: Vec::new(alloc),
         }
     }
@@ -126,9 +139,12 @@ impl KindTables {
         ensures there { IsKnown self.old.rooms mask → IsOk result }
         ensures wide { IsWider self.old.rooms self.new.rooms }
     {
-        match find_table(&self.kind_sets, self.tables.as_slice(), mask) {
+        match find_table(&self.kind_sets, &self.guesses, self.tables.as_slice(), mask) {
             Some(_) => Ok(()),
-            None => add_table(self.alloc, &mut self.kind_sets, &mut self.tables, mask),
+            None => {
+                self.guesses.note(mask, self.tables.len());
+                add_table(self.alloc, &mut self.kind_sets, &mut self.tables, mask)
+            }
         }
     }
 
@@ -141,7 +157,7 @@ impl KindTables {
         ensures wide { IsWider self.old.rooms self.new.rooms }
     {
         self.make_table(mask)?;
-        let at = known_table(&self.kind_sets, self.tables.as_slice(), mask);
+        let at = known_table(&self.kind_sets, &self.guesses, self.tables.as_slice(), mask);
         self.tables[at].reserve(1)
     }
 
@@ -163,7 +179,7 @@ impl KindTables {
         ensures tables { self.new.tables ≡ with_rows self.old.tables mask (put_back (rows_at self.old.tables mask) place (row_for entity cells.entry)) }
         ensures rooms { self.new.rooms ≡ self.old.rooms }
     {
-        let at = known_table(&self.kind_sets, self.tables.as_slice(), mask);
+        let at = known_table(&self.kind_sets, &self.guesses, self.tables.as_slice(), mask);
         put_row(&mut self.tables[at], place, entity, cells)
     }
 
@@ -175,7 +191,12 @@ impl KindTables {
         ensures tables { self.new.tables ≡ without_row self.old.tables home }
         ensures rooms { self.new.rooms ≡ self.old.rooms }
     {
-        let at = known_table(&self.kind_sets, self.tables.as_slice(), home.mask);
+        let at = known_table(
+            &self.kind_sets,
+            &self.guesses,
+            self.tables.as_slice(),
+            home.mask,
+        );
         drop_row(&mut self.tables[at], home.place)
     }
 
@@ -188,7 +209,12 @@ impl KindTables {
             (rows_with_cell (rows_at self.old.tables home.mask) home.place kind cell) }
         ensures rooms { self.new.rooms ≡ self.old.rooms }
     {
-        let at = known_table(&self.kind_sets, self.tables.as_slice(), home.mask);
+        let at = known_table(
+            &self.kind_sets,
+            &self.guesses,
+            self.tables.as_slice(),
+            home.mask,
+        );
         self.tables[at].set_cell(home.place, kind, cell)
     }
 
@@ -206,9 +232,15 @@ impl KindTables {
             (put_back (rows_at self.old.tables (set_with home.mask kind)) place (row_with_cell row kind cell)) }
         ensures rooms { self.new.rooms ≡ self.old.rooms }
     {
-        let from = known_table(&self.kind_sets, self.tables.as_slice(), home.mask);
+        let from = known_table(
+            &self.kind_sets,
+            &self.guesses,
+            self.tables.as_slice(),
+            home.mask,
+        );
         let to = known_table(
             &self.kind_sets,
+            &self.guesses,
             self.tables.as_slice(),
             set_with(home.mask, kind),
         );
@@ -242,9 +274,15 @@ impl KindTables {
         ensures rooms { self.new.rooms ≡ self.old.rooms }
     {
         prove!(home.mask <= u64::MAX);
-        let from = known_table(&self.kind_sets, self.tables.as_slice(), home.mask);
+        let from = known_table(
+            &self.kind_sets,
+            &self.guesses,
+            self.tables.as_slice(),
+            home.mask,
+        );
         let to = known_table(
             &self.kind_sets,
+            &self.guesses,
             self.tables.as_slice(),
             set_without(home.mask, kind),
         );
@@ -272,7 +310,12 @@ impl KindTables {
             (rows_with_rows (rows_at self.old.tables run.now.mask) (rows_after run.now turns changed.now)) }
         ensures rooms { self.new.rooms ≡ self.old.rooms }
     {
-        let Some(at) = find_table(&self.kind_sets, self.tables.as_slice(), run.mask()) else {
+        let Some(at) = find_table(
+            &self.kind_sets,
+            &self.guesses,
+            self.tables.as_slice(),
+            run.mask(),
+        ) else {
             return;
         };
         self.tables[at].put_run(writer, run, turns, changed);
@@ -289,7 +332,7 @@ impl KindTables {
     pub(crate) fn len(&self, mask: KindSet) -> usize
         ensures { result ≡ length (rows_at self.now.tables mask) }
     {
-        match find_table(&self.kind_sets, self.tables.as_slice(), mask) {
+        match find_table(&self.kind_sets, &self.guesses, self.tables.as_slice(), mask) {
             Some(at) => self.tables[at].len(),
             None => 0,
         }
@@ -299,7 +342,12 @@ impl KindTables {
     pub(crate) fn entity_at(&self, home: Home) -> Option<Entity>
         ensures { result ≡ option_map (λ row. row.entity) (row_at self.now.tables home) }
     {
-        let at = find_table(&self.kind_sets, self.tables.as_slice(), home.mask)?;
+        let at = find_table(
+            &self.kind_sets,
+            &self.guesses,
+            self.tables.as_slice(),
+            home.mask,
+        )?;
         entity_in(self.tables[at].entities(), home.place)
     }
 
@@ -308,7 +356,7 @@ impl KindTables {
         ensures rows { option_map (λ table. table.now.rows) result ≡ option_map whole (map.get self.now.tables mask) }
         ensures mask { IfSome result (λ table. table.now.mask ≡ mask) }
     {
-        let at = find_table(&self.kind_sets, self.tables.as_slice(), mask)?;
+        let at = find_table(&self.kind_sets, &self.guesses, self.tables.as_slice(), mask)?;
         let table = &self.tables[at];
         if table.is_empty() { None } else { Some(table) }
     }
@@ -319,7 +367,12 @@ impl KindTables {
         ensures rows { result.now.rows ≡ rows_at self.now.tables home.mask }
         ensures mask { result.now.mask ≡ home.mask }
     {
-        let at = known_table(&self.kind_sets, self.tables.as_slice(), home.mask);
+        let at = known_table(
+            &self.kind_sets,
+            &self.guesses,
+            self.tables.as_slice(),
+            home.mask,
+        );
         &self.tables[at]
     }
 
@@ -346,6 +399,7 @@ impl KindTables {
         Ok(KindTables {
             alloc: self.alloc,
             kind_sets: self.kind_sets.clone()?,
+            guesses: self.guesses,
             tables: clone_tables(self.alloc, self.tables.as_slice())?,
         })
     }

@@ -8,6 +8,7 @@
 
 mod archetypes;
 mod clones;
+mod guesses;
 mod kind_sets;
 mod kind_tables;
 mod places;
