@@ -90,7 +90,7 @@ impl Schema {
     {
         for kind in 0..self.len().min(KINDS_AT_ONCE) as u8 {
             match self.name_of(kind) {
-                Some(known) if may_be_same(known, name) && known == name => return Some(kind),
+                Some(known) if are_same(known, name) => return Some(kind),
                 _ => {}
             }
         }
@@ -98,6 +98,7 @@ impl Schema {
     }
 
     /// `number_of`, by the hash of the name.
+    #[inline(never)]
     fn hashed_number_of(&self, name: &str) -> Option<u8>
         ensures { result ≡ number_of self.now name.now }
     {
@@ -160,17 +161,17 @@ impl Schema {
 /// So many kinds are looked at sooner than a name is hashed.
 const KINDS_AT_ONCE: usize = 8;
 
-/// The first byte of a name, or 0.
-fn first_byte(name: &str) -> u8 {
-    match name.as_bytes() {
-        [] => 0,
-        [first, ..] => *first,
+/// Whether two names are the same. A comparison of texts is a call, which most names don't need: they differ in length
+/// or in the first byte, or have no other byte.
+#[inline(always)]
+fn are_same(one: &str, other: &str) -> bool
+    ensures { IsTrue result → one.now ≡ other.now }
+{
+    match (one.as_bytes(), other.as_bytes()) {
+        ([first], [byte]) => *first == *byte,
+        ([first, ..], [byte, ..]) => { one.len() == other.len() && *first == *byte && one == other }
+        _ => false,
     }
-}
-
-/// Whether it is worth it to compare two names whole.
-fn may_be_same(one: &str, other: &str) -> bool {
-    one.len() == other.len() && first_byte(one) == first_byte(other)
 }
 
 /// Whether each byte may stand in a name after its first.
