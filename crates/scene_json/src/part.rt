@@ -1,8 +1,8 @@
 //! A value in a document.
-ghost use Rattle.std.specs.Prelude.{◌≡◌, ◌+◌, option_and_then, option_map, is_some, map as each};
+ghost use Rattle.std.specs.Prelude.{◌≡◌, ◌+◌, IfSome, Some, option_and_then, option_map, is_some, map as each};
 ghost use Rattle.std.specs.List.{list_any};
 ghost use Rattle.std.specs.Str.{bytes_eq};
-ghost use Rattle.serde_json.specs.Data.{no_members};
+ghost use Rattle.serde_json.specs.Data.{no_members, put};
 ghost use Rattle.serde_json.specs.Find.{as_array, as_bool, as_i64, as_null, as_number, as_object, as_str, as_u64, get};
 ghost use Rattle.scene_json.specs.Keys.{members_in, sooner, unknown_in};
 ghost use Rattle.scene_json.specs.Lists.{elements};
@@ -121,6 +121,22 @@ impl<'t, 'a> Part<'t, 'a> {
             }
         }
         found
+    }
+
+    /// The values of two keys, where the object has just these, the first one first, and no key twice. It costs a look at
+    /// the two keys. Where it gives nothing, it says nothing of the value.
+    pub fn pair(&self, first: &str, second: &str) -> Option<(Part<'t, 'a>, Part<'t, 'a>)>
+        ensures { IfSome result (λ values. as_object (view self.now)
+            ≡ Some (put second.now (view values.1) (put first.now (view values.0) no_members))) }
+    {
+        let mut members = self.members()?;
+        let (key, value) = members.next()?;
+        let (other, last) = members.next()?;
+        if members.next().is_none() && key == first && other == second {
+            Some((value, last))
+        } else {
+            None
+        }
     }
 
     /// The elements of a list.
