@@ -10,6 +10,7 @@ pub mod ValuesBack
 pub mod Ascending
 pub mod ReadValues
 pub mod KnownMembers
+pub mod TwoKeys
 pub mod ListsExact
 pub mod ValuesExact
 pub mod FitKinds

@@ -1,5 +1,6 @@
 -- What a walk says after one of its steps.
 use Rattle.std.proofs.Common.{◌≡◌, ℕ, true, false, is_some, List, Option, Some, None, option_map, Result, Ok, Err, IfOk, refl, sym, ap, ◌∙◌}
+use Rattle.std.specs.Result.{IsErrAnd}
 use Rattle.serde_json.specs.Data.{Data, Items, null, boolean, number, string, array, object}
 use Rattle.scene_json_forms.specs.declared.fault.FileFault.{FileFault}
 use Rattle.scene_json_forms.specs.declared.fault.FileFault.TheVariants as file
@@ -37,6 +38,12 @@ fault_stays (file.BadVersion version) x next h = after _ x next h
 fault_stays file.ReadFault x next h = h
 fault_stays file.WriteFault x next h = h
 fault_stays file.TooLong x next h = h
+
+-- a call that hands on a fault answers what has that fault
+pub handed_on : {X A : Type 0} (seen : X → A) (r : Result X FileFault) (x : Result A FileFault) (P : FileFault → Type 0) → IsErrAnd r P
+    → ((f : FileFault) → P f → IsTextFault f x) → ReadsAs seen r x
+handed_on seen (Ok item) x P h k = absurd h
+handed_on seen (Err f) x P h k = k f h
 
 -- what was read is what was expected
 pub read_is : {X A : Type 0} (seen : X → A) (r : Result X FileFault) (x : Result A FileFault) → ReadsAs seen r x → IfOk r (λ item. x ≡ Ok (seen item))

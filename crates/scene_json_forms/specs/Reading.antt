@@ -89,3 +89,10 @@ object_at known path d = field path (as_object d) >>= λ ms. if_known path (unkn
 -- the value of a key, which must be there
 abbrev pub key_of : {A : Type 0} → (List ℕ → Data → Result A FileFault) → List ℕ → List ℕ → Members → Result A FileFault
 key_of read path key ms = field (under path key) (get_member key ms) >>= λ d. read (under path key) d
+
+-- the values of the two keys that an object may have, both of which must be there
+abbrev pub two_keys : {A B : Type 0}
+    → (List ℕ → Data → Result A FileFault) → List ℕ → (List ℕ → Data → Result B FileFault) → List ℕ → List ℕ → Data → Result (A × B) FileFault
+two_keys first key second other path d =
+    object_at (key ∷ other ∷ []) path d
+    >>= λ ms. key_of first path key ms >>= λ a. key_of second path other ms >>= λ b. Ok (a, b)

@@ -21,7 +21,7 @@ mod write_values;
 
 pub use fault::{FileFault, FileResult};
 pub use form::{Form, ListOf, each_at, field, if_good, list_at};
-pub use object::{key_of, object_at};
+pub use object::{key_of, object_at, two_keys};
 pub use path::{Path, bad_field, unknown_key};
 pub use read_numbers::{IntForm, KindNumberForm, TickForm, U32Form, below};
 pub use read_texts::{EntityForm, NameForm, ShapeForm, string_at};

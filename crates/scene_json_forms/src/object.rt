@@ -1,10 +1,10 @@
 //! Objects and their members.
-ghost use Rattle.std.specs.Prelude.{map as each};
+ghost use Rattle.std.specs.Prelude.{◌≢◌, map as each};
 ghost use Rattle.scene_json.specs.View.{view};
 ghost use Rattle.scene_json_forms.specs.Members.{members_in};
 ghost use Rattle.scene_json_forms.specs.Outcome.{ReadsAs};
 ghost use Rattle.scene_json_forms.specs.Paths.{path_bytes};
-ghost use Rattle.scene_json_forms.specs.Reading.{key_of, object_at};
+ghost use Rattle.scene_json_forms.specs.Reading.{key_of, object_at, two_keys};
 
 use crate::fault::FileResult;
 use crate::form::Form;
@@ -56,4 +56,54 @@ pub fn key_of<F: Form>(
         Some(value) => form.read(alloc, &at, &value),
         None => Err(bad_field(alloc, &at)),
     }
+}
+
+/// What two keys of an object say, whatever their order.
+#[tactic(auto, using(crate::proofs::Walking::walking))]
+fn keys_in_any_order<F: Form, G: Form>(
+    alloc: Global,
+    path: &Path<'_>,
+    object: &Part<'_, '_>,
+    first: &F,
+    key: &str,
+    second: &G,
+    other: &str,
+) -> FileResult<(F::Item, G::Item)>
+where
+    F::Item: Drop,
+    ensures { ReadsAs (λ both. (F.meant both.0, G.meant both.1)) result
+        (two_keys (F.word first.now) key.now (G.word second.now) other.now (path_bytes path.now) (view object.now)) }
+{
+    object_at(alloc, path, object, &[key, other])?;
+    let a = key_of(alloc, first, path, object, key)?;
+    let b = key_of(alloc, second, path, object, other)?;
+    Ok((a, b))
+}
+
+/// What the two keys say that an object has, each value read as a form. Where they stand in this order, as in a saved text,
+/// it costs a look at them, and the reading; else a walk over the keys for each of them besides.
+///
+/// Refused, in this order: as by `object_at` of the two keys, as by `key_of` of the first, as by `key_of` of the other.
+#[tactic(auto, using(crate::proofs::Walking::walking))]
+pub fn two_keys<F: Form, G: Form>(
+    alloc: Global,
+    path: &Path<'_>,
+    object: &Part<'_, '_>,
+    first: &F,
+    key: &str,
+    second: &G,
+    other: &str,
+) -> FileResult<(F::Item, G::Item)>
+where
+    F::Item: Drop,
+    requires { key.now ≢ other.now }
+    ensures { ReadsAs (λ both. (F.meant both.0, G.meant both.1)) result
+        (two_keys (F.word first.now) key.now (G.word second.now) other.now (path_bytes path.now) (view object.now)) }
+{
+    let Some((value, last)) = object.pair(key, other) else {
+        return keys_in_any_order(alloc, path, object, first, key, second, other);
+    };
+    let a = first.read(alloc, &Path::Key(&*path, &*key), &value)?;
+    let b = second.read(alloc, &Path::Key(&*path, &*other), &last)?;
+    Ok((a, b))
 }
