@@ -6,6 +6,7 @@
  *     swing      a frame of one spawn is undone and redone so often
  *     get        reads of an Int, over a thousand entities
  *     insert10   writes of one, over a thousand entities, in frames of ten
+ *     column     the Ints of a thousand entities, as one column
  */
 #define _POSIX_C_SOURCE 200809L
 #include "scene.h"
@@ -51,6 +52,14 @@ static bool insert(scene **s, uint32_t number)
     return scene_insert(s, entity_of(number), life(number)) == SCENE_DONE;
 }
 
+static bool column(scene **s, uint32_t number)
+{
+    static int64_t lives[ENTITIES];
+    size_t total;
+    return scene_ints(s, 1, LIFE, 0, lives, ENTITIES, &total) == SCENE_DONE && total == ENTITIES
+        && lives[number % ENTITIES] >= 0;
+}
+
 static bool swing(scene **s, uint32_t number)
 {
     (void)number;
@@ -65,7 +74,7 @@ static const struct work {
 } works[] = {
     {"spawn", spawn, 0, 0},         {"spawn10", spawn, IN_A_FRAME, 0},
     {"swing", swing, 0, 1},         {"get", get, 0, ENTITIES},
-    {"insert10", insert, IN_A_FRAME, ENTITIES},
+    {"insert10", insert, IN_A_FRAME, ENTITIES}, {"column", column, 0, ENTITIES},
 };
 
 /* Calls so often, in frames where `in_a_frame` isn't 0. */

@@ -29,7 +29,8 @@ ours, beside, count, runs = sys.argv[1], sys.argv[2], int(sys.argv[3]), int(sys.
 
 # each work: its name, what it is, and how many calls there are of it each time; and those that the other program has
 WORKS = [("spawn", "frame of one spawn", 1), ("spawn10", "spawn in a frame of ten", 1), ("swing", "undo and redo", 2),
-         ("get", "read of a component", 1), ("insert10", "write in a frame of ten", 1)]
+         ("get", "read of a component", 1), ("insert10", "write in a frame of ten", 1),
+         ("column", "column of a thousand Ints", 1)]
 SHARED = ("spawn", "swing")
 
 def once(words):

@@ -183,8 +183,8 @@ scene_code scene_remove(scene **s, scene_entity entity, uint32_t kind);
 scene_code scene_set_parent(scene **s, scene_entity child, scene_entity parent);
 scene_code scene_remove_parent(scene **s, scene_entity child);
 
-/* ---- reading: scene_spawned, scene_named and scene_refused tell of the last call that was answered, not of one that
- * was SCENE_BAD for its arguments, gave a component to a spawn, dropped a frame, or found no memory */
+/* ---- the last answer: scene_spawned, scene_named and scene_refused tell of the last call that was answered, not of
+ * one that was SCENE_BAD for its arguments, gave a component to a spawn, dropped a frame, or found no memory */
 
 /* Reads a component: into *out, and a text as the text of the answer. SCENE_REFUSED where there is none, and *out is
  * as it was: the entity isn't alive, there is no such kind, or it hasn't this component; SCENE_BAD for a kind of 256
@@ -205,6 +205,84 @@ scene_code scene_named(scene **s, size_t at, scene_name *out);
 /* Why the last call was refused; SCENE_BAD, and *out is as it was, where it wasn't, or where a scene text has the
  * fault, which the text of the answer tells. */
 scene_code scene_refused(scene **s, scene_refusal *out);
+
+/* ---- reading a scene as it is: these calls change nothing, neither the scene nor the last answer, and need no memory
+ * but for scene_tables. In the setup there is nothing to read but kinds: SCENE_BAD, and nowhere else but where it is
+ * said. On any other code than SCENE_DONE what would be written stays as it was. scene_refused tells nothing of them.
+ *
+ * A list is told from the item `from` on: as many items as there are, and as fit into `room`, go to `at`, in their
+ * order, and *total is how many there are in all. `at` isn't NULL, not even where `room` is 0. So a list of unknown
+ * length is asked for with room 0, and then again. Lists of rows stay as they are while nothing but reads is called. */
+
+/* The numbers of a scene. */
+typedef struct {
+    uint64_t tick;     /* how many frames there were, as the last one's number */
+    uint64_t rewinds;  /* how many undos there were; with the tick it tells whether something was done or undone */
+    uint64_t undo;     /* how many frames can be undone, */
+    uint64_t redo;     /* and how many redone */
+    uint32_t slots;    /* how many indices were used, */
+    uint32_t limit;    /* and how many can be */
+    uint32_t kinds;    /* how many kinds there are */
+    uint32_t depth;    /* of how many frames a record is kept */
+    uint32_t in_frame; /* 1 where a frame is open, else 0 */
+} scene_info;
+
+/* A kind set that some entities have, and how many: kind k is bit k, so scene_with of the kinds 0 and 2 gives 5. */
+typedef struct {
+    uint64_t mask;
+    uint64_t rows;
+} scene_table;
+
+/* A vector, and the ticks at which a component was added and last changed. */
+typedef struct {
+    int64_t x, y, z;
+} scene_vec3;
+
+typedef struct {
+    uint64_t added, changed;
+} scene_tick_pair;
+
+scene_code scene_status(scene **s, scene_info *out);
+
+/* 1 where an entity is alive, else 0. */
+scene_code scene_is_alive(scene **s, scene_entity entity, uint32_t *out);
+
+/* The kind set of an entity. SCENE_REFUSED where it isn't alive. */
+scene_code scene_mask(scene **s, scene_entity entity, uint64_t *out);
+
+/* The parent of an entity, and SCENE_NONE where it has none, as where it isn't alive; and its children, in their
+ * order. */
+scene_code scene_parent(scene **s, scene_entity entity, scene_entity *out);
+scene_code scene_children(scene **s, scene_entity entity, size_t from, scene_entity *at, size_t room, size_t *total);
+
+/* The tables: the kind sets that some entities have, of those that have all kinds of `need` and none of `without`,
+ * ascending. SCENE_NO_MEMORY where none was found for the list. */
+scene_code scene_tables(scene **s, uint64_t need, uint64_t without, size_t from, scene_table *at, size_t room,
+                        size_t *total);
+
+/* The entities that have just these kinds; and, in the same order, their components of a kind: so the items of one
+ * place are a row. SCENE_BAD where the kind isn't of the shape, or not in the set. */
+scene_code scene_rows(scene **s, uint64_t mask, size_t from, scene_entity *at, size_t room, size_t *total);
+scene_code scene_ints(scene **s, uint64_t mask, uint32_t kind, size_t from, int64_t *at, size_t room, size_t *total);
+scene_code scene_vec3s(scene **s, uint64_t mask, uint32_t kind, size_t from, scene_vec3 *at, size_t room,
+                       size_t *total);
+scene_code scene_links(scene **s, uint64_t mask, uint32_t kind, size_t from, scene_entity *at, size_t room,
+                       size_t *total);
+
+/* The ticks at which these components were added, for `which` 0, or last changed, for 1. */
+scene_code scene_ticks(scene **s, uint64_t mask, uint32_t kind, uint32_t which, size_t from, uint64_t *at, size_t room,
+                       size_t *total);
+
+/* The shape of a kind, and its name, ASCII of 1 to 32 bytes; and a kind by its name, UTF-8. SCENE_BAD where there is no
+ * such kind. In the setup they tell the kinds so far. */
+scene_code scene_kind(scene **s, uint32_t kind, uint32_t *shape, size_t from, uint8_t *at, size_t room, size_t *total);
+scene_code scene_kind_named(scene **s, const uint8_t *name, size_t len, uint32_t *out);
+
+/* A component, as scene_get reads it but for a text, which scene_read_text tells. SCENE_REFUSED where there is none, as
+ * where the entity isn't alive, or for scene_read_text no text; SCENE_BAD for a kind of 256 or more. */
+scene_code scene_read(scene **s, scene_entity entity, uint32_t kind, scene_cell *out, scene_tick_pair *ticks);
+scene_code scene_read_text(scene **s, scene_entity entity, uint32_t kind, size_t from, uint8_t *at, size_t room,
+                           size_t *total);
 
 #ifdef __cplusplus
 }

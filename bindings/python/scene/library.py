@@ -13,7 +13,7 @@ import json
 import os
 import threading
 from contextlib import suppress
-from ctypes import POINTER, byref, c_char_p, c_int64, c_size_t, c_uint32, c_void_p
+from ctypes import POINTER, byref, c_char_p, c_int64, c_size_t, c_uint32, c_uint64, c_void_p
 from pathlib import Path
 from typing import Any, Callable, Dict, List, Mapping, NamedTuple, Optional, Tuple, Union, overload
 
@@ -58,6 +58,25 @@ class RawRefusal(ctypes.Structure):
     _fields_ = [(name, c_uint32) for name in ("fault", "has_place", "phase", "queue", "command")]
 
 
+class RawTable(ctypes.Structure):
+    """`scene_table`."""
+
+    _fields_ = [("mask", c_uint64), ("rows", c_uint64)]
+
+
+class RawVec3(ctypes.Structure):
+    """`scene_vec3`."""
+
+    _fields_ = [(name, c_int64) for name in ("x", "y", "z")]
+
+
+class RawInfo(ctypes.Structure):
+    """`scene_info`."""
+
+    _fields_ = [(name, c_uint64) for name in ("tick", "rewinds", "undo", "redo")]
+    _fields_ += [(name, c_uint32) for name in ("slots", "limit", "kinds", "depth", "in_frame")]
+
+
 # An entity that is never alive: a command about it is refused.
 NOBODY = RawEntity(2**32 - 1, 2**32 - 1)
 
@@ -89,6 +108,15 @@ TAKES: Dict[str, List[Any]] = {
     "changed": [],
     "named": [c_size_t, POINTER(RawName)],
     "refused": [POINTER(RawRefusal)],
+    "status": [POINTER(RawInfo)],
+    "is_alive": [RawEntity, POINTER(c_uint32)],
+    "parent": [RawEntity, POINTER(RawEntity)],
+    "children": [RawEntity, c_size_t, POINTER(RawEntity), c_size_t, POINTER(c_size_t)],
+    "tables": [c_uint64, c_uint64, c_size_t, POINTER(RawTable), c_size_t, POINTER(c_size_t)],
+    "rows": [c_uint64, c_size_t, POINTER(RawEntity), c_size_t, POINTER(c_size_t)],
+    "ints": [c_uint64, c_uint32, c_size_t, POINTER(c_int64), c_size_t, POINTER(c_size_t)],
+    "vec3s": [c_uint64, c_uint32, c_size_t, POINTER(RawVec3), c_size_t, POINTER(c_size_t)],
+    "links": [c_uint64, c_uint32, c_size_t, POINTER(RawEntity), c_size_t, POINTER(c_size_t)],
 }
 
 
@@ -178,6 +206,16 @@ class Library:
         self._library.scene_fault_name(number, room, len(room))
         return room.raw.decode()
 
+    def listed(self, name: str, item: Any, *arguments: Any) -> Tuple[int, Any]:
+        """The code of a call that lists, and a ctypes array of these items, which is a buffer."""
+        with self.lock:
+            total, one = c_size_t(0), item()
+            code = self.call(name, *arguments, 0, byref(one), 0, byref(total))
+            items = (item * total.value)()
+            if code == DONE and total.value:
+                code = self.call(name, *arguments, 0, items, len(items), byref(total))
+            return code, items
+
     @property
     def version(self) -> Tuple[int, int, int]:
         """The version of the library."""
@@ -221,6 +259,14 @@ def shown(entity: RawEntity) -> Entity:
     return Entity(f"{entity.index}v{entity.generation}")
 
 
+# The call that lists a column of a shape, and its items.
+COLUMNS: Dict[Optional[str], Tuple[str, Any]] = {
+    "Int": ("ints", c_int64),
+    "Vec3": ("vec3s", RawVec3),
+    "Link": ("links", RawEntity),
+}
+
+
 class LibraryScene(Calls):
     """A scene in this process, of the library at a path. `with` frees it.
 
@@ -245,6 +291,53 @@ class LibraryScene(Calls):
     def version(self) -> Tuple[int, int, int]:
         """The version of the library."""
         return self._scene.version
+
+    # ---- reading by columns, which changes nothing; in the setup there is nothing to read, a `BadLine`
+
+    def status(self) -> Dict[str, int]:
+        """The numbers of the scene, as `scene_status` of scene.h tells them."""
+        info = RawInfo()
+        self._came(self._scene.call("status", byref(info)), "status")
+        return {name: int(getattr(info, name)) for name, _ in RawInfo._fields_}
+
+    def is_alive(self, entity: str) -> bool:
+        """Whether an entity is alive."""
+        yes = c_uint32(0)
+        self._came(self._scene.call("is_alive", raw_target(entity), byref(yes)), "is_alive")
+        return bool(yes.value)
+
+    def parent_of(self, entity: str) -> Optional[Entity]:
+        """The parent of an entity, if it has one."""
+        found = RawEntity()
+        self._came(self._scene.call("parent", raw_target(entity), byref(found)), "parent")
+        return None if (found.index, found.generation) == (2**32 - 1, 2**32 - 1) else shown(found)
+
+    def children_of(self, entity: str) -> List[Entity]:
+        """The children of an entity, in their order."""
+        return [shown(child) for child in self._listed("children", RawEntity, raw_target(entity))]
+
+    def tables(self, *kinds: str) -> List[Tuple[int, int]]:
+        """The kind sets that have these kinds, ascending, each with the count of its entities."""
+        need = sum({1 << self._kinds[kind_named(kind)][0] for kind in kinds})
+        return [(int(table.mask), int(table.rows)) for table in self._listed("tables", RawTable, need, 0)]
+
+    def entities(self, mask: int) -> Any:
+        """The entities of a kind set: a ctypes array of pairs of 32 bits, index and generation."""
+        return self._listed("rows", RawEntity, mask)
+
+    def column(self, mask: int, kind: str) -> Any:
+        """The components of a kind in the rows of a kind set, in their order: a ctypes array, which is a buffer, of
+        integers, of three of them each, or of pairs of 32 bits for links."""
+        number, shape = self._kinds[kind_named(kind)]
+        if shape not in COLUMNS:
+            raise TypeError(f"the kind {kind} is no column of numbers")
+        name, item = COLUMNS[shape]
+        return self._listed(name, item, mask, number)
+
+    def _listed(self, name: str, item: Any, *arguments: Any) -> Any:
+        code, items = self._scene.listed(name, item, *arguments)
+        self._came(code, name)
+        return items
 
     # ---- lines
 

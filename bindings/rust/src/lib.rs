@@ -30,6 +30,7 @@
 //! The library is found by the variable `SCENE_LIB_DIR` when this crate is built: the folder that `./scene library
 //! FOLDER` made.
 
+mod columns;
 mod entity;
 mod error;
 mod frame;
@@ -39,6 +40,7 @@ mod rows;
 mod scene;
 mod value;
 
+pub use columns::Table;
 pub use entity::{Entity, New, NoEntity, Target};
 pub use error::{Error, Place, Refusal};
 pub use frame::Frame;

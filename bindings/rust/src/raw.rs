@@ -52,6 +52,23 @@ pub struct RawName {
     pub kind: u32,
 }
 
+/// `scene_table`.
+#[repr(C)]
+#[derive(Clone, Copy, Default)]
+pub struct RawTable {
+    pub mask: u64,
+    pub rows: u64,
+}
+
+/// `scene_vec3`.
+#[repr(C)]
+#[derive(Clone, Copy, Default)]
+pub struct RawVec3 {
+    pub x: i64,
+    pub y: i64,
+    pub z: i64,
+}
+
 /// `scene_refusal`.
 #[repr(C)]
 #[derive(Clone, Copy, Default)]
@@ -98,4 +115,42 @@ unsafe extern "C" {
     pub fn scene_changed(scene: Handle) -> u32;
     pub fn scene_named(scene: Handle, at: usize, out: *mut RawName) -> u32;
     pub fn scene_refused(scene: Handle, out: *mut RawRefusal) -> u32;
+    pub fn scene_parent(scene: Handle, entity: RawEntity, out: *mut RawEntity) -> u32;
+    pub fn scene_children(
+        scene: Handle,
+        entity: RawEntity,
+        from: usize,
+        at: *mut RawEntity,
+        room: usize,
+        total: *mut usize,
+    ) -> u32;
+    pub fn scene_tables(
+        scene: Handle,
+        need: u64,
+        without: u64,
+        from: usize,
+        at: *mut RawTable,
+        room: usize,
+        total: *mut usize,
+    ) -> u32;
+    pub fn scene_rows(scene: Handle, mask: u64, from: usize, at: *mut RawEntity, room: usize, total: *mut usize)
+    -> u32;
+    pub fn scene_ints(
+        scene: Handle,
+        mask: u64,
+        kind: u32,
+        from: usize,
+        at: *mut i64,
+        room: usize,
+        total: *mut usize,
+    ) -> u32;
+    pub fn scene_vec3s(
+        scene: Handle,
+        mask: u64,
+        kind: u32,
+        from: usize,
+        at: *mut RawVec3,
+        room: usize,
+        total: *mut usize,
+    ) -> u32;
 }

@@ -671,6 +671,11 @@ impl Scene {
         }
     }
 
+    /// Where the library's pointer is.
+    pub(crate) fn handle(&mut self) -> raw::Handle {
+        &mut self.at
+    }
+
     /// Why the last call was refused: by the text of the answer, where there is one, as it has the fault's fields too.
     fn refusal(&mut self) -> Error {
         if let Some(refusal) = Refusal::of_text(&self.text()) {

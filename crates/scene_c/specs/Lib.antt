@@ -4,3 +4,5 @@ pub mod Held
 pub mod Memory
 pub mod Names
 pub mod OpenScene
+pub mod Reads
+pub mod Shown

@@ -11,6 +11,6 @@ abbrev pub bytes_at : Ptr → ℕ → List ℕ → Fml
 bytes_at p zero bytes = feq (List ℕ) bytes []
 bytes_at p (suc n) bytes = fsep (flt (suc n) (2 ^ 63)) (lies_at (Array u8 (suc n)) full_share p bytes)
 
--- as much of a text as there is room for, and then the room as it was
-abbrev pub copied : List ℕ → List ℕ → List ℕ
-copied text room = take (length room) text ++ drop (length text) room
+-- as much of a list as there is room for, and then the room as it was
+abbrev pub copied : {A : Type 0} → List A → List A → List A
+copied items room = take (length room) items ++ drop (length items) room

@@ -14,23 +14,31 @@ pub struct Reading {
 }
 
 impl Reading {
+    /// The numbers of a value. It takes no memory.
+    pub(crate) fn numbers_of(value: &Value) -> Reading
+        ensures { result ≡ numbers_of value.now }
+    {
+        let numbers = match value {
+            Value::Tag | Value::Text(_) => [0, 0, 0],
+            Value::Int(number) => [*number, 0, 0],
+            Value::Vec3(numbers) => *numbers,
+            Value::Link(entity) => [entity.index as i64, entity.generation as i64, 0],
+        };
+        Reading {
+            shape: value.shape(),
+            numbers,
+        }
+    }
+
     /// The numbers of a value, and its text where it is one.
     pub(crate) fn of(alloc: Global, value: &Value) -> Result<(Reading, String), AllocError>
         ensures numbers { IfOk result (λ p. p.0 ≡ numbers_of value.now) }
         ensures text { IfOk result (λ p. string_bytes p.1 ≡ text_in value.now) }
     {
-        let shape = value.shape();
         let mut text = String::new(alloc);
-        let numbers = match value {
-            Value::Tag => [0, 0, 0],
-            Value::Int(number) => [*number, 0, 0],
-            Value::Vec3(numbers) => *numbers,
-            Value::Text(words) => {
-                text.push_str(words.as_str())?;
-                [0, 0, 0]
-            }
-            Value::Link(entity) => [entity.index as i64, entity.generation as i64, 0],
-        };
-        Ok((Reading { shape, numbers }, text))
+        if let Value::Text(words) = value {
+            text.push_str(words.as_str())?;
+        }
+        Ok((Reading::numbers_of(value), text))
     }
 }

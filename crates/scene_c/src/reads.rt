@@ -13,6 +13,7 @@ use scene_interpreter::{Halt, LineAnswer};
 use scene_kinds::{CellRef, Entity, Refusal};
 use scene_pass::CellName;
 use scene_session::Reply;
+use scene_world::World;
 use std::alloc::{AllocError, Global};
 
 impl OpenScene {
@@ -51,6 +52,15 @@ impl OpenScene {
                 Ok(None)
             }
         }
+    }
+
+    /// The world, which is lent. `None` only in the setup. It takes no memory.
+    pub fn world(&self) -> Option<&World>
+        ensures world { IfSome result (λ world. world.now.world ≡ world_of self.now) }
+        ensures setup { IfNone result (IsSetting (interpreter_of self.now.interpreter)) }
+    {
+        let editor = self.interpreter.editor()?;
+        Some(editor.world())
     }
 
     /// A component of an entity, which is lent, or why there is none: `NoSuchEntity`, `NoSuchKind` or `NotPresent`, in

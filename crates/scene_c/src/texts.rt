@@ -1,11 +1,22 @@
 //! Texts that go to C.
-ghost use Rattle.std.specs.Prelude.{◌≡◌, length};
+ghost use Rattle.std.specs.Prelude.{◌≡◌, drop, length};
 ghost use Rattle.scene_c.specs.Calls.{text_now};
 ghost use Rattle.scene_c.specs.Memory.{copied};
 
 use crate::handle::{Handle, into_open_scene};
 use std::alloc::Global;
 use std::mem;
+
+/// Copies bytes from a place on: as many as there is room for. The rest of the room stays as it was.
+pub(crate) fn copy_bytes(bytes: &[u8], from: usize, room: &mut [u8])
+    ensures { room.new ≡ copied (drop from bytes.now) room.old }
+{
+    let Some(rest) = bytes.get(from..) else {
+        return;
+    };
+    let count = rest.len().min(room.len());
+    room[..count].copy_from_slice(&rest[..count]);
+}
 
 /// How long a text is, and as much of it as there is room for.
 pub(crate) fn copy_to(text: &str, room: &mut [u8]) -> usize

@@ -126,7 +126,7 @@ pub(crate) fn shown_cell(kind: u8, reading: Reading) -> SceneCell
 }
 
 /// The number of a shape.
-fn shape_number(shape: Shape) -> u32
+pub(crate) fn shape_number(shape: Shape) -> u32
     ensures { result ≡ shape_number shape }
 {
     match shape {

@@ -1,0 +1,169 @@
+-- What the calls of C read of a scene that stays as it is.
+use Rattle.std.specs.Prelude.{◌≡◌, ◌⊎◌, ℕ, Bool, false, if◌then◌else◌, List, [], Option, Some, None, Result, Ok, Err, filter, drop, length, map, nat_eq, unwrap_or}
+use Rattle.std.specs.Option.{option_and_then, option_map}
+use Rattle.scene_kinds.specs.declared.cell.Cell.{Cell}
+use Rattle.scene_kinds.specs.declared.cells.Row.{Row}
+use Rattle.scene_kinds.specs.declared.entity.Entity.{Entity}
+use Rattle.scene_kinds.specs.declared.refusal.Refusal.{Refusal}
+use Rattle.scene_kinds.specs.declared.shape.Shape.{Shape}
+use Rattle.scene_kinds.specs.declared.value.Value.{Value}
+use Rattle.scene_kinds.specs.declared.value.Value.TheVariants.{Tag}
+use Rattle.scene_kinds.specs.KindSet.{KindSet, has_kind}
+use Rattle.scene_kinds.specs.Schema.{Kinds, number_of, shape_of}
+use Rattle.scene_kinds.specs.Shape.{same_shape}
+use Rattle.scene_model.specs.World.{World, component_of, kind_sets, rows_of}
+use Rattle.scene_session.specs.Owner.{whole_at}
+use Rattle.scene_session.specs.Whole.{Whole}
+use Rattle.scene_systems.specs.declared.filter.Filter.{Filter}
+use Rattle.scene_systems.specs.Filter.{is_match}
+use Rattle.scene_table.specs.Tables.{rows_at}
+use Rattle.scene_table.specs.Table.{cells_of_kind}
+use Rattle.scene_interpreter.specs.Interpreter.{IsSetting, interpreter_kinds, interpreter_of, owner_of}
+use Rattle.scene_c.specs.Arguments.{shape_number, shown_cell, text_of}
+use Rattle.scene_c.specs.Memory.{copied}
+use Rattle.scene_c.specs.OpenScene.{numbers_of, world_of}
+use Rattle.scene_c.specs.Shown.{text_value}
+use Rattle.scene_c.specs.declared.open_scene.OpenScene.{OpenScene}
+use Rattle.scene_c.specs.declared.shown.SceneTable.{SceneTable}
+use Rattle.scene_c.specs.declared.shown.SceneTicks.{SceneTicks}
+use Rattle.scene_c.specs.declared.value.SceneCell.{SceneCell}
+
+-- the machine with its records
+abbrev pub whole_now : OpenScene → Whole
+whole_now d = whole_at (owner_of (interpreter_of d.interpreter))
+
+-- the kinds, also in the setup
+abbrev pub kinds_now : OpenScene → Kinds
+kinds_now d = interpreter_kinds (interpreter_of d.interpreter)
+
+-- ---- answers
+
+-- what is told; or, only in the setup, nothing is, and what was to be filled stays
+abbrev pub Tells : (kept : Type 0) → (ℕ → Type 0) → OpenScene → ℕ → Type 0
+Tells kept told d code = told code ⊎ ((code ≡ 4) × (kept × IsSetting (interpreter_of d.interpreter)))
+
+-- the same of the scene that a handle holds; of null nothing is told
+abbrev pub TellsOf : (kept : Type 0) → (OpenScene → ℕ → Type 0) → Option OpenScene → ℕ → Type 0
+TellsOf kept told None code = (code ≡ 2) × kept
+TellsOf kept told (Some d) code = Tells kept (told d) d code
+
+-- what is told in the setup too
+abbrev pub TellsAlways : (kept : Type 0) → (OpenScene → ℕ → Type 0) → Option OpenScene → ℕ → Type 0
+TellsAlways kept told None code = (code ≡ 2) × kept
+TellsAlways kept told (Some d) code = told d code
+
+-- a value is told
+abbrev pub IsTold : {A : Type 0} → A → A → ℕ → Type 0
+IsTold value new code = (code ≡ 0) × (new ≡ value)
+
+-- a list is told from a place on, as far as there is room, and how long it is
+abbrev pub Lists : {A : Type 0} → List A → ℕ → (old new : List A) → (total : ℕ) → ℕ → Type 0
+Lists items from old new total code = (code ≡ 0) × ((total ≡ length items) × (new ≡ copied (drop from items) old))
+
+-- a list, where there is one; else nothing is told
+abbrev pub ListsIf : {A : Type 0} → (kept : Type 0) → Option (List A) → ℕ → (old new : List A) → (total : ℕ) → ℕ → Type 0
+ListsIf kept None from old new total code = (code ≡ 4) × kept
+ListsIf kept (Some items) from old new total code = Lists items from old new total code
+
+-- ---- entities
+
+-- the kind set of an entity that is alive, and else that it isn't
+abbrev pub TellsMask : Option KindSet → (old new : ℕ) → ℕ → Type 0
+TellsMask None old new code = (code ≡ 3) × (new ≡ old)
+TellsMask (Some mask) old new code = IsTold mask new code
+
+-- ---- rows
+
+-- the rows of a kind set
+abbrev pub rows_in : World → KindSet → List Row
+rows_in w mask = unwrap_or (rows_of w mask) []
+
+-- their entities
+abbrev pub entities_in : World → KindSet → List Entity
+entities_in w mask = map (λ row. row.entity) (rows_in w mask)
+
+-- the kind sets that a filter matches and that have rows, ascending, each with the count of its rows
+abbrev pub tables_in : World → Filter → List SceneTable
+tables_in w f = map (λ mask. record { mask = mask; rows = length (rows_at w.tables mask) }) (filter (is_match f) (kind_sets w))
+
+-- they are listed, or no memory was found
+abbrev pub TellsTables : List SceneTable → ℕ → (old new : List SceneTable) → (old_total total : ℕ) → ℕ → Type 0
+TellsTables tables from old new old_total total code = Lists tables from old new total code ⊎ ((code ≡ 1) × ((new ≡ old) × (total ≡ old_total)))
+
+-- the cells of a kind in the rows of a kind set that has it, row by row
+abbrev pub column_in : World → KindSet → Option ℕ → Option (List (Option Cell))
+column_in w mask None = None
+column_in w mask (Some kind) = if has_kind mask kind then Some (cells_of_kind (rows_in w mask) kind) else None
+
+-- whether a kind that there is has a shape
+abbrev pub is_of_shape : Shape → Option Shape → Bool
+is_of_shape shape None = false
+is_of_shape shape (Some other) = same_shape other shape
+
+-- the value of a cell
+abbrev pub value_told : Option Cell → Value
+value_told None = Tag
+value_told (Some cell) = cell.value
+
+-- the values of a kind of a shape
+abbrev pub values_in : World → KindSet → Option ℕ → Shape → Option (List Value)
+values_in w mask kind shape = if is_of_shape shape (option_and_then (shape_of w.schema) kind) then option_map (map value_told) (column_in w mask kind) else None
+
+-- the tick of a cell
+abbrev pub tick_told : (Cell → ℕ) → Option Cell → ℕ
+tick_told tick None = 0
+tick_told tick (Some cell) = tick cell
+
+-- the ticks of cells: for 0 those at which they were added, for 1 those at which they were last changed
+abbrev pub ticks_told : ℕ → List (Option Cell) → Option (List ℕ)
+ticks_told which cells = if nat_eq which 0 then Some (map (tick_told (λ cell. cell.added)) cells)
+    else if nat_eq which 1 then Some (map (tick_told (λ cell. cell.changed)) cells) else None
+
+-- the ticks of a kind
+abbrev pub ticks_in : World → KindSet → Option ℕ → ℕ → Option (List ℕ)
+ticks_in w mask kind which = option_and_then (ticks_told which) (column_in w mask kind)
+
+-- ---- kinds
+
+-- a kind by its name
+abbrev pub kind_named : Kinds → List ℕ → Option ℕ
+kind_named kinds name = option_and_then (number_of kinds) (text_of name)
+
+-- the name and the shape of a kind that there is
+abbrev pub TellsKind : Option (List ℕ × Shape) → (old_shape new_shape from : ℕ) → (old new : List ℕ) → (old_total total : ℕ) → ℕ → Type 0
+TellsKind None old_shape new_shape from old new old_total total code = (code ≡ 4) × ((new_shape ≡ old_shape) × ((new ≡ old) × (total ≡ old_total)))
+TellsKind (Some kind) old_shape new_shape from old new old_total total code = (new_shape ≡ shape_number kind.1) × Lists kind.0 from old new total code
+
+-- the number of a kind, where there is one
+abbrev pub TellsNumber : Option ℕ → (old new : ℕ) → ℕ → Type 0
+TellsNumber None old new code = (code ≡ 4) × (new ≡ old)
+TellsNumber (Some kind) old new code = IsTold kind new code
+
+-- ---- components
+
+-- a component that there is, with its ticks
+abbrev pub TellsCell : ℕ → Result Cell Refusal → (old new : SceneCell) → (old_ticks new_ticks : SceneTicks) → ℕ → Type 0
+TellsCell kind (Err r) old new old_ticks new_ticks code = (code ≡ 3) × ((new ≡ old) × (new_ticks ≡ old_ticks))
+TellsCell kind (Ok cell) old new old_ticks new_ticks code =
+    (code ≡ 0) × ((new ≡ shown_cell kind (numbers_of cell.value)) × (new_ticks ≡ record { added = cell.added; changed = cell.changed }))
+
+-- the text that a component is
+abbrev pub text_at : Result Cell Refusal → Option (List ℕ)
+text_at (Err r) = None
+text_at (Ok cell) = text_value cell.value
+
+-- it is told from a place on, or there is none
+abbrev pub TellsText : Option (List ℕ) → ℕ → (old new : List ℕ) → (old_total total : ℕ) → ℕ → Type 0
+TellsText None from old new old_total total code = (code ≡ 3) × ((new ≡ old) × (total ≡ old_total))
+TellsText (Some text) from old new old_total total code = Lists text from old new total code
+
+-- of the scene that a handle holds; no component has a kind of more than 8 bits
+abbrev pub TellsCellOf : Option ℕ → Entity → Option OpenScene → (old new : SceneCell) → (old_ticks new_ticks : SceneTicks) → ℕ → Type 0
+TellsCellOf None e d old new old_ticks new_ticks code = (code ≡ 4) × ((new ≡ old) × (new_ticks ≡ old_ticks))
+TellsCellOf (Some kind) e d old new old_ticks new_ticks code =
+    TellsOf ((new ≡ old) × (new_ticks ≡ old_ticks)) (λ o. TellsCell kind (component_of (world_of o) e kind) old new old_ticks new_ticks) d code
+
+abbrev pub TellsTextOf : Option ℕ → Entity → Option OpenScene → ℕ → (old new : List ℕ) → (old_total total : ℕ) → ℕ → Type 0
+TellsTextOf None e d from old new old_total total code = (code ≡ 4) × ((new ≡ old) × (total ≡ old_total))
+TellsTextOf (Some kind) e d from old new old_total total code =
+    TellsOf ((new ≡ old) × (total ≡ old_total)) (λ o. TellsText (text_at (component_of (world_of o) e kind)) from old new old_total total) d code
