@@ -10,7 +10,7 @@ ghost use Rattle.scene_file.specs.Walk.{cells_from, set_of, shapes_of};
 use scene_json::{Part, Parts};
 use scene_json_forms::{
     CellForm, EntityForm, FileResult, Form, KindNumberForm, ListOf, Ordered, Path, Rising,
-    bad_field, key_of, list_at, object_at,
+    bad_field, key_of, list_at, object_at, two_keys,
 };
 use scene_kinds::{Cell, Cells, KindSet, Row, Schema, Shape};
 use std::alloc::{AllocError, Global};
@@ -102,12 +102,10 @@ impl Form for RowForm<'_> {
 
     #[tactic(auto, using(scene_json_forms::proofs::Walking::walking))]
     fn read(&self, alloc: Global, path: &Path<'_>, value: &Part<'_, '_>) -> FileResult<Self::Item> {
-        object_at(alloc, path, value, &["cells", "entity"])?;
-        let form = CellsForm {
+        let cells = CellsForm {
             shapes: self.shapes,
         };
-        let cells = key_of(alloc, &form, path, value, "cells")?;
-        let entity = key_of(alloc, &EntityForm, path, value, "entity")?;
+        let (cells, entity) = two_keys(alloc, path, value, &cells, "cells", &EntityForm, "entity")?;
         let cells = with_kinds(alloc, self.kinds, cells)?;
         Ok(Row {
             entity,

@@ -13,7 +13,7 @@ use crate::read_rows::TableForm;
 use scene_json::Part;
 use scene_json_forms::{
     EntityForm, FileFault, FileResult, Form, ListOf, NameForm, Ordered, Path, ResourceCellForm,
-    Rising, TickForm, U32Form, bad_field, if_good, key_of, object_at,
+    Rising, TickForm, U32Form, bad_field, if_good, key_of, object_at, two_keys,
 };
 use scene_kinds::{Cell, Entity, Schema};
 use scene_validate::WorldParts;
@@ -81,9 +81,8 @@ impl Form for ChildrenForm {
 
     #[tactic(auto, using(scene_json_forms::proofs::Walking::walking))]
     fn read(&self, alloc: Global, path: &Path<'_>, value: &Part<'_, '_>) -> FileResult<Self::Item> {
-        object_at(alloc, path, value, &["list", "parent"])?;
-        let list = key_of(alloc, &ListOf(EntityForm), path, value, "list")?;
-        let parent = key_of(alloc, &EntityForm, path, value, "parent")?;
+        let list = ListOf(EntityForm);
+        let (list, parent) = two_keys(alloc, path, value, &list, "list", &EntityForm, "parent")?;
         Ok((parent, list))
     }
 }
