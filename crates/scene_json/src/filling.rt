@@ -64,6 +64,7 @@ fn add<'a>(nodes: &mut Vec<Node<'a>>, node: Node<'a>) -> Result<(), DocumentErro
 }
 
 /// Adds a number.
+#[inline(always)]
 fn add_number<'a>(nodes: &mut Vec<Node<'a>>, text: &'a str) -> Result<(), DocumentError>
     ensures added { OnOk result ((d : Data) × (of_json (number text.now) ≡ Some d) × Grows nodes.old.items nodes.new.items (d ∷ [])) }
     ensures refused { result ≡ Err DocumentError.NotJson → of_json (number text.now) ≡ None }
@@ -76,6 +77,7 @@ fn add_number<'a>(nodes: &mut Vec<Node<'a>>, text: &'a str) -> Result<(), Docume
 }
 
 /// Writes the node of a list, at a place that was left for it before the list's elements.
+#[inline(always)]
 fn close_list(nodes: &mut Vec<Node<'_>>, at: usize, count: usize)
     requires { at < length nodes.old.items }
     ensures { (old more : List Node) → nodes.old.items ≡ old ++ Null ∷ more → at ≡ length old
@@ -86,6 +88,7 @@ fn close_list(nodes: &mut Vec<Node<'_>>, at: usize, count: usize)
 }
 
 /// Writes the node of an object in the same way.
+#[inline(always)]
 fn close_object(nodes: &mut Vec<Node<'_>>, at: usize, count: usize)
     requires { at < length nodes.old.items }
     ensures { (old more : List Node) → nodes.old.items ≡ old ++ Null ∷ more → at ≡ length old
@@ -95,8 +98,10 @@ fn close_object(nodes: &mut Vec<Node<'_>>, at: usize, count: usize)
     nodes[at] = Node::Object(inside, count);
 }
 
-/// Adds the next value of a reader. Lists and objects may nest so deep.
+/// Adds the next value of a reader. Lists and objects may nest so deep. It is made part of the loops over elements and
+/// members, so that a value with none inside, as most are, costs no call.
 #[cycle(read)]
+#[inline(always)]
 fn read_value<'a>(
     reader: &mut Reader<'a>,
     nodes: &mut Vec<Node<'a>>,
@@ -124,6 +129,7 @@ fn read_value<'a>(
 
 /// Adds a list, behind its opening bracket.
 #[cycle(read)]
+#[inline(always)]
 fn read_list<'a>(
     reader: &mut Reader<'a>,
     nodes: &mut Vec<Node<'a>>,
@@ -148,6 +154,7 @@ fn read_list<'a>(
 
 /// Adds an object, behind its opening brace.
 #[cycle(read)]
+#[inline(always)]
 fn read_object<'a>(
     reader: &mut Reader<'a>,
     nodes: &mut Vec<Node<'a>>,
@@ -172,6 +179,7 @@ fn read_object<'a>(
 
 /// Adds the elements of a list, and passes its closing bracket.
 #[cycle(read)]
+#[inline(never)]
 fn read_elements<'a>(
     reader: &mut Reader<'a>,
     nodes: &mut Vec<Node<'a>>,
@@ -194,6 +202,7 @@ fn read_elements<'a>(
 
 /// Adds the members of an object, each a key and a value, and passes its closing brace.
 #[cycle(read)]
+#[inline(never)]
 fn read_members<'a>(
     reader: &mut Reader<'a>,
     nodes: &mut Vec<Node<'a>>,

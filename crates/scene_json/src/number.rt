@@ -99,6 +99,7 @@ fn is_in_range(text: &str) -> bool
 const SURE_DIGITS: usize = 18;
 
 /// The number that a few digits are. It is none where they are many, or another byte stands among them.
+#[inline(always)]
 fn few_digits(bytes: &[u8]) -> Option<u64>
     ensures { IfSome result (λ n. IsNumeral 10 bytes.now × (n ≡ digits_value 10 bytes.now) × (n < 10 ^ 18)) }
 {
@@ -109,6 +110,7 @@ fn few_digits(bytes: &[u8]) -> Option<u64>
 }
 
 /// The node of a number, where the number is in range. A whole one is read here, once, and another is kept as its text.
+#[inline(always)]
 pub(crate) fn number_node(text: &str) -> Option<Node<'_>>
     ensures { MatchOption result (number_of text.now ≡ None) (λ node. IsNumber text.now node) }
 {
