@@ -1,6 +1,8 @@
 -- One list of a past and a future, by its places: the past from place d to place m, the future from there on.
-use Rattle.std.proofs.Common.{◌≡◌, ◌<◌, ◌≤◌, ◌+◌, ◌-◌, ℕ, suc, List, [], ◌∷◌, ◌++◌, length, take, drop, get_or, reverse, slice_set, ap, sym, ◌∙◌, arith}
-use Rattle.std.proofs.lemmas.List.{take_more, drop_more, take_all, take_at, take-take, drop-take, drop-append-le, drop-set-lt, reverse-append, length-append, length-drop, length-reverse, length-take-le}
+use Rattle.std.proofs.Common.{◌≡◌, ◌≢◌, ◌<◌, ◌≤◌, ◌+◌, ◌-◌, ℕ, suc, List, [], ◌∷◌, ◌++◌, length, take, drop, get_or, get_or-set_other, reverse, slice_set, ap, sym, ◌∙◌, arith}
+use Rattle.std.specs.List.{swap}
+use Rattle.std.proofs.lemmas.List.{take_more, take_more_set, take-set-le, drop_more, take_all, take_at, take-take, drop-take, drop-append-le, drop-set-lt, get_or-drop, reverse-append, length-append, length-drop, length-reverse, length-take-le}
+use Rattle.std.proofs.lemmas.List.Edits.{swap_is}
 use Rattle.std.proofs.Math.ListN.{drop_of_length-le}
 
 module _ {A : Type 0} where
@@ -92,9 +94,33 @@ module _ {A : Type 0} where
       ∙ sym (without_last rest first.0)
       ∙ ap (λ ys. take (length (reverse ys) - 1) (reverse ys)) (sym all)
 
-  -- the empty places go last, and are cut off
-  pub closed_up : (xs : List A) (d : ℕ) → d ≤ length xs → take (length xs - d) (drop d xs ++ take d xs) ≡ drop d xs
-  closed_up xs d low = take_at (drop d xs) (take d xs) (length xs - d) (length-drop d xs)
+  -- one more of the last comes to the front
+  pub brought : (xs zs : List A) (f p : ℕ) (d : A) → length xs ≡ length zs → f + p < length xs → length xs ≤ f + f
+      → take p xs ≡ take p (drop f zs) → get_or xs (f + p) d ≡ get_or zs (f + p) d
+      → take (p + 1) (swap xs p (f + p)) ≡ take (p + 1) (drop f zs)
+  brought xs zs f p d long low few front here =
+      let n : length (drop f zs) ≡ length zs - f = length-drop f zs in
+      let within : p < length (drop f zs) = omega (arith, n, long, low) in
+      let first : p < length xs = omega (arith, low) in
+      let later : p + 1 ≤ f + p = omega (arith, low, few) in
+      let b = get_or xs (f + p) d in
+      ap (take (p + 1)) (sym (swap_is xs p (f + p) d first low))
+      ∙ take-set-le (p + 1) (slice_set xs p b) (f + p) (get_or xs p d) later
+      ∙ take_more_set xs p b first
+      ∙ ap (λ ys. ys ++ b ∷ []) front
+      ∙ ap (λ e. take p (drop f zs) ++ e ∷ []) (here ∙ sym (get_or-drop f zs p d))
+      ∙ sym (take_more (drop f zs) p d within)
+
+  -- what stands behind it stays
+  pub left_behind : (xs : List A) (f p k : ℕ) (d : A) → f + p < length xs → length xs ≤ f + f → f + (p + 1) ≤ k
+      → get_or (swap xs p (f + p)) k d ≡ get_or xs k d
+  left_behind xs f p k d low few l =
+      let first : p < length xs = omega (arith, low) in
+      let ne : k ≢ p = omega (arith, l, low, few) in
+      let other : k ≢ f + p = omega (arith, l) in
+      ap (λ ys. get_or ys k d) (sym (swap_is xs p (f + p) d first low))
+      ∙ get_or-set_other (slice_set xs p (get_or xs (f + p) d)) (f + p) k (get_or xs p d) d other
+      ∙ get_or-set_other xs p k (get_or xs (f + p) d) d ne
 
   -- what is left of a past of which more was left before
   pub cut_again : (n m : ℕ) (ys : List A) → n ≤ m → take n (take m ys) ≡ take n ys

@@ -1,5 +1,5 @@
 //! The records of an editor's past and future.
-ghost use Rattle.std.specs.Prelude.{◌≡◌, ◌<◌, ◌-◌, ◌∷◌, [], length, reverse, take, List, MatchOption, OnOk, IfOk};
+ghost use Rattle.std.specs.Prelude.{◌≡◌, ◌<◌, ◌≤◌, ◌+◌, ◌-◌, ◌∷◌, [], drop, length, reverse, take, List, MatchOption, OnOk, IfOk};
 ghost use Rattle.scene_journal.specs.Records.{Record};
 ghost use Rattle.scene_undo.specs.Stacks.{AreSame, IsRedone, IsUndone};
 
@@ -41,6 +41,20 @@ impl Model for Stacks {
     } };
 
     ghost invariant = { λ s. (s.dropped ≤ s.middle) × (s.middle ≤ length s.records.items) };
+}
+
+/// Brings the records from a place on to the front, in their order, where no more stand before that place. It costs as
+/// many swaps as they are.
+// A rotation moves all records, and takes much room for few of them.
+fn bring_forward(records: &mut [FrameRecord], from: usize)
+    requires within { from ≤ length records.old }
+    requires fewer { length records.old ≤ from + from }
+    ensures front { take (length records.old - from) records.new ≡ drop from records.old }
+    ensures long { length records.new ≡ length records.old }
+{
+    for place in 0..records.len() - from {
+        records.swap(place, from + place);
+    }
 }
 
 impl Stacks {
@@ -219,7 +233,7 @@ impl Stacks {
     {
         let kept = self.records.len() - self.dropped;
         if kept < self.dropped && self.dropped >= FEW_PLACES {
-            self.records.rotate_left(self.dropped);
+            bring_forward(self.records.as_mut_slice(), self.dropped);
             self.records.truncate(kept);
             self.middle -= self.dropped;
             self.dropped = 0;

@@ -6,7 +6,6 @@ use Rattle.scene_undo.specs.declared.direction.Direction.TheVariants.{Undo, Redo
 use Rattle.scene_undo.specs.Direction.{CanAll}
 use Rattle.scene_undo.specs.Kept.{CanUndoAll, CanRedoAll}
 use Rattle.scene_undo.specs.Parts.{IsFirstFault, NamesFrame}
-use Rattle.scene_journal.specs.FirstFaults.{IsFaultOf}
 use Rattle.scene_undo.proofs.EditorLaws.{at_rest, newest, within}
 use Rattle.scene_undo.proofs.TwoStacks.{future_fault, in_range, kept, past_fault}
 use Rattle.scene_undo.proofs.Turns.{all_fit}
