@@ -1,7 +1,7 @@
 #!/usr/bin/env python3
-"""Holds docs/scene.schema.json to the texts of the examples, by the jsonschema package: each scene text that an example
-prints or loads well has the form that the schema says. It prints how many of those that are refused have not, and ends with
-1 where the schema refuses a text that is read."""
+"""Holds docs/scene.schema.json and docs/request.schema.json to the texts of the examples, by the jsonschema package: each scene
+text that an example prints or loads well has the form that the schema says, and so has each request that isn't bad. It prints
+how many of those that are refused have not, and ends with 1 where a schema refuses a text that is read."""
 import json
 import re
 import sys
@@ -45,10 +45,38 @@ def texts():
                 yield script.name, answer, "ok"
 
 
-def main():
-    schema = json.loads((ROOT / "docs" / "scene.schema.json").read_text())
+def validator_of(name):
+    schema = json.loads((ROOT / "docs" / name).read_text())
     validator = jsonschema.Draft202012Validator(schema)
     validator.check_schema(schema)
+    return validator
+
+
+def requests():
+    """The requests of the examples, each with the path or the words by which it is bad, or None."""
+    for script in sorted(EXAMPLES.glob("requests_*.scene")):
+        for line, told in zip(lines_of(script), lines_of(script.with_suffix(".out"))):
+            if line.startswith("{"):
+                answer = json.loads(told)
+                yield script.name, line, answer.get("path") if answer["answer"] == "bad" else None
+
+
+def check_requests():
+    """How many requests fit, are refused for their form, for more than that, and differ."""
+    validator, counts = validator_of("request.schema.json"), [0, 0, 0, 0]
+    for name, text, path in requests():
+        try:
+            fits = validator.is_valid(json.loads(text))
+        except ValueError:
+            continue
+        counts[(0 if fits else 3) if path is None else (2 if fits else 1)] += 1
+        if path is None and not fits:
+            print(f"{name}: {text} is read, and the schema refuses it", file=sys.stderr)
+    return counts
+
+
+def main():
+    validator = validator_of("scene.schema.json")
     good = bad = beyond = wrong = 0
     for name, text, answer in texts():
         try:
@@ -64,8 +92,10 @@ def main():
         elif FORM.match(answer):
             bad += not fits
             beyond += fits
-    print(f"{good} texts fit, {bad} are refused for their form, {beyond} for more than that, {wrong} differ")
-    sys.exit(wrong > 0)
+    asked = check_requests()
+    for what, counts in (("texts", (good, bad, beyond, wrong)), ("requests", asked)):
+        print("{1} {0} fit, {2} are refused for their form, {3} for more than that, {4} differ".format(what, *counts))
+    sys.exit(wrong + asked[3] > 0)
 
 
 if __name__ == "__main__":

@@ -5,10 +5,10 @@ use Rattle.scene_script.specs.declared.script_line.Line.{Line}
 use Rattle.scene_script.specs.declared.script_line.Line.TheVariants.{Empty, Kind, Slots, Load, Calls, Depth, Do, Queue, Commit, Show, Get, Changed, Added, History, Dump, DumpAll}
 use Rattle.scene_script.specs.declared.bad_line.BadLine.{BadLine}
 use Rattle.scene_script.specs.Script.{line_in}
-use Rattle.scene_interpreter.specs.Changes.{changes, changes_alone, changes_frame, changes_said, changes_setup, changes_within, declares}
+use Rattle.scene_interpreter.specs.Changes.{changes, changes_alone, changes_frame, changes_said, changes_setup, changes_within, declares, said_changes}
 use Rattle.scene_interpreter.specs.OpenFrame.{Opened}
-use Rattle.scene_interpreter.specs.Play.{Base, Declared, Loaded, PlayState, SetupState, frame_reply, kind_reply, lone_reply, reply_within, said_reply, setup_kinds, setup_said, slots_reply}
-use Rattle.scene_interpreter.specs.Interpreter.{Interpreter, Setting, Playing, interpreter_reply, set_or_begun}
+use Rattle.scene_interpreter.specs.Play.{Base, Declared, Loaded, PlayState, SetupState, frame_reply, kind_reply, lone_reply, reply_within, said_reply, setup_said, slots_reply}
+use Rattle.scene_interpreter.specs.Interpreter.{Interpreter, Setting, Playing, interpreter_kinds, interpreter_reply, interpreter_said, set_or_begun}
 use Rattle.scene_interpreter.proofs.FrameLaws.{frame_put_back}
 
 no : {A : Type 0} → true ≡ false → A
@@ -73,6 +73,9 @@ playing_stays : (s : PlayState) (said : Result Line BadLine) → changes_said (c
 playing_stays s (Err reason) e = refl
 playing_stays s (Ok line) e = within_stays s s.frame line refl e
 
+pub said_unchanged : (p : Interpreter) (said : Result Line BadLine) → said_changes p said ≡ false → (interpreter_said p said).interpreter ≡ p
+said_unchanged (Setting s) said e = setting_stays s said e
+said_unchanged (Playing s) said e = ap Playing (playing_stays s said e)
+
 pub unchanged : (p : Interpreter) (bytes : List ℕ) → changes p bytes ≡ false → (interpreter_reply p bytes).interpreter ≡ p
-unchanged (Setting s) bytes e = setting_stays s (line_in (setup_kinds s) bytes) e
-unchanged (Playing s) bytes e = ap Playing (playing_stays s (line_in s.schema bytes) e)
+unchanged p bytes e = said_unchanged p (line_in (interpreter_kinds p) bytes) e

@@ -10,15 +10,14 @@ use Rattle.scene_model.specs.World.{row_of}
 use Rattle.scene_script.specs.declared.bad_line.BadLine.{BadLine}
 use Rattle.scene_script.specs.declared.script_line.Line.{Line}
 use Rattle.scene_script.specs.declared.script_line.Line.TheVariants.{Show, Get, Dump, DumpAll}
-use Rattle.scene_script.specs.Script.{line_in}
 use Rattle.scene_interpreter.specs.declared.halt.Halt.{Halt}
 use Rattle.scene_interpreter.specs.declared.json_question.StateJson.{StateJson}
 use Rattle.scene_interpreter.specs.JsonAnswer.{json_line}
-use Rattle.scene_interpreter.specs.JsonLine.{AddsJson, IsAnsweredAsJson, asked_in, question_of}
+use Rattle.scene_interpreter.specs.JsonLine.{AddsJson, IsSaidAsJson, asked_by, question_of}
 use Rattle.scene_interpreter.specs.JsonQuestion.{asked_json}
 use Rattle.scene_interpreter.specs.OpenFrame.{Opened}
-use Rattle.scene_interpreter.specs.Play.{PlayState, SetupState, first_state, lone_reply, now, reply_within, row_said, said_reply, saved_said, setup_kinds, setup_said}
-use Rattle.scene_interpreter.specs.Interpreter.{Interpreter, Setting, Playing, begun, halted, owner_of, interpreter_reply, set_or_begun}
+use Rattle.scene_interpreter.specs.Play.{PlayState, SetupState, first_state, lone_reply, now, reply_within, row_said, said_reply, saved_said, setup_said}
+use Rattle.scene_interpreter.specs.Interpreter.{Interpreter, Setting, Playing, begun, halted, owner_of, interpreter_said, set_or_begun}
 use Rattle.scene_interpreter.specs.Said.{bad_in}
 
 -- what a world is asked for is no bad line
@@ -59,37 +58,36 @@ ending s (Ok DumpAll) q is = refl
 ending s said q is = absurd (cc is)
 
 -- the reply to a line that asks: it isn't bad, and the interpreter is behind its setup
-asked_reply : (z : Interpreter) (bytes : List ℕ) (q : StateJson) → asked_in z bytes ≡ Some q
-    → ((interpreter_reply z bytes).bad ≡ None) × ((interpreter_reply z bytes).interpreter ≡ begun z)
-asked_reply (Setting s) bytes q is =
-    let said = line_in (setup_kinds s) bytes in
+asked_reply : (z : Interpreter) (said : Result Line BadLine) (q : StateJson) → asked_by z said ≡ Some q
+    → ((interpreter_said z said).bad ≡ None) × ((interpreter_said z said).interpreter ≡ begun z)
+asked_reply (Setting s) said q is =
     let ends = ending s said q is in
     let leaves = asking (first_state s) said q is refl in
     (ap (λ o. (set_or_begun s said o).bad) ends ∙ leaves.0, ap (λ o. (set_or_begun s said o).interpreter) ends ∙ ap Playing leaves.1)
-asked_reply (Playing s) bytes q is = by_frame s.frame refl is
+asked_reply (Playing s) said q is = by_frame s.frame refl is
   where
-    by_frame : (f : Option Opened) → s.frame ≡ f → (if is_some f then None else question_of (line_in s.schema bytes)) ≡ Some q
-        → ((interpreter_reply (Playing s) bytes).bad ≡ None) × ((interpreter_reply (Playing s) bytes).interpreter ≡ Playing s)
-    by_frame None none asks = let leaves = asking s (line_in s.schema bytes) q asks none in (leaves.0, ap Playing leaves.1)
+    by_frame : (f : Option Opened) → s.frame ≡ f → (if is_some f then None else question_of said) ≡ Some q
+        → ((interpreter_said (Playing s) said).bad ≡ None) × ((interpreter_said (Playing s) said).interpreter ≡ Playing s)
+    by_frame None none asks = let leaves = asking s said q asks none in (leaves.0, ap Playing leaves.1)
     by_frame (Some f) some asks = absurd (cc asks)
 
 -- what was asked is the answer to the line
-pub asked_answer : (z after : Interpreter) (bytes old new : List ℕ) (q : StateJson) (r : Result (Option BadLine) Halt) → asked_in z bytes ≡ Some q
+pub asked_answer : (z after : Interpreter) (said : Result Line BadLine) (old new : List ℕ) (q : StateJson) (r : Result (Option BadLine) Halt) → asked_by z said ≡ Some q
     → IfOk r (λ bad. bad ≡ None) → IfOk r (λ _. after ≡ begun z) → OnOk r (new ≡ old ++ json_line (asked_json q (whole_at (owner_of z))))
-    → IfOk r (λ bad. IsAnsweredAsJson old new z after bytes bad)
-asked_answer z after bytes old new q (Ok bad) is none behind text =
-    let reply = asked_reply z bytes q is in
-    (none ∙ sym reply.0, behind ∙ sym reply.1, subst (AddsJson old new z after bytes) (sym is) text)
-asked_answer z after bytes old new q (Err h) is none behind text = tt
+    → IfOk r (λ bad. IsSaidAsJson old new z after said bad)
+asked_answer z after said old new q (Ok bad) is none behind text =
+    let reply = asked_reply z said q is in
+    (none ∙ sym reply.0, behind ∙ sym reply.1, subst (AddsJson old new z after said) (sym is) text)
+asked_answer z after said old new q (Err h) is none behind text = tt
 
-pub asked_halted : (z after : Interpreter) (bytes : List ℕ) (q : StateJson) (r : Result (Option BadLine) Halt) → asked_in z bytes ≡ Some q
-    → IfErr r (λ h. after ≡ halted h z (begun z)) → IfErr r (λ h. after ≡ halted h z (interpreter_reply z bytes).interpreter)
-asked_halted z after bytes q (Ok bad) is h = tt
-asked_halted z after bytes q (Err x) is h = h ∙ ap (halted x z) (sym (asked_reply z bytes q is).1)
+pub asked_halted : (z after : Interpreter) (said : Result Line BadLine) (q : StateJson) (r : Result (Option BadLine) Halt) → asked_by z said ≡ Some q
+    → IfErr r (λ h. after ≡ halted h z (begun z)) → IfErr r (λ h. after ≡ halted h z (interpreter_said z said).interpreter)
+asked_halted z after said q (Ok bad) is h = tt
+asked_halted z after said q (Err x) is h = h ∙ ap (halted x z) (sym (asked_reply z said q is).1)
 
 -- and so is the answer of any other line
-pub played_answer : (z after : Interpreter) (bytes old new : List ℕ) (r : Result (Option BadLine) Halt) → asked_in z bytes ≡ None
-    → IfOk r (λ bad. bad ≡ (interpreter_reply z bytes).bad) → OnOk r (after ≡ (interpreter_reply z bytes).interpreter) → OnOk r (AddsJson old new z after bytes None)
-    → IfOk r (λ bad. IsAnsweredAsJson old new z after bytes bad)
-played_answer z after bytes old new (Ok bad) is why next text = (why, next, subst (AddsJson old new z after bytes) (sym is) text)
-played_answer z after bytes old new (Err h) is why next text = tt
+pub played_answer : (z after : Interpreter) (said : Result Line BadLine) (old new : List ℕ) (r : Result (Option BadLine) Halt) → asked_by z said ≡ None
+    → IfOk r (λ bad. bad ≡ (interpreter_said z said).bad) → OnOk r (after ≡ (interpreter_said z said).interpreter) → OnOk r (AddsJson old new z after said None)
+    → IfOk r (λ bad. IsSaidAsJson old new z after said bad)
+played_answer z after said old new (Ok bad) is why next text = (why, next, subst (AddsJson old new z after said) (sym is) text)
+played_answer z after said old new (Err h) is why next text = tt

@@ -5,8 +5,8 @@ use Rattle.scene_script.specs.declared.script_line.Line.TheVariants.{Empty, Kind
 use Rattle.scene_script.specs.declared.bad_line.BadLine.{BadLine}
 use Rattle.scene_script.specs.Script.{line_in}
 use Rattle.scene_interpreter.specs.OpenFrame.{Opened}
-use Rattle.scene_interpreter.specs.Play.{Base, Declared, Loaded, setup_kinds}
-use Rattle.scene_interpreter.specs.Interpreter.{Interpreter, Setting, Playing}
+use Rattle.scene_interpreter.specs.Play.{Base, Declared, Loaded}
+use Rattle.scene_interpreter.specs.Interpreter.{Interpreter, Setting, Playing, interpreter_kinds}
 
 -- whether a frame is open
 abbrev pub frame_is_open : Interpreter → Bool
@@ -63,7 +63,11 @@ abbrev pub changes_said : (Line → Bool) → Result Line BadLine → Bool
 changes_said by (Ok line) = by line
 changes_said by (Err reason) = false
 
--- whether a line, by its bytes, may change the interpreter
+-- whether a line that says this may change the interpreter
+abbrev pub said_changes : Interpreter → Result Line BadLine → Bool
+said_changes (Setting s) said = changes_said (changes_setup s.base) said
+said_changes (Playing s) said = changes_said (changes_within s.frame) said
+
+-- and a line by its bytes
 abbrev pub changes : Interpreter → List ℕ → Bool
-changes (Setting s) bytes = changes_said (changes_setup s.base) (line_in (setup_kinds s) bytes)
-changes (Playing s) bytes = changes_said (changes_within s.frame) (line_in s.schema bytes)
+changes p bytes = said_changes p (line_in (interpreter_kinds p) bytes)

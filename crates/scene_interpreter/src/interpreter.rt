@@ -4,7 +4,7 @@ ghost use Rattle.scene_session.specs.Owner.{whole_at};
 ghost use Rattle.scene_script.specs.Script.{line_in};
 ghost use Rattle.scene_session.specs.Whole.{whole_of};
 ghost use Rattle.scene_interpreter.specs.Answer.{Says};
-ghost use Rattle.scene_interpreter.specs.Changes.{changes, frame_is_open};
+ghost use Rattle.scene_interpreter.specs.Changes.{changes, frame_is_open, said_changes};
 ghost use Rattle.scene_interpreter.specs.Play.{first_owner, first_state, said_reply, state_by};
 ghost use Rattle.scene_interpreter.specs.Interpreter.{HaltsSetup, Interpreter as Reached, IsAnswered, IsSetting, Playing, Tells, begun, first_interpreter, halted, interpreter_kinds, interpreter_of, interpreter_reply, interpreter_said, lone_interpreter, owner_of, reached, systems_of, without_frame};
 ghost use Rattle.scene_interpreter.specs.Setup.{setup_by};
@@ -234,9 +234,17 @@ impl<O: ScriptOwner> Interpreter<O> {
         ensures { IfOk result (λ b. b ≡ changes (reached O.state O.most self.now) bytes.now) }
     {
         let said = said_in(self.alloc, self.schema(), bytes)?;
+        Ok(self.said_changes(&said))
+    }
+
+    /// Whether a line that says this, or is bad for this, may change the interpreter: `changes` for callers that make a
+    /// `Line` themselves. It takes no memory.
+    pub fn said_changes(&self, said: &Result<Line, BadLine>) -> bool
+        ensures { result ≡ said_changes (reached O.state O.most self.now) said.now }
+    {
         match &self.mode {
-            Mode::Setting(setup) => Ok(changes_setup(&setup.base, &said)),
-            Mode::Playing(state) => Ok(changes_state(&state.frame, &said)),
+            Mode::Setting(setup) => changes_setup(&setup.base, said),
+            Mode::Playing(state) => changes_state(&state.frame, said),
         }
     }
 

@@ -3,10 +3,10 @@ ghost use Rattle.std.specs.Prelude.{◌≡◌, IfErr, IfOk, None, OnOk, string_b
 ghost use Rattle.scene_json.specs.Texts.{Adds};
 ghost use Rattle.scene_session.specs.Owner.{whole_at};
 ghost use Rattle.scene_interpreter.specs.JsonAnswer.{json_line};
-ghost use Rattle.scene_interpreter.specs.JsonLine.{AddsJson, IsAnsweredAsJson, asked_in, question_of};
+ghost use Rattle.scene_interpreter.specs.JsonLine.{AddsJson, IsAnsweredAsJson, IsSaidAsJson, asked_by, question_of};
 ghost use Rattle.scene_interpreter.specs.JsonQuestion.{asked_json};
 ghost use Rattle.scene_interpreter.specs.Play.{first_state, state_by};
-ghost use Rattle.scene_interpreter.specs.Interpreter.{HaltsSetup, Interpreter as Reached, begun, halted, reached, interpreter_reply, owner_of};
+ghost use Rattle.scene_interpreter.specs.Interpreter.{HaltsSetup, Interpreter as Reached, begun, halted, reached, interpreter_reply, interpreter_said, owner_of};
 ghost use Rattle.scene_interpreter.specs.Setup.{setup_by};
 
 use crate::halt::Halt;
@@ -64,15 +64,14 @@ fn begin_asked<O: ScriptOwner, P: Performer<O>>(
 }
 
 impl<O: ScriptOwner> Interpreter<O> {
-    /// What a line asks of the state, where it does.
-    fn asked_in(&self, bytes: &[u8]) -> Result<Option<StateJson>, AllocError>
-        ensures { IfOk result (λ asked. asked ≡ asked_in (reached O.state O.most self.now) bytes.now) }
+    /// What a line that says this asks of the state, where it does.
+    fn asked_by(&self, said: &Result<Line, BadLine>) -> Option<StateJson>
+        ensures { result ≡ asked_by (reached O.state O.most self.now) said.now }
     {
         if self.has_open_frame() {
-            return Ok(None);
+            return None;
         }
-        let said = said_in(self.alloc, self.schema(), bytes)?;
-        Ok(question_of(&said))
+        question_of(said)
     }
 
     /// Asks the state, and ends the setup where it hasn't ended.
@@ -120,31 +119,52 @@ impl<O: ScriptOwner> Interpreter<O> {
         }
     }
 
-    /// Plays a line, and adds its answer.
+    /// Plays what a line says, and adds its answer.
     fn play_json<P: Performer<O>>(
         &mut self,
         performer: &P,
-        bytes: &[u8],
+        said: Result<Line, BadLine>,
         out: &mut String,
     ) -> Result<Option<BadLine>, Halt>
-        ensures bad { IfOk result (λ bad. bad ≡ (interpreter_reply (reached O.state O.most self.old) bytes.now).bad) }
+        ensures bad { IfOk result (λ bad. bad ≡ (interpreter_said (reached O.state O.most self.old) said).bad) }
         ensures interpreter { OnOk result (reached O.state O.most self.new
-            ≡ (interpreter_reply (reached O.state O.most self.old) bytes.now).interpreter) }
+            ≡ (interpreter_said (reached O.state O.most self.old) said).interpreter) }
         ensures text { OnOk result (AddsJson (string_bytes out.old) (string_bytes out.new)
-            (reached O.state O.most self.old) (reached O.state O.most self.new) bytes.now None) }
+            (reached O.state O.most self.old) (reached O.state O.most self.new) said None) }
         ensures halted { IfErr result (λ h. reached O.state O.most self.new
-            ≡ halted h (reached O.state O.most self.old) (interpreter_reply (reached O.state O.most self.old) bytes.now).interpreter) }
+            ≡ halted h (reached O.state O.most self.old) (interpreter_said (reached O.state O.most self.old) said).interpreter) }
     {
-        let answer = self.play(performer, bytes)?;
+        let answer = self.play_said(performer, said)?;
         match answer.write_json(self.alloc, self.schema(), out) {
             Ok(()) => Ok(answer.into_bad_line()),
             Err(AllocError) => Err(Halt::After),
         }
     }
 
+    /// Plays what a line says, or why it is bad, as `line_json` does with the line: for callers that make a `Line`
+    /// themselves. No text is read.
+    ///
+    /// Halted as `line_json` is.
+    pub fn said_json<P: Performer<O>>(
+        &mut self,
+        performer: &P,
+        said: Result<Line, BadLine>,
+        out: &mut String,
+    ) -> Result<Option<BadLine>, Halt>
+        ensures answer { IfOk result (λ bad. IsSaidAsJson (string_bytes out.old) (string_bytes out.new)
+            (reached O.state O.most self.old) (reached O.state O.most self.new) said bad) }
+        ensures halted { IfErr result (λ h. reached O.state O.most self.new
+            ≡ halted h (reached O.state O.most self.old) (interpreter_said (reached O.state O.most self.old) said).interpreter) }
+    {
+        match self.asked_by(&said) {
+            Some(asked) => self.show_json(performer, asked, out),
+            None => self.play_json(performer, said, out),
+        }
+    }
+
     /// Plays a line, and adds its answer as one line of JSON (docs/SHELL.md, "JSON"). It gives why the line is bad,
     /// where it is. `show`, `get`, `dump` and `dumpall` add what they ask for by its parts, and any other line its
-    /// `LineAnswer`. It costs what `line` costs, and outside a frame one more reading of the line.
+    /// `LineAnswer`. It costs what `line` costs.
     ///
     /// Halted only for want of memory, as `line` is. A part of the answer may be added then.
     pub fn line_json<P: Performer<O>>(
@@ -158,12 +178,9 @@ impl<O: ScriptOwner> Interpreter<O> {
         ensures halted { IfErr result (λ h. reached O.state O.most self.new
             ≡ halted h (reached O.state O.most self.old) (interpreter_reply (reached O.state O.most self.old) bytes.now).interpreter) }
     {
-        let Ok(asked) = self.asked_in(bytes) else {
+        let Ok(said) = said_in(self.alloc, self.schema(), bytes) else {
             return Err(Halt::Before);
         };
-        match asked {
-            Some(asked) => self.show_json(performer, asked, out),
-            None => self.play_json(performer, bytes, out),
-        }
+        self.said_json(performer, said, out)
     }
 }

@@ -11,11 +11,12 @@ use Rattle.std.proofs.lemmas.List.Elements.{All-nil}
 use Rattle.std.proofs.lemmas.List.Sums.{fold-append}
 use Rattle.scene_streams.specs.declared.app_fault.AppFault.{AppFault}
 use Rattle.scene_streams.specs.declared.app_fault.AppFault.TheVariants.{NoMemory, ReadFault, WriteFault, TooLong}
-use Rattle.scene_interpreter.specs.Interpreter.{Interpreter, interpreter_reply}
+use Rattle.scene_interpreter.specs.Interpreter.{Interpreter}
 use Rattle.scene_interpreter.specs.Changes.{frame_is_open}
 use Rattle.scene_shell.specs.declared.kept_fault.KeptFault.{KeptFault}
 use Rattle.scene_shell.specs.declared.kept_fault.KeptFault.TheVariants.{Ended, Keep}
 use Rattle.scene_shell.specs.declared.waiting.Waiting.{Waiting}
+use Rattle.scene_shell.specs.ShellLine.{shell_reply}
 use Rattle.scene_shell.specs.Shell.{AddsAnswer, Answers, AnswerStyle, Exchange, HasSaid, IsSaid, Parts, Stops, StopsWith, bad_count, interpreter_after}
 use Rattle.scene_streams.specs.Keep.{Grows, StaysKept}
 use Rattle.scene_shell.specs.Kept.{Beginning, Continues, EndsAs, HasAnswered, HasKept, IsSettled, Keeping, Meaning, StopsBy, behind, kept_after, kept_line, kept_of, noted, released, starting}
@@ -30,7 +31,7 @@ released_behind false p t due held = ap (λ d. record { interpreter = p; due = d
 
 pub line_behind : (t : List ℕ) (k : Keeping) (l : List ℕ) → kept_line (behind t k) l ≡ behind t (kept_line k l)
 line_behind t k l =
-    let r = interpreter_reply k.interpreter l in
+    let r = shell_reply k.interpreter l in
     released_behind (frame_is_open r.interpreter) r.interpreter t k.due (noted k.interpreter l k.held)
 
 -- ---- lists of lines
@@ -39,13 +40,13 @@ line_behind t k l =
 said_append : (style : AnswerStyle) (p : Interpreter) (xs ys : List (List ℕ)) (t u : List ℕ) → IsSaid style p xs t → IsSaid style (interpreter_after p xs) ys u → IsSaid style p (xs ++ ys) (t ++ u)
 said_append style p [] ys t u said next = subst (IsSaid style p ys) (ap (λ x. x ++ u) (sym said)) next
 said_append style p (x ∷ xs) ys t u said next =
-    let r = interpreter_reply p x in
+    let r = shell_reply p x in
     (said.0, said.1 ++ u, said.2, said_append style r.interpreter xs ys said.1 u said.3 next, ap (λ z. z ++ u) said.4 ∙ append_assoc said.0 said.1 u)
 
 bad_append : (p : Interpreter) (xs ys : List (List ℕ)) → bad_count p (xs ++ ys) ≡ bad_count p xs + bad_count (interpreter_after p xs) ys
 bad_append p [] ys = let none : bad_count p ys ≡ 0 + bad_count p ys = omega arith in none
 bad_append p (x ∷ xs) ys =
-    let r = interpreter_reply p x in
+    let r = shell_reply p x in
     let more = bad_append r.interpreter xs ys in
     let b = (if is_some r.bad then 1 else 0) in
     let sum : b + bad_count r.interpreter (xs ++ ys) ≡ (b + bad_count r.interpreter xs) + bad_count (interpreter_after r.interpreter xs) ys = omega (arith, more) in
@@ -53,7 +54,7 @@ bad_append p (x ∷ xs) ys =
 
 after_append : (p : Interpreter) (xs ys : List (List ℕ)) → interpreter_after p (xs ++ ys) ≡ interpreter_after (interpreter_after p xs) ys
 after_append p [] ys = refl
-after_append p (x ∷ xs) ys = after_append (interpreter_reply p x).interpreter xs ys
+after_append p (x ∷ xs) ys = after_append (shell_reply p x).interpreter xs ys
 
 released_interpreter : (b : Bool) (p : Interpreter) (due held : List ℕ)
     → (cond {A = Keeping} b (record { interpreter = p; due = due; held = held }) (record { interpreter = p; due = due ++ held; held = [] })).interpreter ≡ p
@@ -64,7 +65,7 @@ released_interpreter false p due held = refl
 kept_interpreter : (k : Keeping) (ls : List (List ℕ)) → (kept_after k ls).interpreter ≡ interpreter_after k.interpreter ls
 kept_interpreter k [] = refl
 kept_interpreter k (l ∷ ls) =
-    let r = interpreter_reply k.interpreter l in
+    let r = shell_reply k.interpreter l in
     kept_interpreter (kept_line k l) ls ∙ ap (λ p. interpreter_after p ls) (released_interpreter (frame_is_open r.interpreter) r.interpreter k.due (noted k.interpreter l k.held))
 
 -- ---- the reader
@@ -206,14 +207,14 @@ module _ {K : Type 0} (m : Meaning K) (shell : Beginning K) where
       → AddsAnswer shell.style here.pending.keeping.interpreter l here.pending.answers said
       → (so : Come here) → Parts shell.script more ((so.front ++ so.next) ++ l ∷ []) []
       → Come (line_on here more (record { keeping = kept_line here.pending.keeping l; answers = said })
-      (if is_some (interpreter_reply here.pending.keeping.interpreter l).bad then 1 else 0))
+      (if is_some (shell_reply here.pending.keeping.interpreter l).bad then 1 else 0))
   come_line l here more said adds so parted =
       let keeping = here.pending.keeping in
       let next = so.next ++ l ∷ [] in
       let first = shell.first in
       let interpreter = interpreter_now so.front so.next keeping so.reached in
       let all : so.front ++ next ≡ (so.front ++ so.next) ++ l ∷ [] = sym (append_assoc so.front so.next (l ∷ [])) in
-      let bad : ℕ = (if is_some (interpreter_reply keeping.interpreter l).bad then 1 else 0) in
+      let bad : ℕ = (if is_some (shell_reply keeping.interpreter l).bad then 1 else 0) in
       record {
         is_of = so.is_of;
         front = so.front;
@@ -254,7 +255,7 @@ module _ {K : Type 0} (m : Meaning K) (shell : Beginning K) where
       let did = played l [] one in
       let come = come_line l (record here { last = [] }) more next.answers did.1 so (parts_line shell.script here.rest more (so.front ++ so.next) line l one so.parted taken left some) in
       subst (λ n. Come (line_on here more next n)) (sym (is_bad l [] one))
-      (subst (λ k. Come (line_on here more (record { keeping = k; answers = next.answers }) (if is_some (interpreter_reply here.pending.keeping.interpreter l).bad then 1 else 0))) (sym did.0) come)
+      (subst (λ k. Come (line_on here more (record { keeping = k; answers = next.answers }) (if is_some (shell_reply here.pending.keeping.interpreter l).bad then 1 else 0))) (sym did.0) come)
 
   -- one that isn't played
   come_unplayed : (here : Standing K) (more : Option (List ℕ)) (line said : List ℕ)
@@ -516,7 +517,7 @@ released_parts true p due held d h is_due is_held = ap (λ x. record { interpret
 released_parts false p due held d h is_due is_held = ap (λ x. record { interpreter = p; due = x; held = h }) is_due ∙ ap (λ x. record { interpreter = p; due = due ++ held; held = x }) is_held
 
 -- a line that was played and noted, by its parts
-pub noted_line : (k : Keeping) (l : List ℕ) (p : Interpreter) (d h : List ℕ) → p ≡ (interpreter_reply k.interpreter l).interpreter
+pub noted_line : (k : Keeping) (l : List ℕ) (p : Interpreter) (d h : List ℕ) → p ≡ (shell_reply k.interpreter l).interpreter
     → d ≡ (if frame_is_open p then k.due else k.due ++ noted k.interpreter l k.held)
     → h ≡ (if frame_is_open p then noted k.interpreter l k.held else []) → ◌≡◌ {A = Keeping} (record { interpreter = p; due = d; held = h }) (kept_line k l)
 noted_line k l p d h is is_due is_held = released_parts (frame_is_open p) p k.due (noted k.interpreter l k.held) d h is_due is_held ∙ ap (λ q. released q k.due (noted k.interpreter l k.held)) is

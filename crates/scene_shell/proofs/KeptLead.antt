@@ -6,11 +6,12 @@ use Rattle.std.specs.Str.Lines.{lines, lines_of_parts, strip_carriage_return}
 use Rattle.std.proofs.lemmas.List.Elements.{All-append, All-cons, All-nil, All-take}
 use Rattle.std.proofs.lemmas.List.Splits.{slice_split_at, slice_split-cons_no, slice_split-cons_yes}
 use Rattle.std.proofs.lemmas.Grind.{common_steps}
-use Rattle.scene_interpreter.specs.Interpreter.{Interpreter, interpreter_reply}
-use Rattle.scene_interpreter.specs.Changes.{changes, frame_is_open}
-use Rattle.scene_interpreter.proofs.ChangeLaws.{unchanged}
+use Rattle.scene_interpreter.specs.Interpreter.{Interpreter}
+use Rattle.scene_interpreter.specs.Changes.{frame_is_open}
+use Rattle.scene_shell.specs.ShellLine.{shell_changes, shell_reply}
 use Rattle.scene_shell.specs.Shell.{interpreter_after}
 use Rattle.scene_shell.specs.Kept.{Keeping, noted, kept_line, kept_after, starting, kept_of, ended}
+use Rattle.scene_shell.proofs.Requests.{shell_unchanged}
 use Rattle.scene_shell.proofs.Lines.{HasPart, has_part, is_end, line_before}
 
 -- no byte of a line ends a line
@@ -51,7 +52,7 @@ whole_more t l whole line ys =
 
 after_append : (p : Interpreter) (xs ys : List (List ℕ)) → interpreter_after p (xs ++ ys) ≡ interpreter_after (interpreter_after p xs) ys
 after_append p [] ys = refl
-after_append p (x ∷ xs) ys = after_append (interpreter_reply p x).interpreter xs ys
+after_append p (x ∷ xs) ys = after_append (shell_reply p x).interpreter xs ys
 
 -- all that was noted
 abbrev pub all_of : Keeping → List ℕ
@@ -62,10 +63,10 @@ released_all : (b : Bool) (p : Interpreter) (due held : List ℕ)
 released_all true p due held = refl
 released_all false p due held = append-nil (due ++ held)
 
-line_all : (k : Keeping) (l : List ℕ) → all_of (kept_line k l) ≡ all_of k ++ (if changes k.interpreter l then ended l else [])
+line_all : (k : Keeping) (l : List ℕ) → all_of (kept_line k l) ≡ all_of k ++ (if shell_changes k.interpreter l then ended l else [])
 line_all k l =
-    let r = interpreter_reply k.interpreter l in
-    released_all (frame_is_open r.interpreter) r.interpreter k.due (noted k.interpreter l k.held) ∙ sym (append_assoc k.due k.held (if changes k.interpreter l then ended l else []))
+    let r = shell_reply k.interpreter l in
+    released_all (frame_is_open r.interpreter) r.interpreter k.due (noted k.interpreter l k.held) ∙ sym (append_assoc k.due k.held (if shell_changes k.interpreter l then ended l else []))
 
 released_interpreter : (b : Bool) (p : Interpreter) (due held : List ℕ)
     → (cond {A = Keeping} b (record { interpreter = p; due = due; held = held }) (record { interpreter = p; due = due ++ held; held = [] })).interpreter ≡ p
@@ -77,21 +78,21 @@ abbrev Leads : Interpreter → Keeping → Type 0
 Leads first k = IsWhole (all_of k) × (interpreter_after first (lines (all_of k)) ≡ k.interpreter)
 
 module _ (first : Interpreter) where
-  noted_leads : (b : Bool) (k : Keeping) (l : List ℕ) → changes k.interpreter l ≡ b → IsLine l → Leads first k
-      → IsWhole (all_of k ++ (if b then ended l else [])) × (interpreter_after first (lines (all_of k ++ (if b then ended l else []))) ≡ (interpreter_reply k.interpreter l).interpreter)
+  noted_leads : (b : Bool) (k : Keeping) (l : List ℕ) → shell_changes k.interpreter l ≡ b → IsLine l → Leads first k
+      → IsWhole (all_of k ++ (if b then ended l else [])) × (interpreter_after first (lines (all_of k ++ (if b then ended l else []))) ≡ (shell_reply k.interpreter l).interpreter)
   noted_leads true k l is line so = (
     whole_more (all_of k) l so.0 line,
     ap (interpreter_after first) (so.0 (ended l) ∙ ap (λ ls. lines (all_of k) ++ ls) (ap lines (sym (append-nil (ended l))) ∙ ended_first l [] line))
-        ∙ after_append first (lines (all_of k)) (l ∷ []) ∙ ap (λ q. (interpreter_reply q l).interpreter) so.1,
+        ∙ after_append first (lines (all_of k)) (l ∷ []) ∙ ap (λ q. (shell_reply q l).interpreter) so.1,
   )
   noted_leads false k l is line so =
       let none : all_of k ++ [] ≡ all_of k = append-nil (all_of k) in
-      (subst IsWhole (sym none) so.0, ap (λ t. interpreter_after first (lines t)) none ∙ so.1 ∙ sym (unchanged k.interpreter l is))
+      (subst IsWhole (sym none) so.0, ap (λ t. interpreter_after first (lines t)) none ∙ so.1 ∙ sym (shell_unchanged k.interpreter l is))
 
   line_leads : (k : Keeping) (l : List ℕ) → IsLine l → Leads first k → Leads first (kept_line k l)
   line_leads k l line so =
-      let r = interpreter_reply k.interpreter l in
-      let led = noted_leads (changes k.interpreter l) k l refl line so in
+      let r = shell_reply k.interpreter l in
+      let led = noted_leads (shell_changes k.interpreter l) k l refl line so in
       let all = line_all k l in (
         subst IsWhole (sym all) led.0,
         ap (λ t. interpreter_after first (lines t)) all ∙ led.1 ∙ sym (released_interpreter (frame_is_open r.interpreter) r.interpreter k.due (noted k.interpreter l k.held)),
@@ -142,17 +143,17 @@ released_held false p due held is = refl
 held_after : (k : Keeping) (ls : List (List ℕ)) → k.held ≡ [] → frame_is_open (interpreter_after k.interpreter ls) ≡ false → (kept_after k ls).held ≡ []
 held_after k [] none closed = none
 held_after k (l ∷ []) none closed =
-    let r = interpreter_reply k.interpreter l in
+    let r = shell_reply k.interpreter l in
     released_held (frame_is_open r.interpreter) r.interpreter k.due (noted k.interpreter l k.held) closed
 held_after k (l ∷ l₂ ∷ ls) none closed =
-    let r = interpreter_reply k.interpreter l in
+    let r = shell_reply k.interpreter l in
     let next = kept_line k l in
     held_last next l₂ ls (subst (λ p. frame_is_open (interpreter_after p (l₂ ∷ ls)) ≡ false) (sym (released_interpreter (frame_is_open r.interpreter) r.interpreter k.due (noted k.interpreter l k.held))) closed)
   where
     held_last : (j : Keeping) (m : List ℕ) (ms : List (List ℕ)) → frame_is_open (interpreter_after j.interpreter (m ∷ ms)) ≡ false → (kept_after j (m ∷ ms)).held ≡ []
-    held_last j m [] closed = let r = interpreter_reply j.interpreter m in released_held (frame_is_open r.interpreter) r.interpreter j.due (noted j.interpreter m j.held) closed
+    held_last j m [] closed = let r = shell_reply j.interpreter m in released_held (frame_is_open r.interpreter) r.interpreter j.due (noted j.interpreter m j.held) closed
     held_last j m (m₂ ∷ ms) closed =
-        let r = interpreter_reply j.interpreter m in
+        let r = shell_reply j.interpreter m in
         held_last (kept_line j m) m₂ ms (subst (λ p. frame_is_open (interpreter_after p (m₂ ∷ ms)) ≡ false) (sym (released_interpreter (frame_is_open r.interpreter) r.interpreter j.due (noted j.interpreter m j.held))) closed)
 
 -- the law: where no frame is open, the lines that are kept lead to the interpreter that all lines lead to
@@ -168,5 +169,5 @@ kept_lines_lead p text closed =
     kept_interpreter : (j : Keeping) (ls : List (List ℕ)) → (kept_after j ls).interpreter ≡ interpreter_after j.interpreter ls
     kept_interpreter j [] = refl
     kept_interpreter j (l ∷ ls) =
-        let r = interpreter_reply j.interpreter l in
+        let r = shell_reply j.interpreter l in
         kept_interpreter (kept_line j l) ls ∙ ap (λ q. interpreter_after q ls) (released_interpreter (frame_is_open r.interpreter) r.interpreter j.due (noted j.interpreter l j.held))

@@ -1,4 +1,5 @@
 mod Agreement
+mod BadTexts
 mod KeptLaws
 mod KeptLead
 mod LineFaults
@@ -7,4 +8,5 @@ mod Played
 mod RunLaws
 mod SameLists
 mod StoreLaws
+mod Requests
 mod SaidLaws

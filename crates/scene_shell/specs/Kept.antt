@@ -5,13 +5,14 @@ use Rattle.std.specs.Io.{StopsAt}
 use Rattle.std.specs.Io.KnownBytes.{Appends}
 use Rattle.std.specs.Str.Lines.{lines}
 use Rattle.scene_streams.specs.Keep.{Grows}
-use Rattle.scene_interpreter.specs.Interpreter.{Interpreter, interpreter_reply}
-use Rattle.scene_interpreter.specs.Changes.{changes, frame_is_open}
+use Rattle.scene_interpreter.specs.Interpreter.{Interpreter}
+use Rattle.scene_interpreter.specs.Changes.{frame_is_open}
 use Rattle.scene_streams.specs.declared.app_fault.AppFault.{AppFault}
 use Rattle.scene_streams.specs.declared.app_fault.AppFault.TheVariants.{NoMemory, ReadFault, WriteFault, TooLong}
 use Rattle.scene_shell.specs.declared.kept_fault.KeptFault.{KeptFault}
 use Rattle.scene_shell.specs.declared.kept_fault.KeptFault.TheVariants.{Ended, Keep}
 use Rattle.scene_shell.specs.declared.store_writer.StoreWriter.{StoreWriter}
+use Rattle.scene_shell.specs.ShellLine.{shell_changes, shell_reply}
 use Rattle.scene_shell.specs.Shell.{AnswerStyle, HasSaid, IsSaid, Parts, bad_count}
 
 -- the line break behind a line; where the line ends with a carriage return (13), one more stands before the line feed,
@@ -37,11 +38,11 @@ released p due held =
 
 -- a line is noted where it changes the interpreter
 abbrev pub noted : Interpreter → List ℕ → List ℕ → List ℕ
-noted p l held = held ++ (if changes p l then ended l else [])
+noted p l held = held ++ (if shell_changes p l then ended l else [])
 
 -- a line is played and noted
 abbrev pub kept_line : Keeping → List ℕ → Keeping
-kept_line k l = released (interpreter_reply k.interpreter l).interpreter k.due (noted k.interpreter l k.held)
+kept_line k l = released (shell_reply k.interpreter l).interpreter k.due (noted k.interpreter l k.held)
 
 -- lines are played and noted, one after another
 abbrev pub kept_after : Keeping → List (List ℕ) → Keeping

@@ -4,5 +4,6 @@ pub mod Kept
 pub mod Opening
 pub mod Replayed
 pub mod Shell
+pub mod ShellLine
 pub mod StoreShell
 pub mod Waits

@@ -1,7 +1,8 @@
 -- Lines that are played again, and what stops them.
 use Rattle.std.specs.Prelude.{⊤, ◌≡◌, ℕ, ◌+◌, List, ◌∷◌, ◌++◌, Some, None, Result, Ok, Err, length}
-use Rattle.scene_interpreter.specs.Interpreter.{Interpreter, halted, interpreter_reply}
-use Rattle.scene_script.specs.declared.bad_line.BadLine.{BadLine}
+use Rattle.scene_interpreter.specs.Interpreter.{Interpreter, halted}
+use Rattle.scene_shell.specs.declared.bad_shell_line.BadShellLine.{BadShellLine}
+use Rattle.scene_shell.specs.ShellLine.{shell_reply}
 use Rattle.scene_shell.specs.Shell.{bad_count, interpreter_after}
 use Rattle.scene_shell.specs.declared.line_fault.KeptLineFault.{KeptLineFault}
 use Rattle.scene_shell.specs.declared.line_fault.KeptLineFault.TheVariants.{Bad, Halted}
@@ -22,8 +23,8 @@ pub record StopsAt (first : Interpreter) (ls : List (List ℕ)) (number : ℕ) (
   pub holds : Holds (interpreter_after first front) line
 
 -- the first bad line of these is that of this number, for this reason
-abbrev pub IsFirstBad : Interpreter → List (List ℕ) → ℕ → BadLine → Type 0
-IsFirstBad first ls number reason = StopsAt first ls number (λ p l. (interpreter_reply p l).bad ≡ Some reason)
+abbrev pub IsFirstBad : Interpreter → List (List ℕ) → ℕ → BadShellLine → Type 0
+IsFirstBad first ls number reason = StopsAt first ls number (λ p l. (shell_reply p l).bad ≡ Some reason)
 
 -- where a fault names a bad line, that is the first one
 abbrev pub NamesFirst : Interpreter → List (List ℕ) → KeptLineFault → Type 0
@@ -34,14 +35,14 @@ NamesFirst first ls fault = ⊤
 -- memory was found for a line, behind lines of which none is bad
 abbrev pub StopsBy : (first left : Interpreter) → List (List ℕ) → KeptLineFault → Type 0
 StopsBy first left ls (Bad number reason) =
-    StopsAt first ls number (λ p l. ((interpreter_reply p l).bad ≡ Some reason) × (left ≡ (interpreter_reply p l).interpreter))
-StopsBy first left ls (Halted number halt) = StopsAt first ls number (λ p l. left ≡ halted halt p (interpreter_reply p l).interpreter)
+    StopsAt first ls number (λ p l. ((shell_reply p l).bad ≡ Some reason) × (left ≡ (shell_reply p l).interpreter))
+StopsBy first left ls (Halted number halt) = StopsAt first ls number (λ p l. left ≡ halted halt p (shell_reply p l).interpreter)
 StopsBy first left ls fault = ⊥
 
 -- how a line of a number was played: it isn't bad; or it is, for this reason; or no memory was found for it
 abbrev pub IsPlayedAs : (old new : Interpreter) → ℕ → List ℕ → Result (Unit {0}) KeptLineFault → Type 0
-IsPlayedAs old new number line (Ok p) = (new ≡ (interpreter_reply old line).interpreter) × ((interpreter_reply old line).bad ≡ None)
+IsPlayedAs old new number line (Ok p) = (new ≡ (shell_reply old line).interpreter) × ((shell_reply old line).bad ≡ None)
 IsPlayedAs old new number line (Err (Bad n reason)) =
-    (n ≡ number) × ((interpreter_reply old line).bad ≡ Some reason) × (new ≡ (interpreter_reply old line).interpreter)
-IsPlayedAs old new number line (Err (Halted n halt)) = (n ≡ number) × (new ≡ halted halt old (interpreter_reply old line).interpreter)
+    (n ≡ number) × ((shell_reply old line).bad ≡ Some reason) × (new ≡ (shell_reply old line).interpreter)
+IsPlayedAs old new number line (Err (Halted n halt)) = (n ≡ number) × (new ≡ halted halt old (shell_reply old line).interpreter)
 IsPlayedAs old new number line (Err fault) = ⊥

@@ -1,20 +1,21 @@
 -- What a shell says to the lines that it is given.
-use Rattle.std.specs.Prelude.{◌≡◌, ℕ, ◌+◌, ◌^◌, ◌≤◌, List, [], ◌∷◌, ◌++◌, ⊤, Bool, true, false, Option, Some, None, IfSome, Result, Ok, Err, is_some, if◌then◌else◌, codes, length}
+use Rattle.std.specs.Prelude.{◌≡◌, ℕ, ◌+◌, ◌^◌, ◌≤◌, List, [], ◌∷◌, ◌++◌, ⊤, Bool, false, Option, Some, None, IfSome, Result, Ok, Err, is_some, if◌then◌else◌, codes, length}
 use Rattle.std.specs.Io.{StopsAt}
 use Rattle.std.specs.Io.KnownBytes.{Appends}
+use Rattle.std.specs.List.{AllByRecursion}
 use Rattle.std.specs.Str.Lines.{lines}
-use Rattle.scene_interpreter.specs.JsonLine.{IsAnsweredAsJson}
+use Rattle.scene_requests.specs.Request.{is_request}
 use Rattle.scene_interpreter.specs.Interpreter.{Interpreter, interpreter_reply}
 use Rattle.scene_streams.specs.declared.app_fault.AppFault.{AppFault}
 use Rattle.scene_streams.specs.declared.app_fault.AppFault.TheVariants.{NoMemory, ReadFault, WriteFault, TooLong}
 pub use Rattle.scene_shell.specs.declared.style.AnswerStyle.{AnswerStyle}
+use Rattle.scene_shell.specs.ShellLine.{IsAnswerBy, shell_reply}
 
 -- ---- one line
 
--- an answer to a line is what a script prints, or it is JSON
+-- an answer to a line: that of a script, or JSON; a request is answered as JSON in any case
 abbrev pub IsAnswer : (is_json : Bool) → Interpreter → List ℕ → List ℕ → Type 0
-IsAnswer false p l text = text ≡ (interpreter_reply p l).text
-IsAnswer true p l text = IsAnsweredAsJson [] text p (interpreter_reply p l).interpreter l (interpreter_reply p l).bad
+IsAnswer is_json p l text = IsAnswerBy (is_request l) is_json p l text
 
 -- an answer as it is sent; a frame ends with an empty line
 abbrev pub IsSent : AnswerStyle → Interpreter → List ℕ → List ℕ → Type 0
@@ -30,12 +31,12 @@ AddsAnswer style p l old new = (sent : List ℕ) × IsSent style p l sent × (ne
 -- the interpreter after lines
 abbrev pub interpreter_after : Interpreter → List (List ℕ) → Interpreter
 interpreter_after p [] = p
-interpreter_after p (l ∷ ls) = interpreter_after (interpreter_reply p l).interpreter ls
+interpreter_after p (l ∷ ls) = interpreter_after (shell_reply p l).interpreter ls
 
 -- how many of the lines are bad
 abbrev pub bad_count : Interpreter → List (List ℕ) → ℕ
 bad_count p [] = 0
-bad_count p (l ∷ ls) = (if is_some (interpreter_reply p l).bad then 1 else 0) + bad_count (interpreter_reply p l).interpreter ls
+bad_count p (l ∷ ls) = (if is_some (shell_reply p l).bad then 1 else 0) + bad_count (shell_reply p l).interpreter ls
 
 -- answers as a script has them
 abbrev pub plain_style : AnswerStyle
@@ -45,10 +46,14 @@ plain_style = record { is_json = false; is_framed = false }
 abbrev pub IsSaid : AnswerStyle → Interpreter → List (List ℕ) → List ℕ → Type 0
 IsSaid style p [] text = text ≡ []
 IsSaid style p (l ∷ ls) text =
-    (first : List ℕ) × (others : List ℕ) × IsSent style p l first × IsSaid style (interpreter_reply p l).interpreter ls others
+    (first : List ℕ) × (others : List ℕ) × IsSent style p l first × IsSaid style (shell_reply p l).interpreter ls others
     × (text ≡ first ++ others)
 
--- the same in the plain style
+-- none of the lines is a request
+abbrev pub NoRequests : List (List ℕ) → Type 0
+NoRequests ls = AllByRecursion (λ l. is_request l ≡ false) ls
+
+-- the same in the plain style, where none is
 abbrev pub said_of : Interpreter → List (List ℕ) → List ℕ
 said_of p [] = []
 said_of p (l ∷ ls) = (interpreter_reply p l).text ++ said_of (interpreter_reply p l).interpreter ls

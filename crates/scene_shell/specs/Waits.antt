@@ -3,7 +3,7 @@ use Rattle.std.specs.Prelude.{Result, Ok, Err, ◌≡◌, is_some, ℕ, ◌+◌,
 use Rattle.std.specs.Io.{StopsAt}
 use Rattle.std.specs.Io.KnownBytes.{Appends, Keeps}
 use Rattle.std.specs.Str.Lines.{lines}
-use Rattle.scene_interpreter.specs.Interpreter.{Interpreter, LoneCode, interpreter_of, interpreter_reply}
+use Rattle.scene_interpreter.specs.Interpreter.{Interpreter, LoneCode, interpreter_of}
 use Rattle.scene_streams.specs.declared.app_fault.AppFault.{AppFault}
 use Rattle.scene_streams.specs.declared.app_fault.AppFault.TheVariants.{NoMemory, ReadFault, WriteFault, TooLong}
 use Rattle.scene_shell.specs.declared.kept_fault.KeptFault.{KeptFault}
@@ -11,6 +11,7 @@ use Rattle.scene_shell.specs.declared.kept_fault.KeptFault.TheVariants.{Ended, K
 use Rattle.scene_shell.specs.declared.waiting.Waiting.{Waiting}
 use Rattle.scene_streams.specs.Keep.{Grows}
 use Rattle.scene_shell.specs.Kept.{Beginning, Continues, EndsAs, Keeping, Meaning, MaySend, behind, kept_after, kept_line, kept_of, starting}
+use Rattle.scene_shell.specs.ShellLine.{shell_reply}
 use Rattle.scene_shell.specs.Shell.{AddsAnswer, AnswerStyle, IsSaid, Parts, bad_count, interpreter_after}
 
 -- an interpreter, with the lines that wait
@@ -86,7 +87,7 @@ IsPlayed style line old new = (l : List ℕ) (others : List (List ℕ)) → line
 -- and it is known whether it is bad
 abbrev pub IsBad : List ℕ → Interpreter → ℕ → Type 0
 IsBad line p bad = (l : List ℕ) (others : List (List ℕ)) → lines line ≡ l ∷ others
-    → bad ≡ (if is_some (interpreter_reply p l).bad then 1 else 0)
+    → bad ≡ (if is_some (shell_reply p l).bad then 1 else 0)
 
 -- ---- while it waits for its last settling
 

@@ -1,9 +1,9 @@
 //! The shell: lines are answered one by one, each before the next one is waited for.
 //!
-//! What a line does and answers is scene_interpreter's. Here the lines of a reader are given to an interpreter, and its
-//! answers to a writer, each as soon as it is there; `IsSaid` in `specs/Shell.antt` says what is written, and
-//! `a_shell_says_what_a_run_says` that without JSON and frames it is what `scene run` prints for the same lines
-//! (docs/SHELL.md).
+//! What a line does and answers is scene_interpreter's, and which line a request stands for scene_requests'. Here the
+//! lines of a reader are given to an interpreter, and its answers to a writer, each as soon as it is there; `IsSaid` in
+//! `specs/Shell.antt` says what is written, and `a_shell_says_what_a_run_says` that without requests, JSON and frames it
+//! is what `scene run` prints for the same lines (docs/SHELL.md).
 //!
 //! `run_kept_shell` does the same on a `KeptWriter`, which also keeps the lines that change the interpreter, as a store
 //! does, and writes an answer only behind them. `specs/Kept.antt` says which lines, and
@@ -15,6 +15,7 @@
 
 mod agree;
 mod asked;
+mod bad_shell_line;
 mod compact;
 mod keep;
 mod kept_fault;
@@ -25,6 +26,7 @@ mod line_fault;
 mod log;
 mod opening;
 mod play_again;
+mod request_line;
 mod run_law;
 mod same;
 mod shell;
@@ -37,6 +39,7 @@ mod unkept;
 mod waiting;
 
 pub use asked::show_lines;
+pub use bad_shell_line::BadShellLine;
 pub use compact::compacted;
 pub use keep::KeptWriter;
 pub use kept_fault::KeptFault;

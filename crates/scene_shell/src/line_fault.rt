@@ -1,6 +1,6 @@
 //! Why kept lines weren't played, and why none were put in their place.
+use crate::bad_shell_line::BadShellLine;
 use scene_interpreter::Halt;
-use scene_script::BadLine;
 use thiserror::Error;
 
 /// Why kept lines weren't played to their end (docs/MODEL.md, "Faults"). A number is that of the line that stopped it,
@@ -9,7 +9,7 @@ use thiserror::Error;
 pub enum KeptLineFault {
     /// A line is bad, which none was when it was kept.
     #[error("fault 67 StoredLineBad {0}: {1}")]
-    Bad(u64, BadLine),
+    Bad(u64, BadShellLine),
     /// No memory was found for a line.
     #[error("fault 20 NoMemory {0}: {1}")]
     Halted(u64, Halt),

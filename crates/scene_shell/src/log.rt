@@ -1,7 +1,9 @@
 //! What lines that are kept have done.
 use crate::line_fault::KeptLineFault;
+use crate::request_line::shell_line_said;
 use scene_interpreter::{Halt, Interpreter, InterpreterSettings, LineAnswer};
-use scene_script::{Line, SessionNumber, first_line, read_line};
+use scene_requests::is_request;
+use scene_script::{Line, SessionNumber, first_line};
 use scene_session::{LoneOwner, Reply, ThisThread};
 use std::alloc::{AllocError, Global};
 use std::fmt;
@@ -93,10 +95,26 @@ impl Log {
         }
     }
 
+    /// Plays a line, a request or not, and gives its answer. That of a bad request is none.
+    fn answer_to(
+        &self,
+        interpreter: &mut Interpreter<LoneOwner>,
+        line: &[u8],
+    ) -> Result<LineAnswer, Halt> {
+        if !is_request(line) {
+            return interpreter.play(&ThisThread, line);
+        }
+        match shell_line_said(self.alloc, interpreter.schema(), line) {
+            Ok(Some(said)) => interpreter.play_said(&ThisThread, Ok(said)),
+            Ok(None) => Ok(LineAnswer::Nothing),
+            Err(AllocError) => Err(Halt::Before),
+        }
+    }
+
     /// Plays a line, counts its answer, and puts it in the place of the one before.
     fn play(&mut self, interpreter: &mut Interpreter<LoneOwner>, line: &[u8]) -> Result<(), Halt> {
         self.answer.clear();
-        let answer = interpreter.play(&ThisThread, line)?;
+        let answer = self.answer_to(interpreter, line)?;
         self.counts.count(&answer);
         match answer.write_text(self.alloc, interpreter.schema(), &mut self.answer) {
             Ok(()) => Ok(()),
@@ -142,8 +160,10 @@ impl Log {
         if self.write_entry(number, line).is_err() {
             return Err(KeptLineFault::Halted(number, Halt::After));
         }
-        if let Ok(said) = read_line(self.alloc, interpreter.schema(), line) {
-            self.turn(&said);
+        match shell_line_said(self.alloc, interpreter.schema(), line) {
+            Ok(Some(said)) => self.turn(&said),
+            Ok(None) => {}
+            Err(AllocError) => return Err(KeptLineFault::Halted(number, Halt::After)),
         }
         Ok(())
     }

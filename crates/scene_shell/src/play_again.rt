@@ -1,13 +1,17 @@
 //! Lines that are played again.
 ghost use Rattle.std.specs.Prelude.{◌≡◌, ℕ, Some, length, IfErr, IfOk, MatchOption, OnOk};
 ghost use Rattle.std.specs.Str.Lines.{lines};
-ghost use Rattle.scene_interpreter.specs.Interpreter.{halted, interpreter_of, interpreter_reply};
+ghost use Rattle.scene_interpreter.specs.Interpreter.{halted, interpreter_of};
+ghost use Rattle.scene_shell.specs.ShellLine.{shell_reply};
 ghost use Rattle.scene_shell.specs.Shell.{interpreter_after};
 ghost use Rattle.scene_shell.specs.Replayed.{IsPlayedAs, NoneIsBad, StopsBy};
 
+use crate::bad_shell_line::BadShellLine;
 use crate::line_fault::KeptLineFault;
+use crate::request_line::{of_line, play_request};
 use scene_interpreter::{Halt, Interpreter};
 use scene_kinds::Schema;
+use scene_requests::is_request;
 use scene_script::first_line;
 use scene_session::{LoneOwner, Performer};
 use std::alloc::{AllocError, Global};
@@ -28,7 +32,31 @@ impl Note for Unnoted {
     }
 }
 
-/// Notes a line, plays it, and puts its answer in the place of the one before.
+/// Plays a line, a request or not. The answer to a line of a script is put in the place of the one before.
+#[tactic(auto, using(crate::proofs::Requests::requests))]
+fn play_any<P: Performer<LoneOwner>>(
+    performer: &P,
+    alloc: Global,
+    interpreter: &mut Interpreter<LoneOwner>,
+    line: &[u8],
+    answer: &mut String,
+) -> Result<Option<BadShellLine>, Halt>
+    ensures interpreter { OnOk result (interpreter_of interpreter.new ≡ (shell_reply (interpreter_of interpreter.old) line.now).interpreter) }
+    ensures bad { IfOk result (λ bad. bad ≡ (shell_reply (interpreter_of interpreter.old) line.now).bad) }
+    ensures halted { IfErr result (λ h. interpreter_of interpreter.new
+        ≡ halted h (interpreter_of interpreter.old) (shell_reply (interpreter_of interpreter.old) line.now).interpreter) }
+{
+    if is_request(line) {
+        return play_request(performer, alloc, interpreter, line);
+    }
+    answer.clear();
+    match interpreter.line(performer, line, answer) {
+        Ok(bad) => Ok(of_line(bad)),
+        Err(halt) => Err(halt),
+    }
+}
+
+/// Notes a line, and plays it.
 fn play_kept_line<P: Performer<LoneOwner>, N: Note>(
     performer: &P,
     alloc: Global,
@@ -43,8 +71,7 @@ fn play_kept_line<P: Performer<LoneOwner>, N: Note>(
     if notes.note(alloc, interpreter.schema(), line).is_err() {
         return Err(KeptLineFault::Halted(number, Halt::Before));
     }
-    answer.clear();
-    match interpreter.line(performer, line, answer) {
+    match play_any(performer, alloc, interpreter, line, answer) {
         Ok(None) => Ok(()),
         Ok(Some(reason)) => Err(KeptLineFault::Bad(number, reason)),
         Err(halt) => Err(KeptLineFault::Halted(number, halt)),

@@ -6,13 +6,13 @@ ghost use Rattle.std.specs.Io.BufRead.{DropsThrough, take_through};
 ghost use Rattle.scene_streams.specs.declared.app_fault.AppFault.TheVariants.{WriteFault};
 ghost use Rattle.scene_shell.specs.Waits.{IsUnread};
 
+use crate::bad_shell_line::BadShellLine;
 use scene_interpreter::Halt;
-use scene_script::BadLine;
 use scene_streams::AppFault;
 use std::io::{BufRead, ErrorKind, Write};
 
 /// Says on a stream of errors why a line is bad. A stream that can't be written changes nothing.
-pub(crate) fn tell_bad<E: Write>(errors: &mut E, number: u64, reason: &BadLine) {
+pub(crate) fn tell_bad<E: Write>(errors: &mut E, number: u64, reason: &BadShellLine) {
     let _told = writeln!(errors, "scene: line {number}: {reason}");
 }
 

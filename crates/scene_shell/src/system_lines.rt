@@ -1,8 +1,9 @@
 //! The lines of systems among others.
 use crate::play_again::Note;
 use crate::push_kept_line;
+use crate::request_line::shell_line_said;
 use scene_kinds::Schema;
-use scene_script::{Line, LineError, read_line};
+use scene_script::Line;
 use std::alloc::{AllocError, Global};
 
 /// The lines that give the systems, from the last `clear` on, as a store keeps them.
@@ -22,14 +23,13 @@ impl SystemLines {
 
 impl Note for SystemLines {
     fn note(&mut self, alloc: Global, schema: &Schema, line: &[u8]) -> Result<(), AllocError> {
-        match read_line(alloc, schema, line) {
-            Ok(Line::Phase | Line::System(_)) => push_kept_line(&mut self.lines, line),
-            Ok(Line::Clear) => {
+        match shell_line_said(alloc, schema, line)? {
+            Some(Line::Phase | Line::System(_)) => push_kept_line(&mut self.lines, line),
+            Some(Line::Clear) => {
                 self.lines.clear();
                 Ok(())
             }
-            Ok(_) | Err(LineError::Bad(_)) => Ok(()),
-            Err(LineError::NoMemory) => Err(AllocError),
+            Some(_) | None => Ok(()),
         }
     }
 }

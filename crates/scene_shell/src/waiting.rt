@@ -3,17 +3,21 @@ ghost use Rattle.std.specs.Prelude.{◌≡◌, ◌++◌, ◌<◌, ◌≤◌, [],
 ghost use Rattle.std.specs.Io.KnownBytes.{Appends, Keeps};
 ghost use Rattle.scene_streams.specs.declared.app_fault.AppFault.TheVariants.{NoMemory, WriteFault};
 ghost use Rattle.scene_interpreter.specs.Interpreter.{interpreter_of, interpreter_reply};
+ghost use Rattle.scene_shell.specs.ShellLine.{IsLineAnswer, shell_changes, shell_reply};
 ghost use Rattle.scene_streams.specs.Keep.{Grows, StaysKept};
 ghost use Rattle.scene_shell.specs.Kept.{Beginning, Continues, MaySend, ended, kept_line};
 ghost use Rattle.scene_shell.specs.Waits.{FailsToSettle, HasCome, IsBad, IsPlayed, MaySettle, Standing, keeping_of, pending_of, stands_with};
 ghost use Rattle.scene_shell.specs.Shell.{AddsAnswer, IsAnswer, IsSent};
 
+use crate::bad_shell_line::BadShellLine;
 use crate::keep::KeptWriter;
 use crate::kept_fault::KeptFault;
 use crate::kept_line::push_kept_line;
+use crate::request_line::{answer_request, of_line, request_changes};
 use crate::streams::{tell_bad, tell_halt};
 use crate::style::AnswerStyle;
 use scene_interpreter::{Halt, Interpreter};
+use scene_requests::is_request;
 use scene_script::{BadLine, first_line};
 use scene_session::{LoneOwner, Performer};
 use scene_streams::AppFault;
@@ -26,6 +30,7 @@ const MOST_WAITING: usize = 65_536;
 /// What waits: lines that are to be kept, and the answers that may be sent only then.
 #[derive(Drop)]
 pub(crate) struct Waiting {
+    alloc: Global,
     /// The lines that are due, which no open frame holds back.
     pub(crate) due: Vec<u8>,
     /// The lines of the open frame.
@@ -36,7 +41,7 @@ pub(crate) struct Waiting {
     answer: String,
 }
 
-/// Plays a line, and puts its answer in the place of the one before. It gives why the line is bad, where it is.
+/// Plays a line of a script, and adds its answer. It gives why the line is bad, where it is.
 #[tactic(auto, using(crate::proofs::SaidLaws::is_json_answer))]
 fn answer_alone<P: Performer<LoneOwner>>(
     performer: &P,
@@ -45,11 +50,11 @@ fn answer_alone<P: Performer<LoneOwner>>(
     line: &[u8],
     answer: &mut String,
 ) -> Result<Option<BadLine>, Halt>
-    ensures answer { OnOk result (IsAnswer is_json (interpreter_of interpreter.old) line.now (string_bytes answer.new)) }
+    requires { string_bytes answer.old ≡ [] }
+    ensures answer { OnOk result (IsLineAnswer is_json (interpreter_of interpreter.old) line.now (string_bytes answer.new)) }
     ensures interpreter { OnOk result (interpreter_of interpreter.new ≡ (interpreter_reply (interpreter_of interpreter.old) line.now).interpreter) }
     ensures bad { IfOk result (λ bad. bad ≡ (interpreter_reply (interpreter_of interpreter.old) line.now).bad) }
 {
-    answer.clear();
     if is_json {
         interpreter.line_json(performer, line, answer)
     } else {
@@ -57,19 +62,61 @@ fn answer_alone<P: Performer<LoneOwner>>(
     }
 }
 
-/// The same, as the answer is sent.
+/// Plays a line, a request or not, and puts its answer in the place of the one before. It gives why the line is bad,
+/// where it is.
+#[tactic(auto, using(crate::proofs::Requests::requests))]
+fn answer_any<P: Performer<LoneOwner>>(
+    performer: &P,
+    alloc: Global,
+    interpreter: &mut Interpreter<LoneOwner>,
+    is_json: bool,
+    line: &[u8],
+    answer: &mut String,
+) -> Result<Option<BadShellLine>, Halt>
+    ensures answer { OnOk result (IsAnswer is_json (interpreter_of interpreter.old) line.now (string_bytes answer.new)) }
+    ensures interpreter { OnOk result (interpreter_of interpreter.new ≡ (shell_reply (interpreter_of interpreter.old) line.now).interpreter) }
+    ensures bad { IfOk result (λ bad. bad ≡ (shell_reply (interpreter_of interpreter.old) line.now).bad) }
+{
+    answer.clear();
+    if is_request(line) {
+        return answer_request(performer, alloc, interpreter, line, answer);
+    }
+    match answer_alone(performer, interpreter, is_json, line, answer) {
+        Ok(bad) => Ok(of_line(bad)),
+        Err(halt) => Err(halt),
+    }
+}
+
+/// Whether a line, a request or not, may change the interpreter.
+#[tactic(auto, using(crate::proofs::Requests::requests))]
+fn line_changes(
+    alloc: Global,
+    interpreter: &Interpreter<LoneOwner>,
+    line: &[u8],
+) -> Result<bool, AllocError>
+    ensures { IfOk result (λ b. b ≡ shell_changes (interpreter_of interpreter.now) line.now) }
+{
+    if is_request(line) {
+        return request_changes(alloc, interpreter, line);
+    }
+    interpreter.changes(line)
+}
+
+/// Plays a line, and puts its answer, as it is sent, in the place of the one before. It gives why the line is bad, where
+/// it is.
 fn answer_line<P: Performer<LoneOwner>>(
     performer: &P,
+    alloc: Global,
     interpreter: &mut Interpreter<LoneOwner>,
     style: AnswerStyle,
     line: &[u8],
     answer: &mut String,
-) -> Result<Option<BadLine>, Halt>
+) -> Result<Option<BadShellLine>, Halt>
     ensures answer { OnOk result (IsSent style (interpreter_of interpreter.old) line.now (string_bytes answer.new)) }
-    ensures interpreter { OnOk result (interpreter_of interpreter.new ≡ (interpreter_reply (interpreter_of interpreter.old) line.now).interpreter) }
-    ensures bad { IfOk result (λ bad. bad ≡ (interpreter_reply (interpreter_of interpreter.old) line.now).bad) }
+    ensures interpreter { OnOk result (interpreter_of interpreter.new ≡ (shell_reply (interpreter_of interpreter.old) line.now).interpreter) }
+    ensures bad { IfOk result (λ bad. bad ≡ (shell_reply (interpreter_of interpreter.old) line.now).bad) }
 {
-    let bad = answer_alone(performer, interpreter, style.is_json, line, answer)?;
+    let bad = answer_any(performer, alloc, interpreter, style.is_json, line, answer)?;
     if style.is_framed && answer.push('\n').is_err() {
         return Err(Halt::After);
     }
@@ -84,6 +131,7 @@ impl Waiting {
         ensures answers { result.answers.items ≡ [] }
     {
         Waiting {
+            alloc,
             due: Vec::new(alloc),
             held: Vec::new(alloc),
             answers: Vec::new(alloc),
@@ -135,19 +183,26 @@ impl Waiting {
         interpreter: &mut Interpreter<LoneOwner>,
         style: AnswerStyle,
         line: &[u8],
-    ) -> Result<Option<BadLine>, Halt>
+    ) -> Result<Option<BadShellLine>, Halt>
         ensures kept { OnOk result (keeping_of interpreter.new self.new
             ≡ kept_line (keeping_of interpreter.old self.old) line.now) }
         ensures answer { OnOk result (AddsAnswer style (interpreter_of interpreter.old) line.now
             self.old.answers.items self.new.answers.items) }
-        ensures bad { IfOk result (λ bad. bad ≡ (interpreter_reply (interpreter_of interpreter.old) line.now).bad) }
+        ensures bad { IfOk result (λ bad. bad ≡ (shell_reply (interpreter_of interpreter.old) line.now).bad) }
         ensures due { OnErr result (self.new.due.items ≡ self.old.due.items) }
         ensures unsaid { OnErr result (self.new.answers.items ≡ self.old.answers.items) }
     {
-        let Ok(is_changed) = interpreter.changes(line) else {
+        let Ok(is_changed) = line_changes(self.alloc, &*interpreter, line) else {
             return Err(Halt::Before);
         };
-        let bad = answer_line(performer, interpreter, style, line, &mut self.answer)?;
+        let bad = answer_line(
+            performer,
+            self.alloc,
+            interpreter,
+            style,
+            line,
+            &mut self.answer,
+        )?;
         let before = self.answers.len();
         if self
             .answers

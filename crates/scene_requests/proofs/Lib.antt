@@ -1,0 +1,4 @@
+pub mod CellLists
+pub mod KindNames
+pub mod SameLists
+pub mod Walked

@@ -1,0 +1,78 @@
+-- A line of a shell: a request, or a line of a script (docs/SHELL.md, "Requests").
+use Rattle.std.specs.Prelude.{◌≡◌, ℕ, List, [], ◌∷◌, Bool, true, false, Option, Some, option_map, Result, Ok, Err, if◌then◌else◌, codes}
+use Rattle.serde_json.specs.Data.{Data, string}
+use Rattle.scene_print.specs.JsonObjects.{answer_of}
+use Rattle.scene_script.specs.declared.script_line.Line.{Line}
+use Rattle.scene_requests.specs.declared.bad_request.BadRequest.{BadRequest}
+use Rattle.scene_requests.specs.declared.bad_request.BadRequest.TheVariants.{NotJson, TooLong, UnknownKey, BadField}
+use Rattle.scene_requests.specs.Request.{is_request, request_in}
+use Rattle.scene_interpreter.specs.Changes.{changes, said_changes}
+use Rattle.scene_interpreter.specs.Interpreter.{Interpreter, LineReply, interpreter_kinds, interpreter_reply, interpreter_said}
+use Rattle.scene_interpreter.specs.JsonAnswer.{bad_json, json_line}
+use Rattle.scene_interpreter.specs.JsonLine.{IsAnsweredAsJson, IsSaidAsJson}
+use Rattle.scene_shell.specs.declared.bad_shell_line.BadShellLine.{BadShellLine}
+use Rattle.scene_shell.specs.declared.bad_shell_line.BadShellLine.TheVariants as why
+
+-- ---- the reply
+
+-- why a line is bad, where it is, and the interpreter after it
+pub record ShellReply : Type 0 where
+  pub bad : Option BadShellLine
+  pub interpreter : Interpreter
+
+-- those of a line of a script
+abbrev pub of_line : LineReply → ShellReply
+of_line r = record { bad = option_map why.Line r.bad; interpreter = r.interpreter }
+
+-- those of a request, by the line that it stands for; a bad one changes nothing
+abbrev pub of_request : Interpreter → Result Line BadRequest → ShellReply
+of_request p (Ok line) = of_line (interpreter_said p (Ok line))
+of_request p (Err reason) = record { bad = Some (why.Request reason); interpreter = p }
+
+-- those of a line of a shell, by its bytes
+abbrev pub shell_reply : Interpreter → List ℕ → ShellReply
+shell_reply p l = if is_request l then of_request p (request_in (interpreter_kinds p) l) else of_line (interpreter_reply p l)
+
+-- ---- which lines may change an interpreter
+
+-- a request as the line that it stands for
+abbrev pub request_changes : Interpreter → Result Line BadRequest → Bool
+request_changes p (Ok line) = said_changes p (Ok line)
+request_changes p (Err reason) = false
+
+-- whether a line may, by its bytes
+abbrev pub shell_changes : Interpreter → List ℕ → Bool
+shell_changes p l = if is_request l then request_changes p (request_in (interpreter_kinds p) l) else changes p l
+
+-- ---- the answer
+
+-- a request that is bad at a path, in words that say why
+abbrev pub bad_at_json : (words path : List ℕ) → Data
+bad_at_json words path = answer_of (codes "bad") ((codes "reason", string words) ∷ (codes "path", string path) ∷ [])
+
+-- a bad request, in words that say why, with the path of the first part that has no form, where there is such a part
+abbrev pub bad_request_json : List ℕ → BadRequest → Data
+bad_request_json words NotJson = bad_json words
+bad_request_json words TooLong = bad_json words
+bad_request_json words (UnknownKey path) = bad_at_json words path
+bad_request_json words (BadField path) = bad_at_json words path
+
+-- the answer to a bad request: some words, and its path
+abbrev pub IsBadAnswer : BadRequest → List ℕ → Type 0
+IsBadAnswer reason text = (words : List ℕ) × (text ≡ json_line (bad_request_json words reason))
+
+-- the answer to a request: that of the line that it stands for, as JSON; or why it is bad
+abbrev pub IsRequestAnswer : Interpreter → Result Line BadRequest → List ℕ → Type 0
+IsRequestAnswer p (Ok line) text =
+    IsSaidAsJson [] text p (interpreter_said p (Ok line)).interpreter (Ok line) (interpreter_said p (Ok line)).bad
+IsRequestAnswer p (Err reason) text = IsBadAnswer reason text
+
+-- the answer to a line of a script is what a script prints, or it is JSON
+abbrev pub IsLineAnswer : (is_json : Bool) → Interpreter → List ℕ → List ℕ → Type 0
+IsLineAnswer false p l text = text ≡ (interpreter_reply p l).text
+IsLineAnswer true p l text = IsAnsweredAsJson [] text p (interpreter_reply p l).interpreter l (interpreter_reply p l).bad
+
+-- by whether a line is a request, which is answered as JSON in any case
+abbrev pub IsAnswerBy : (request is_json : Bool) → Interpreter → List ℕ → List ℕ → Type 0
+IsAnswerBy true is_json p l text = IsRequestAnswer p (request_in (interpreter_kinds p) l) text
+IsAnswerBy false is_json p l text = IsLineAnswer is_json p l text
