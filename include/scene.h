@@ -35,7 +35,7 @@ typedef struct scene scene;
  * that of the library. */
 #define SCENE_VERSION 200
 
-/* What a call came to. But for SCENE_DONE and SCENE_UNTOLD nothing was done. */
+/* What a call came to. But for SCENE_DONE and SCENE_UNTOLD nothing was done, other than scene_undo_by says. */
 typedef enum scene_code {
     SCENE_DONE = 0,      /* done; or a question, answered */
     SCENE_NO_MEMORY = 1, /* memory was wanting; where the call would have ended the setup, the setup may be over */
@@ -53,7 +53,8 @@ typedef enum scene_shape {
     SCENE_INT = 1,  /* x */
     SCENE_VEC3 = 2, /* x, y and z */
     SCENE_TEXT = 3, /* none: the text comes apart */
-    SCENE_LINK = 4  /* x is the index of an entity, y its generation */
+    SCENE_LINK = 4, /* x is the index of an entity, y its generation */
+    SCENE_ABSENT = 5 /* of scene_gather alone: there is no such component */
 } scene_shape;
 
 /* An entity. Its generation is 1 or more, and an index that is used again has a greater one: so an old entity never
@@ -158,6 +159,13 @@ scene_code scene_drop_frame(scene **s);
 scene_code scene_undo(scene **s);
 scene_code scene_redo(scene **s);
 
+/* The same of the `count` newest frames, one after another, where there are so many, as a drag is one step for a user:
+ * SCENE_REFUSED where there are fewer, and none is taken back or done. Each is a call as scene_undo makes one. Where
+ * memory was wanting (SCENE_NO_MEMORY), or a line `calls` has set a limit of calls that is reached (SCENE_REFUSED,
+ * fault 17), those before are done: scene_status says how many are left. They end the setup. */
+scene_code scene_undo_by(scene **s, size_t count);
+scene_code scene_redo_by(scene **s, size_t count);
+
 /* ---- commands: put into the open frame, or, where none is open, a frame each */
 
 /* Gives the next spawn a component. They are gone with that spawn, whatever becomes of it. In each call that takes a
@@ -207,8 +215,9 @@ scene_code scene_named(scene **s, size_t at, scene_name *out);
 scene_code scene_refused(scene **s, scene_refusal *out);
 
 /* ---- reading a scene as it is: these calls change nothing, neither the scene nor the last answer, and need no memory
- * but for scene_tables. In the setup there is nothing to read but kinds: SCENE_BAD, and nowhere else but where it is
- * said. On any other code than SCENE_DONE what would be written stays as it was. scene_refused tells nothing of them.
+ * but for a list where it is said: SCENE_NO_MEMORY then. In the setup there is nothing to read but kinds: SCENE_BAD, and
+ * nowhere else but where it is said. On any other code than SCENE_DONE what would be written stays as it was.
+ * scene_refused tells nothing of them.
  *
  * A list is told from the item `from` on: as many items as there are, and as fit into `room`, go to `at`, in their
  * order, and *total is how many there are in all. `at` isn't NULL, not even where `room` is 0. So a list of unknown
@@ -255,8 +264,11 @@ scene_code scene_mask(scene **s, scene_entity entity, uint64_t *out);
 scene_code scene_parent(scene **s, scene_entity entity, scene_entity *out);
 scene_code scene_children(scene **s, scene_entity entity, size_t from, scene_entity *at, size_t room, size_t *total);
 
+/* The entities that have no parent, by their index, for which it looks at each index: memory for the list is needed. */
+scene_code scene_roots(scene **s, size_t from, scene_entity *at, size_t room, size_t *total);
+
 /* The tables: the kind sets that some entities have, of those that have all kinds of `need` and none of `without`,
- * ascending. SCENE_NO_MEMORY where none was found for the list. */
+ * ascending: memory for the list is needed. */
 scene_code scene_tables(scene **s, uint64_t need, uint64_t without, size_t from, scene_table *at, size_t room,
                         size_t *total);
 
@@ -283,6 +295,38 @@ scene_code scene_kind_named(scene **s, const uint8_t *name, size_t len, uint32_t
 scene_code scene_read(scene **s, scene_entity entity, uint32_t kind, scene_cell *out, scene_tick_pair *ticks);
 scene_code scene_read_text(scene **s, scene_entity entity, uint32_t kind, size_t from, uint8_t *at, size_t room,
                            size_t *total);
+
+/* The components of a kind that `count` entities have, in the order of the entities, as many as fit into `room`: of
+ * each, what scene_read tells, and the shape SCENE_ABSENT where there is none, as where the entity isn't alive.
+ * SCENE_BAD for a kind of 256 or more. */
+scene_code scene_gather(scene **s, const scene_entity *entities, size_t count, uint32_t kind, scene_cell *at,
+                        size_t room);
+
+/* The name of a resource, by its place from 0 in the order of the names' bytes. SCENE_BAD behind the last one. Memory
+ * for the list of names is needed. */
+scene_code scene_resources(scene **s, size_t place, size_t from, uint8_t *at, size_t room, size_t *total);
+
+/* A resource by its name, as scene_read and scene_read_text tell a component; the kind of the cell is 0. SCENE_REFUSED
+ * where there is none of that name, or for scene_resource_text no text. */
+scene_code scene_resource(scene **s, const uint8_t *name, size_t len, scene_cell *out, scene_tick_pair *ticks);
+scene_code scene_resource_text(scene **s, const uint8_t *name, size_t len, size_t from, uint8_t *at, size_t room,
+                               size_t *total);
+
+/* A moment, which a view keeps to ask later what was written since: as many can be kept as one likes. */
+typedef struct {
+    uint64_t rewinds, tick;
+} scene_moment;
+
+scene_code scene_now(scene **s, scene_moment *out);
+
+/* The components that were changed since a moment, those included that were added, and those that were added: of the
+ * entities that have all kinds of `need` and none of `without`, in the order of scene_tables and scene_rows, then by
+ * kind. SCENE_REFUSED where something was undone since, so that a view reads all anew. Rows of tables in which nothing
+ * was written since aren't read. Memory for the list is needed. */
+scene_code scene_changed_since(scene **s, scene_moment moment, uint64_t need, uint64_t without, size_t from,
+                               scene_name *at, size_t room, size_t *total);
+scene_code scene_added_since(scene **s, scene_moment moment, uint64_t need, uint64_t without, size_t from,
+                             scene_name *at, size_t room, size_t *total);
 
 #ifdef __cplusplus
 }

@@ -232,11 +232,33 @@ static bool print_level(scene **s, const struct level *level)
     return print_row(s, level->room) && print_row(s, level->lamp) && print_row(s, level->cat);
 }
 
+/* Whether an entity is the only one without a parent. */
+static bool stands_alone(scene **s, scene_entity entity)
+{
+    scene_entity root = SCENE_NONE;
+    size_t total = 0;
+    if (!DONE(scene_roots(s, 0, &root, 1, &total))) return false;
+    bool is_alone = total == 1 && root.index == entity.index && root.generation == entity.generation;
+    if (!is_alone) fputs("level: the roots are others\n", stderr);
+    return is_alone;
+}
+
+/* Whether so many components were changed since a moment. */
+static bool has_changed(scene **s, scene_moment moment, size_t wanted)
+{
+    scene_name name;
+    size_t total = 0;
+    if (!DONE(scene_changed_since(s, moment, 0, 0, 0, &name, 1, &total))) return false;
+    if (total != wanted) fputs("level: other components were changed\n", stderr);
+    return total == wanted;
+}
+
 static bool make(scene **s, struct level *level)
 {
     if (!furnish(s, level)) return false;
     /* A command where no frame is open is a frame by itself. */
     if (!DONE(scene_insert(s, level->cat, link_to(AIM, level->lamp)))) return false;
+    if (!stands_alone(s, level->room)) return false;
     puts("a room is furnished, and the cat looks at the lamp");
     return print_level(s, level);
 }
@@ -244,12 +266,14 @@ static bool make(scene **s, struct level *level)
 static bool change(scene **s, const struct level *level)
 {
     static const char name[] = "old cat";
-    if (!DONE(scene_mark(s)) || !DONE(scene_begin(s))) return false;
+    scene_moment before;
+    if (!DONE(scene_now(s, &before)) || !DONE(scene_mark(s)) || !DONE(scene_begin(s))) return false;
     if (!DONE(scene_insert(s, level->lamp, number(HEALTH, 75)))) return false;
     if (!DONE(scene_insert_text(s, level->cat, NAME, bytes(name), strlen(name)))) return false;
     if (!DONE(scene_commit(s)) || !DONE(scene_changed(s))) return false;
     puts("a frame changes");
     print_changed(s);
+    if (!has_changed(s, before, 2)) return false;
     return print_level(s, level);
 }
 
@@ -286,10 +310,10 @@ static bool be_refused(scene **s, const struct level *level)
 
 static bool undo_and_redo(scene **s, const struct level *level)
 {
-    if (!DONE(scene_undo(s))) return false;
+    if (!DONE(scene_undo_by(s, 1))) return false;
     puts("the change is undone");
     if (!print_level(s, level)) return false;
-    if (!DONE(scene_redo(s))) return false;
+    if (!DONE(scene_redo_by(s, 1))) return false;
     puts("and redone");
     return print_level(s, level);
 }

@@ -1,5 +1,5 @@
 -- A list that is filled from another one, item by item from the first, as far as both go.
-use Rattle.std.proofs.Common.{◌≡◌, ◌≤◌, ◌<◌, ◌+◌, ℕ, zero, suc, List, [], ◌∷◌, ◌++◌, length, take, drop, refl, ap, sym, ◌∙◌, arith, add-one, Some, None}
+use Rattle.std.proofs.Common.{◌≡◌, ◌<◌, ◌+◌, ℕ, zero, suc, List, [], ◌∷◌, ◌++◌, length, take, drop, refl, ap, sym, ◌∙◌, arith, add-one, Some, None}
 use Rattle.std.specs.Prelude.{slice_get, slice_set, min}
 use Rattle.scene_c.specs.Memory.{copied}
 

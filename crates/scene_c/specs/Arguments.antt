@@ -17,6 +17,8 @@ use Rattle.scene_kinds.specs.declared.refusal.Place.{Place}
 use Rattle.scene_kinds.specs.declared.refusal.Refusal.{Refusal}
 use Rattle.scene_kinds.specs.Fault.{fault_number}
 use Rattle.scene_pass.specs.declared.cell_name.CellName.{CellName}
+use Rattle.scene_undo.specs.declared.cursor.Cursor.{Cursor}
+use Rattle.scene_c.specs.declared.shown.SceneMoment.{SceneMoment}
 use Rattle.scene_c.specs.declared.value.SceneEntity.{SceneEntity}
 use Rattle.scene_c.specs.declared.value.SceneName.{SceneName}
 use Rattle.scene_c.specs.declared.value.SceneRefusal.{SceneRefusal}
@@ -106,3 +108,7 @@ text_component kind bytes = both_of (kind_of kind) (option_map value.Text (text_
 -- the line that inserts a component
 abbrev pub insert_line : SceneEntity → ℕ × Value → Line
 insert_line e c = Do (Insert (target_of e) c.0 c.1)
+
+-- the moment that C names
+abbrev pub cursor_of : SceneMoment → Cursor
+cursor_of m = record { rewinds = m.rewinds; tick = m.tick }

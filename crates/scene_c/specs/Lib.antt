@@ -6,3 +6,4 @@ pub mod Names
 pub mod OpenScene
 pub mod Reads
 pub mod Shown
+pub mod Times

@@ -1,5 +1,5 @@
 -- What the calls of C read of a scene that stays as it is.
-use Rattle.std.specs.Prelude.{◌≡◌, ◌⊎◌, ℕ, Bool, false, if◌then◌else◌, List, [], Option, Some, None, Result, Ok, Err, filter, drop, length, map, nat_eq, unwrap_or}
+use Rattle.std.specs.Prelude.{◌≡◌, ◌⊎◌, ℕ, ◌+◌, Bool, false, ◌&&◌, not, if◌then◌else◌, List, [], ◌∷◌, Option, Some, None, is_some, pos, Result, Ok, Err, filter, drop, length, map, nat_eq, unwrap_or}
 use Rattle.std.specs.Option.{option_and_then, option_map}
 use Rattle.scene_kinds.specs.declared.cell.Cell.{Cell}
 use Rattle.scene_kinds.specs.declared.cells.Row.{Row}
@@ -11,22 +11,29 @@ use Rattle.scene_kinds.specs.declared.value.Value.TheVariants.{Tag}
 use Rattle.scene_kinds.specs.KindSet.{KindSet, has_kind}
 use Rattle.scene_kinds.specs.Schema.{Kinds, number_of, shape_of}
 use Rattle.scene_kinds.specs.Shape.{same_shape}
-use Rattle.scene_model.specs.World.{World, component_of, kind_sets, rows_of}
+use Rattle.scene_links.specs.Forest.{parent_of}
+use Rattle.scene_model.specs.World.{World, component_of, is_live, kind_sets, rows_of}
+use Rattle.scene_pass.specs.declared.cell_name.CellName.{CellName}
+use Rattle.scene_resources.specs.Resources.{cell_of}
 use Rattle.scene_session.specs.Owner.{whole_at}
 use Rattle.scene_session.specs.Whole.{Whole}
 use Rattle.scene_systems.specs.declared.filter.Filter.{Filter}
 use Rattle.scene_systems.specs.Filter.{is_match}
 use Rattle.scene_table.specs.Tables.{rows_at}
 use Rattle.scene_table.specs.Table.{cells_of_kind}
+use Rattle.scene_undo.specs.Cursor.{since}
 use Rattle.scene_interpreter.specs.Interpreter.{IsSetting, interpreter_kinds, interpreter_of, owner_of}
-use Rattle.scene_c.specs.Arguments.{shape_number, shown_cell, text_of}
+use Rattle.scene_c.specs.Arguments.{cursor_of, entity_of, shape_number, shown_cell, shown_name, text_of}
 use Rattle.scene_c.specs.Memory.{copied}
 use Rattle.scene_c.specs.OpenScene.{numbers_of, world_of}
 use Rattle.scene_c.specs.Shown.{text_value}
 use Rattle.scene_c.specs.declared.open_scene.OpenScene.{OpenScene}
+use Rattle.scene_c.specs.declared.shown.SceneMoment.{SceneMoment}
 use Rattle.scene_c.specs.declared.shown.SceneTable.{SceneTable}
 use Rattle.scene_c.specs.declared.shown.SceneTicks.{SceneTicks}
 use Rattle.scene_c.specs.declared.value.SceneCell.{SceneCell}
+use Rattle.scene_c.specs.declared.value.SceneEntity.{SceneEntity}
+use Rattle.scene_c.specs.declared.value.SceneName.{SceneName}
 
 -- the machine with its records
 abbrev pub whole_now : OpenScene → Whole
@@ -65,7 +72,29 @@ abbrev pub ListsIf : {A : Type 0} → (kept : Type 0) → Option (List A) → �
 ListsIf kept None from old new total code = (code ≡ 4) × kept
 ListsIf kept (Some items) from old new total code = Lists items from old new total code
 
+-- what is told, or no memory was found and what was to be filled stays
+abbrev pub OrNoMemory : (kept : Type 0) → (ℕ → Type 0) → ℕ → Type 0
+OrNoMemory kept told code = told code ⊎ ((code ≡ 1) × kept)
+
+-- a list, or that there is none any more, which is refused
+abbrev pub ListsSince : {A : Type 0} → Option (List A) → ℕ → (old new : List A) → (old_total total : ℕ) → ℕ → Type 0
+ListsSince None from old new old_total total code = (code ≡ 3) × ((new ≡ old) × (total ≡ old_total))
+ListsSince (Some items) from old new old_total total code = Lists items from old new total code
+
 -- ---- entities
+
+-- whether an entity is alive and has no parent
+abbrev pub is_root : World → Entity → Bool
+is_root w e = is_live w e && not (is_some (parent_of w.children e))
+
+-- the newest entity of each index, from an index on
+abbrev pub slot_entities : ℕ → List ℕ → List Entity
+slot_entities index [] = []
+slot_entities index (generation ∷ generations) = record { index = index; generation = generation } ∷ slot_entities (index + 1) generations
+
+-- the entities that are alive and have no parent, by their index
+abbrev pub roots_in : World → List Entity
+roots_in w = filter (is_root w) (slot_entities 0 w.slots.generations)
 
 -- the kind set of an entity that is alive, and else that it isn't
 abbrev pub TellsMask : Option KindSet → (old new : ℕ) → ℕ → Type 0
@@ -167,3 +196,52 @@ abbrev pub TellsTextOf : Option ℕ → Entity → Option OpenScene → ℕ → 
 TellsTextOf None e d from old new old_total total code = (code ≡ 4) × ((new ≡ old) × (total ≡ old_total))
 TellsTextOf (Some kind) e d from old new old_total total code =
     TellsOf ((new ≡ old) × (total ≡ old_total)) (λ o. TellsText (text_at (component_of (world_of o) e kind)) from old new old_total total) d code
+
+-- ---- resources
+
+-- the resource of a name; no other bytes than a text name one
+abbrev pub resource_in : World → List ℕ → Option Cell
+resource_in w name = option_and_then (cell_of w.resources) (text_of name)
+
+-- a resource that there is, with its ticks; its kind is told as 0
+abbrev pub TellsHeld : Option Cell → (old new : SceneCell) → (old_ticks new_ticks : SceneTicks) → ℕ → Type 0
+TellsHeld None old new old_ticks new_ticks code = (code ≡ 3) × ((new ≡ old) × (new_ticks ≡ old_ticks))
+TellsHeld (Some cell) old new old_ticks new_ticks code =
+    (code ≡ 0) × ((new ≡ shown_cell 0 (numbers_of cell.value)) × (new_ticks ≡ record { added = cell.added; changed = cell.changed }))
+
+-- the text that a resource is
+abbrev pub text_held : Option Cell → Option (List ℕ)
+text_held None = None
+text_held (Some cell) = text_value cell.value
+
+-- ---- one kind of many entities
+
+-- a component as C sees it; one that isn't there has a shape of its own
+abbrev pub cell_or_absent : ℕ → Result Cell Refusal → SceneCell
+cell_or_absent kind (Ok cell) = shown_cell kind (numbers_of cell.value)
+cell_or_absent kind (Err r) = record { kind = kind; shape = 5; x = pos 0; y = pos 0; z = pos 0 }
+
+-- as many as there is room for
+abbrev pub IsGathered : List SceneCell → (old new : List SceneCell) → ℕ → Type 0
+IsGathered cells old new code = (code ≡ 0) × (new ≡ copied cells old)
+
+-- of the scene that a handle holds; no component has a kind of more than 8 bits
+abbrev pub TellsGathered : Option ℕ → List SceneEntity → Option OpenScene → (old new : List SceneCell) → ℕ → Type 0
+TellsGathered None entities d old new code = (code ≡ 4) × (new ≡ old)
+TellsGathered (Some kind) entities d old new code =
+    TellsOf (new ≡ old) (λ o. IsGathered (map (λ e. cell_or_absent kind (component_of (world_of o) (entity_of e) kind)) entities) old new) d code
+
+-- ---- what was written since a moment
+
+-- the cells that are listed from a tick on; none any more after an undo
+abbrev pub names_from : (ℕ → List CellName) → Result ℕ Refusal → Option (List CellName)
+names_from listed (Err r) = None
+names_from listed (Ok tick) = Some (listed tick)
+
+-- the cells that a query lists since a moment
+abbrev pub names_since : (World → Filter → ℕ → List CellName) → Whole → SceneMoment → Filter → Option (List CellName)
+names_since listed w m f = names_from (listed w.machine.now f) (since (cursor_of m) w.machine)
+
+-- as C sees them
+abbrev pub shown_names : Option (List CellName) → Option (List SceneName)
+shown_names = option_map (map shown_name)

@@ -1,12 +1,14 @@
 -- What C sees of a scene that it reads.
-use Rattle.std.specs.Prelude.{ℕ, ℤ, List, [], ◌∷◌, Option, Some, None, Bool, if◌then◌else◌, length, pos}
+use Rattle.std.specs.Prelude.{ℕ, ℤ, List, ◌∷◌, Option, Some, None, Bool, if◌then◌else◌, length, pos}
 use Rattle.scene_kinds.specs.declared.entity.Entity.{Entity}
 use Rattle.scene_kinds.specs.declared.value.Value.{Value}
 use Rattle.scene_kinds.specs.declared.value.Value.TheVariants.{Int, Vec3, Text, Link}
 use Rattle.scene_table.specs.Table.{TableState}
 use Rattle.scene_session.specs.Whole.{Whole}
+use Rattle.scene_undo.specs.declared.cursor.Cursor.{Cursor}
 use Rattle.scene_c.specs.Arguments.{shown_entity}
 use Rattle.scene_c.specs.declared.shown.SceneInfo.{SceneInfo}
+use Rattle.scene_c.specs.declared.shown.SceneMoment.{SceneMoment}
 use Rattle.scene_c.specs.declared.shown.SceneTable.{SceneTable}
 use Rattle.scene_c.specs.declared.shown.SceneVec3.{SceneVec3}
 use Rattle.scene_c.specs.declared.value.SceneEntity.{SceneEntity}
@@ -66,3 +68,7 @@ shown_info w in_frame = record {
   depth = w.machine.depth;
   in_frame = shown_truth in_frame;
 }
+
+-- a moment as C sees it
+abbrev pub shown_moment : Cursor → SceneMoment
+shown_moment c = record { rewinds = c.rewinds; tick = c.tick }

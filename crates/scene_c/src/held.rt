@@ -3,10 +3,12 @@
 ghost use Rattle.std.specs.Prelude.{◌≡◌, ℕ, List, None};
 ghost use Rattle.scene_interpreter.specs.Interpreter.{interpreter_reply};
 ghost use Rattle.scene_c.specs.Calls.{Asks, Does, DropsFrame, Explains, Gives, Plays, Spawns, says};
+ghost use Rattle.scene_c.specs.Times.{Turns};
 ghost use Rattle.std.specs.Option.{option_map};
 
 use crate::handle::{Handle, into_open_scene};
 use crate::played::{drop_frame_at, explain_at, give_at, line_at, say_at, spawn_at, tell_at};
+use crate::times::Way;
 use crate::{BAD, CLOSED};
 use scene_kinds::Value;
 use scene_script::Line;
@@ -96,6 +98,20 @@ pub(crate) fn ask(alloc: Global, scene: &mut Handle, line: Option<Line>) -> u32
         Some(line) => say(alloc, scene, line),
         None => BAD,
     }
+}
+
+/// Goes so many frames along a way, or none.
+pub(crate) fn turn(alloc: Global, scene: &mut Handle, way: Way, count: usize) -> u32
+    ensures { Turns way count scene.old.value scene.new.value result }
+{
+    let taken = mem::replace(scene, Handle::closed(alloc));
+    let Some(boxed) = into_open_scene(taken) else {
+        return CLOSED;
+    };
+    let mut boxed = boxed;
+    let code = boxed.turn_by(way, count);
+    *scene = Handle::of_box(boxed);
+    code
 }
 
 /// Drops the open frame.

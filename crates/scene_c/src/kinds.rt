@@ -10,7 +10,7 @@ use crate::value::{kind_of, shape_number};
 use crate::{BAD, DONE};
 
 /// The text that bytes are, if they are one.
-fn text_in(bytes: &[u8]) -> Option<&str>
+pub(crate) fn text_in(bytes: &[u8]) -> Option<&str>
     ensures { option_map (λ text. text.now) result ≡ text_of bytes.now }
 {
     match str::from_utf8(bytes) {

@@ -18,32 +18,41 @@ ghost use Rattle.scene_c.specs.Arguments.{component_of_cell, entity_of, insert_l
 ghost use Rattle.scene_c.specs.Calls.{Asks, AsksText, Does, DropsFrame, Explains, Gets, Gives, GivesText, Loads, Opens, Plays, Spawns, made_at, named_at, refusal_now, says, text_now};
 ghost use Rattle.scene_c.specs.Memory.{bytes_at, copied};
 ghost use Rattle.scene_c.specs.Names.{name_of};
+ghost use Rattle.scene_c.specs.Times.{Turns};
 ghost use Rattle.scene_c.specs.contracts.handle.Handle.{the_row};
 ghost use Rattle.scene_c.specs.declared.handle.Handle.{Handle as Held};
+ghost use Rattle.scene_c.specs.declared.times.Way.TheVariants as way;
 
 mod columns;
 mod filling;
+mod gathering;
 mod handle;
 mod held;
 mod kinds;
 mod lines;
 mod look;
+mod look_resources;
+mod look_since;
 mod loose;
+mod moments;
 mod names;
 mod open_scene;
 mod played;
 mod points;
 mod reading;
 mod reads;
+mod resources;
+mod roots;
 mod shown;
 mod status;
 mod texts;
+mod times;
 mod tree;
 mod value;
 
 pub use handle::Handle;
 use handle::{into_open_scene, new_handle};
-use held::{ask, drop_frame, explain, give, line, say, spawn, tell};
+use held::{ask, drop_frame, explain, give, line, say, spawn, tell, turn};
 pub use names::each_fault_has_its_name;
 use names::{copy_name, name_len};
 pub use open_scene::OpenScene;
@@ -51,9 +60,10 @@ use played::read_at;
 pub use reading::Reading;
 use scene_commands::Command;
 use scene_script::Line;
-pub use shown::{SceneInfo, SceneTable, SceneTicks, SceneVec3};
+pub use shown::{SceneInfo, SceneMoment, SceneTable, SceneTicks, SceneVec3};
 use std::alloc::Global;
 use texts::{copy_text, text_len};
+use times::Way;
 pub use value::{SceneCell, SceneEntity, SceneName, SceneRefusal};
 use value::{
     component_of_cell, entity_of, kind_of, shown_entity, shown_name, shown_refusal, target_of,
@@ -224,6 +234,24 @@ pub extern "C" fn scene_redo(alloc: Global, scene: &mut Handle) -> u32
     ensures { Does line.Redo scene.old.value scene.new.value result }
 {
     say(alloc, scene, Line::Redo)
+}
+
+/// Takes so many of the newest frames back, one after another, where so many can be undone, and else none: `REFUSED`.
+/// For want of memory, and where the calls have a limit, fewer may be done.
+#[unsafe(no_mangle)]
+pub extern "C" fn scene_undo_by(alloc: Global, scene: &mut Handle, count: usize) -> u32
+    ensures { Turns way.Back count scene.old.value scene.new.value result }
+{
+    turn(alloc, scene, Way::Back, count)
+}
+
+/// Does so many undone frames again, one after another, where so many can be redone, and else none: `REFUSED`. For want
+/// of memory, and where the calls have a limit, fewer may be done.
+#[unsafe(no_mangle)]
+pub extern "C" fn scene_redo_by(alloc: Global, scene: &mut Handle, count: usize) -> u32
+    ensures { Turns way.On count scene.old.value scene.new.value result }
+{
+    turn(alloc, scene, Way::On, count)
 }
 
 /// Gives the next spawn a component that is no text.

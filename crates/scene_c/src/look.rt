@@ -9,7 +9,7 @@ ghost use Rattle.scene_links.specs.Forest.{children_of, parent_of};
 ghost use Rattle.scene_model.specs.World.{is_live, mask_at};
 ghost use Rattle.scene_c.specs.Arguments.{entity_of, kind_of, shown_entity};
 ghost use Rattle.scene_c.specs.OpenScene.{world_of};
-ghost use Rattle.scene_c.specs.Reads.{IsTold, Lists, ListsIf, TellsAlways, TellsCellOf, TellsKind, TellsMask, TellsNumber, TellsOf, TellsTables, TellsTextOf, entities_in, kind_named, kinds_now, tables_in, ticks_in, values_in, whole_now};
+ghost use Rattle.scene_c.specs.Reads.{IsTold, Lists, ListsIf, OrNoMemory, TellsAlways, TellsCellOf, TellsGathered, TellsKind, TellsMask, TellsNumber, TellsOf, TellsTables, TellsTextOf, entities_in, kind_named, kinds_now, roots_in, tables_in, ticks_in, values_in, whole_now};
 ghost use Rattle.scene_c.specs.Shown.{entity_or_none, int_of, link_of, shown_info, shown_truth, vec3_of};
 
 use crate::handle::{Handle, into_open_scene};
@@ -118,6 +118,29 @@ pub extern "C" fn scene_children(
         return CLOSED;
     };
     let code = boxed.children(entity_of(entity), from, at, total);
+    *scene = Handle::of_box(boxed);
+    code
+}
+
+/// Lists the entities that have no parent, by their index. `NO_MEMORY` where none was found for the list.
+#[unsafe(no_mangle)]
+pub extern "C" fn scene_roots(
+    alloc: Global,
+    scene: &mut Handle,
+    from: usize,
+    at: &mut [SceneEntity],
+    total: &mut usize,
+) -> u32
+    ensures told { TellsOf ((at.new ≡ at.old) × (total.new ≡ total.old))
+        (λ d. OrNoMemory ((at.new ≡ at.old) × (total.new ≡ total.old))
+        (Lists (map shown_entity (roots_in (world_of d))) from at.old at.new total.new)) scene.old.value result }
+    ensures kept { scene.new.value ≡ scene.old.value }
+{
+    let taken = mem::replace(scene, Handle::closed(alloc));
+    let Some(boxed) = into_open_scene(taken) else {
+        return CLOSED;
+    };
+    let code = boxed.roots(alloc, from, at, total);
     *scene = Handle::of_box(boxed);
     code
 }
@@ -362,6 +385,31 @@ pub extern "C" fn scene_read_text(
         return CLOSED;
     };
     let code = boxed.component_text(entity_of(entity), short, from, at, total);
+    *scene = Handle::of_box(boxed);
+    code
+}
+
+/// Tells the components of a kind that entities have, in the order of the entities; one that isn't there, as where the
+/// entity isn't alive, has the shape 5. `BAD` for a kind of 256 or more.
+#[unsafe(no_mangle)]
+pub extern "C" fn scene_gather(
+    alloc: Global,
+    scene: &mut Handle,
+    entities: &[SceneEntity],
+    kind: u32,
+    at: &mut [SceneCell],
+) -> u32
+    ensures told { TellsGathered (kind_of kind) entities.now scene.old.value at.old at.new result }
+    ensures kept { scene.new.value ≡ scene.old.value }
+{
+    let Some(short) = kind_of(kind) else {
+        return BAD;
+    };
+    let taken = mem::replace(scene, Handle::closed(alloc));
+    let Some(boxed) = into_open_scene(taken) else {
+        return CLOSED;
+    };
+    let code = boxed.gather(entities, short, at);
     *scene = Handle::of_box(boxed);
     code
 }

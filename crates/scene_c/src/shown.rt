@@ -1,12 +1,14 @@
 //! What C sees of a scene that it reads.
 ghost use Rattle.std.specs.Prelude.{◌≡◌};
-ghost use Rattle.scene_c.specs.Arguments.{shown_entity};
-ghost use Rattle.scene_c.specs.Shown.{int_of, link_of, table_of, vec3_by, vec3_of};
+ghost use Rattle.scene_c.specs.Arguments.{shown_entity, shown_name};
+ghost use Rattle.scene_c.specs.Shown.{int_of, link_of, shown_moment, table_of, vec3_by, vec3_of};
 
 use crate::filling::ShownAs;
-use crate::value::{SceneEntity, shown_entity};
+use crate::value::{SceneEntity, SceneName, shown_entity, shown_name};
 use scene_kinds::{Entity, Value};
+use scene_pass::CellName;
 use scene_table::Table;
+use scene_undo::Cursor;
 
 /// A scene by its numbers (`scene_info`).
 #[repr(C)]
@@ -46,6 +48,14 @@ pub struct SceneTable {
 pub struct SceneTicks {
     pub added: u64,
     pub changed: u64,
+}
+
+/// A moment of a scene (`scene_moment`).
+#[repr(C)]
+#[derive(Clone, Copy)]
+pub struct SceneMoment {
+    pub rewinds: u64,
+    pub tick: u64,
 }
 
 impl ShownAs<SceneEntity> for Entity {
@@ -89,6 +99,14 @@ impl ShownAs<SceneEntity> for Value {
     }
 }
 
+impl ShownAs<SceneName> for CellName {
+    ghost shown = { shown_name };
+
+    fn shown(&self) -> SceneName {
+        shown_name(*self)
+    }
+}
+
 impl ShownAs<u64> for u64 {
     ghost shown = { λ number. number };
 
@@ -120,4 +138,14 @@ fn shown_vec3(numbers: [i64; 3]) -> SceneVec3
 {
     let [x, y, z] = numbers;
     SceneVec3 { x, y, z }
+}
+
+/// A moment as C sees it.
+pub(crate) fn shown_moment(cursor: Cursor) -> SceneMoment
+    ensures { result ≡ shown_moment cursor }
+{
+    SceneMoment {
+        rewinds: cursor.rewinds,
+        tick: cursor.tick,
+    }
 }

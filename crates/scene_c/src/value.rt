@@ -1,12 +1,14 @@
 //! What crosses to C and back, and what it names here.
 ghost use Rattle.std.specs.Prelude.{◌≡◌, IfOk, OnErr, Some, is_some, true};
 ghost use Rattle.std.specs.Option.{option_map};
-ghost use Rattle.scene_c.specs.Arguments.{both_of, component_of_cell, entity_of, kind_of, link_by, shape_number, shown_cell, shown_entity, shown_name, shown_refusal, small, target_of, text_component, text_of, value_of};
+ghost use Rattle.scene_c.specs.Arguments.{both_of, component_of_cell, cursor_of, entity_of, kind_of, link_by, shape_number, shown_cell, shown_entity, shown_name, shown_refusal, small, target_of, text_component, text_of, value_of};
 
 use crate::reading::Reading;
+use crate::shown::SceneMoment;
 use scene_commands::Target;
 use scene_kinds::{Entity, Refusal, Shape, Text, Value};
 use scene_pass::CellName;
+use scene_undo::Cursor;
 use std::alloc::{AllocError, Global};
 
 /// An entity (`scene_entity`).
@@ -75,6 +77,16 @@ pub(crate) fn shown_entity(entity: Entity) -> SceneEntity
     SceneEntity {
         index: entity.index,
         generation: entity.generation,
+    }
+}
+
+/// The moment that C names.
+pub(crate) fn cursor_of(moment: SceneMoment) -> Cursor
+    ensures { result ≡ cursor_of moment }
+{
+    Cursor {
+        rewinds: moment.rewinds,
+        tick: moment.tick,
     }
 }
 
