@@ -2,7 +2,7 @@
 they did."""
 from typing import NamedTuple, Optional
 
-from commands import COMMANDS, words_of
+from commands import COMMANDS, word_of
 
 KEPT_FROM_TABS = {
     "as": "each tab is a session of its own",
@@ -44,13 +44,6 @@ def is_balanced(words):
     return not is_open
 
 
-def frame_words(lines):
-    """The first word of each line; of a `begin` or `commit` with more words, which is a bad line, all of them."""
-    for line in lines:
-        words = words_of(line)
-        yield " ".join(words) if words[:1] in (["begin"], ["commit"]) else words[0] if words else ""
-
-
 class Call:
     """A call's lines: what is sent of them, and its answers. `turn` is a line to send before those that do more than
     ask, if one is needed; it is kept in the store, as they are. `ends_at` is for the setup alone: it gives of lines the
@@ -59,7 +52,7 @@ class Call:
     def __init__(self, lines, turn=None, ends_at=None):
         # The shell drops a carriage return at the end of a line, but for a space behind it.
         lines = [f"{line} " if line.endswith("\r") else line for line in lines]
-        words = list(frame_words(lines))
+        words = list(map(word_of, lines))
         self.answers = [refused(line, word) for line, word in zip(lines, words)]
         self.sent = []
         if self.answers and self.answers[0]:

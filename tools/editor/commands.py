@@ -1,99 +1,67 @@
-"""The commands of a script's lines, and what an accepted frame of them does to a recorder (docs/SCRIPTS.md).
+"""What lines ask for, as requests (docs/SHELL.md, "Requests"): a line of a script is read as the one that stands for it.
+And what the commands of an accepted frame do to a recorder."""
+import json
 
-Only lines that the program took are read here, so nothing is tested."""
-from typing import NamedTuple
+from request_forms import KEYS, request_of
 
 COMMANDS = frozenset(
     "spawn insert despawn remove parent unparent despawnall despawnifalive put drop".split()
 )  # fmt: skip
+TARGETS = ("entity", "child", "parent")
 
 
-class Command(NamedTuple):
-    """A command's word and what it speaks of; a local name is its number."""
-
-    word: str
-    parts: tuple
-
-
-def words_of(line):
-    """The words of a line, which are parted by spaces alone."""
-    return [word for word in line.split(" ") if word]
+def read(line, kinds):
+    """The request of a line that the program took. Of a spawn that names a kind twice, which is refused, its word."""
+    if line.startswith("{"):
+        return json.loads(line)
+    return request_of(line, kinds) or {"do": word_of(line)}
 
 
-def first_word(line):
-    words = words_of(line)
-    return words[0] if words else ""
+def word_of(line):
+    """The word of what a line asks for, whether it is good or not; "" where it is empty or no request, and for a
+    `begin` or `commit` with something more, which is a bad line."""
+    if line.startswith("{"):
+        try:
+            request = json.loads(line)
+        except (ValueError, RecursionError):
+            return ""
+        word, count = request.get("do"), len(request)
+    else:
+        words = [word for word in line.split(" ") if word]
+        word, count = words[0] if words else "", len(words)
+    has_more = word in ("begin", "commit") and count > 1
+    return word if isinstance(word, str) and not has_more else ""
 
 
-def value_of(shape, text):
-    if shape == "Tag":
-        return True
-    if shape == "Int":
-        return int(text)
-    return [int(number) for number in text.split(",")] if shape == "Vec3" else text
-
-
-def cell_of(shapes, word):
-    """The name and the value of a cell."""
-    name, _, text = word.partition("=")
-    return name, value_of(shapes[name], text)
-
-
-def resource_of(word):
-    """The shape and the value of a resource."""
-    shape, _, text = word.partition("=")
-    return shape, value_of(shape, text)
-
-
-def target_of(word):
-    return int(word[1:]) if word.startswith("+") else word
-
-
-def command_of(shapes, line):
-    """The command that a good line says."""
-    word, *parts = words_of(line)
-    if word == "spawn":
-        return Command(word, (dict(cell_of(shapes, part) for part in parts),))
-    if word == "put":
-        return Command(word, (parts[0], *resource_of(parts[1])))
-    if word == "drop":
-        return Command(word, tuple(parts))
-    if word == "insert":
-        return Command(word, (target_of(parts[0]), *cell_of(shapes, parts[1])))
-    if word == "remove":
-        return Command(word, (target_of(parts[0]), parts[1]))
-    return Command(word, tuple(map(target_of, parts)))
+def with_targets(request, made):
+    """A request with entities in place of local names."""
+    return {
+        key: made[int(value[1:])] if key in TARGETS and value.startswith("+") else value
+        for key, value in request.items()
+    }  # fmt: skip
 
 
 def with_entities(queue, spawned):
     """The commands of a queue with entities for local names. `spawned` has those of the whole frame still to come, and
-    what this queue spawns is taken from it, and set behind its command."""
+    what this queue spawns is taken from it, and set beside its cells."""
     made = []
-    for word, parts in queue:
-        if word == "spawn":
+    for request in queue:
+        if request["do"] == "spawn":
             made.append(next(spawned, None))
-            yield Command(word, (*parts, made[-1]))
+            yield {**request, "entity": made[-1]}
         else:
-            count = {"parent": 2, "put": 0, "drop": 0}.get(word, 1)
-            named = (made[part] if isinstance(part, int) else part for part in parts[:count])
-            yield Command(word, (*named, *parts[count:]))
+            yield with_targets(request, made)
 
 
 def apply_queue(world, queue):
     """Does the commands of a queue. An entity that it names by a local name is one that it has spawned before."""
     made = []
-
-    def entity(target):
-        return made[target] if isinstance(target, int) else target
-
-    for word, parts in queue:
+    for request in queue:
+        word, named = request["do"], with_targets(request, made)
+        parts = [named[key] for key in KEYS[word]]
         if word == "spawn":
-            made.append(world.spawn(parts[0]))
-        elif word == "despawnall" or (word == "despawnifalive" and entity(parts[0]) in world.cells):
-            world.despawn_all(entity(parts[0]))
-        elif word == "parent":
-            world.parent(entity(parts[0]), entity(parts[1]))
-        elif word in ("put", "drop"):
-            getattr(world, word)(*parts)
+            made.append(world.spawn(*parts))
+        elif word == "despawnall" or (word == "despawnifalive" and parts[0] in world.cells):
+            world.despawn_all(*parts)
         elif word != "despawnifalive":
-            getattr(world, word)(entity(parts[0]), *parts[1:])
+            getattr(world, word)(*parts)

@@ -2,7 +2,7 @@
 undo and redo."""
 import json
 
-from commands import COMMANDS, command_of, first_word
+from commands import COMMANDS, read
 
 SETUP = frozenset(("kind", "slots", "load", "calls", "depth"))
 
@@ -29,62 +29,61 @@ class Follower:
         self.kinds, self.shapes = kinds, dict(map(tuple, kinds))
 
     def follow(self, line, answer, entities=()):
-        word = first_word(line)
+        """Follows a line, and gives the request that it is; None for one that asks for nothing."""
         if answer in ("bad", "nothing"):
-            return
+            return None
+        request = read(line, self.shapes)
+        word = request["do"]
         if self.in_setup:
-            self.follow_setup(word, line, answer)
+            self.follow_setup(request, answer)
         if answer == "ok":
-            self.follow_ok(word, line)
+            self.follow_ok(request)
         elif answer == "queued":
-            self.frame[-1].append(command_of(self.shapes, line))
+            self.frame[-1].append(request)
         elif answer in ("undone", "redone"):
             (self.on_undo if answer == "undone" else self.on_redo)()
+        elif answer == "done" and word == "advance":
+            self.on_advance(entities)
         elif answer == "done":
-            self.follow_done(word, line, entities)
+            self.on_frame([[request]] if word in COMMANDS else self.frame, entities)
         if word == "commit":
             self.frame = None
+        return request
 
-    def follow_setup(self, word, line, answer):
+    def follow_setup(self, request, answer):
         """A line that isn't bad ends the setup, where it is none of the setup's own."""
+        word = request["do"]
         if word not in SETUP:
             self.in_setup = False
         elif answer != "ok":
             return
         elif word == "kind":
-            self.set_kinds([*self.kinds, line.split()[1:3]])
+            self.set_kinds([*self.kinds, [request["name"], request["shape"]]])
         elif word == "load":
-            self.set_kinds(json.loads(line.partition("load")[2])["kinds"])
+            self.set_kinds(json.loads(request["text"])["kinds"])
             self.is_loaded = True
         elif word == "depth":
-            self.depth = int(line.split()[1])
+            self.depth = request["limit"]
         self.on_setup()
 
-    def follow_ok(self, word, line):
+    def follow_ok(self, request):
+        word = request["do"]
         if word == "begin":
             self.frame = [[]]
         elif word == "queue":
             self.frame.append([])
         elif word == "as":
-            self.turn = int(line.split()[1])
+            self.turn = request["session"]
         elif word in ("phase", "system", "clear"):
-            self.phases = phases_after(self.phases, word, line)
+            self.phases = phases_after(self.phases, request)
             self.on_phases()
 
-    def follow_done(self, word, line, entities):
-        if word == "advance":
-            self.on_advance(entities)
-        elif word in COMMANDS:
-            self.on_frame([[command_of(self.shapes, line)]], entities)
-        else:
-            self.on_frame(self.frame, entities)
 
-
-def phases_after(phases, word, line):
-    """The phases, as lists of lines, with one line more."""
-    if word == "clear":
+def phases_after(phases, request):
+    """The phases, as lists of systems, with one line more."""
+    if request["do"] == "clear":
         return []
-    if word == "phase":
+    if request["do"] == "phase":
         return [*phases, []]
     *before, last = phases or [[]]
-    return [*before, [*last, line.strip(" ")]]
+    return [*before, [*last, request]]

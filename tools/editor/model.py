@@ -135,9 +135,13 @@ class Model(Log):
         self.hold(sorted(said), sorted(known), f"the cells {answer['answer']}")
 
     def hear(self, line, answer):
-        """Follows a line of a session and its answer."""
+        """Follows a line of a session and its answer; a refusal gets the request that it came at."""
+        frame, place = self.frame, answer.get("place")
         try:
-            self.follow(line, answer["answer"], answer.get("entities", ()))
+            request = self.follow(line, answer["answer"], answer.get("entities", ()))
+            if answer["answer"] == "refused":
+                is_of_frame = frame is not None and place is not None
+                answer["request"] = frame[place["queue"]][place["command"]] if is_of_frame else request
         except STUMBLES as stumble:
             self.lose(f"the editor couldn't follow a line ({type(stumble).__name__} {stumble})")
 

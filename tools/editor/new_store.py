@@ -5,7 +5,8 @@ import sys
 import tempfile
 from pathlib import Path
 
-from played_scene import Trouble, ended, is_scene_text, load_line
+from commands import word_of
+from played_scene import Trouble, is_scene_text, load_line
 from stored import StoreFault, store_fault
 
 MOST_TOLD = 10
@@ -19,10 +20,15 @@ def require_new(store):
         raise Trouble(f"{store} isn't new, so nothing is played into it")
 
 
+def is_script(given):
+    """Whether bytes are meant as a script, which may begin with a request."""
+    return not is_scene_text(given) or word_of(given.partition(b"\n")[0].decode(errors="replace")) != ""
+
+
 def lines_of(given, name):
     """The lines of a script, or the one that loads a scene text."""
-    if not is_scene_text(given):
-        return ended(given)
+    if is_script(given):
+        return given
     try:
         return load_line(given)
     except Trouble as trouble:
@@ -53,7 +59,7 @@ def play(program, given, name, store, made):
     if bad or played.returncode == 1:
         raise Trouble(f"{name} has {'a bad line' if bad == 1 else 'bad lines'}, so nothing of it is kept")
     answer = played.stdout.split(b"\n", 1)[0]
-    if is_scene_text(given) and answer != b"ok":
+    if not is_script(given) and answer != b"ok":
         raise Trouble(f"the scene text {name} is refused, so nothing is kept: {answer.decode(errors='replace')}")
 
 

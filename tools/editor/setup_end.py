@@ -2,7 +2,7 @@
 import json
 import subprocess
 
-from commands import first_word
+from commands import word_of
 from follower import SETUP
 from played_scene import Trouble
 
@@ -12,7 +12,7 @@ NO_END = ("bad", "nothing")
 def place_of_end(program, kinds, lines):
     """The place of the line that ends a setup which has these kinds, or None. A bad line doesn't, and a shell without
     a store says which lines are bad."""
-    if all(first_word(line) in SETUP for line in lines):
+    if all(word_of(line) in SETUP for line in lines):
         return None
     known = [f"kind {name} {shape}" for name, shape in kinds]
     given = "".join(f"{line}\n" for line in (*known, *lines)).encode()
@@ -24,6 +24,6 @@ def place_of_end(program, kinds, lines):
     if len(answers) != len(lines):
         raise Trouble("the program can't say which line ends the setup")
     for place, (line, answer) in enumerate(zip(lines, answers)):
-        if first_word(line) not in SETUP and json.loads(answer)["answer"] not in NO_END:
+        if word_of(line) not in SETUP and json.loads(answer)["answer"] not in NO_END:
             return place
     return None

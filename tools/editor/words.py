@@ -25,21 +25,22 @@ def spawn_text(shapes, cells, entity):
     return " ".join(["spawn", *texts, "as", str(entity)])
 
 
-def insert_text(shapes, entity, name, value):
-    if shapes[name] == "Tag":
-        return f"{entity} is {name}"
-    return f"{name} of {entity} is {value_text(shapes[name], value)}"
+def insert_text(shapes, entity, kind, value):
+    if shapes[kind] == "Tag":
+        return f"{entity} is {kind}"
+    return f"{kind} of {entity} is {value_text(shapes[kind], value)}"
 
 
 def resource_text(name, shape, value):
     return f"resource {name} is {cell_text(shape, shape, value)}"
 
 
+# Each gets the shapes of the kinds, and the keys of the request.
 SAY = {
     "spawn": spawn_text,
     "insert": insert_text,
     "despawn": lambda shapes, entity: f"despawn {entity}",
-    "remove": lambda shapes, entity, name: f"{entity} loses {name}",
+    "remove": lambda shapes, entity, kind: f"{entity} loses {kind}",
     "parent": lambda shapes, child, parent: f"{child} goes below {parent}",
     "unparent": lambda shapes, child: f"{child} leaves its parent",
     "despawnall": lambda shapes, entity: f"despawn {entity} and all below",
@@ -59,7 +60,7 @@ def words_of_frame(shapes, queues, entities):
     """The words of a frame of queues that spawned these entities."""
     spawned, more = iter(entities), sum(map(len, queues)) - MOST_TEXTS
     commands = (command for queue in queues for command in with_entities(queue, spawned))
-    texts = [SAY[word](shapes, *parts) for word, parts in islice(commands, MOST_TEXTS)]
+    texts = [SAY[each.pop("do")](shapes, **each) for each in islice(commands, MOST_TEXTS)]
     return [*texts, *([f"and {more:,} more"] if more > 0 else [])] or ["an empty frame"]
 
 

@@ -1,9 +1,12 @@
 """Holds what the page shows to what the store has, worked out from `dumpall` apart from the page's scripts."""
 import json
+import re
 import time
 
 from person import EXPORTED
 from remote import SECONDS
+
+UNSEEN = re.compile("[\0-\x1f\x7f-\x9f\u2028\u2029\u202a-\u202e\u2066-\u2069]+")
 
 
 def value_text(shape, value):
@@ -26,8 +29,8 @@ def rows_of(scene):
 
 def called(cells):
     """The name of a row as a line of the forest has it: that of its kind Name, or else its cells."""
-    name = next((value for name, _, value in cells if name == "Name"), "")
-    return name or " ".join(cell_text(*cell) for cell in cells) or "without components"
+    name = UNSEEN.sub(" ", next((value for name, _, value in cells if name == "Name"), ""))
+    return name if name.strip() else " ".join(cell_text(*cell) for cell in cells) or "without components"
 
 
 def forest_of(scene):

@@ -4,6 +4,11 @@ import json
 from urllib.parse import urlsplit
 
 SECONDS = 60
+# Texts that no line of a script says, or that look like more than a text.
+TEXTS = (
+    "Big House", 'a "quoted" one', "back\\slash \\n", "two\nlines\r\n", "Кузница 🔥", " ", "a -> done 0v1", "+0 0v1 begin",
+    "\u2028\u202e\0\x7f", '{"do":"undo"}', "",
+)  # fmt: skip
 
 
 class Asker:

@@ -25,7 +25,7 @@ COLORS = """(() => {
       const { color } = getComputedStyle(element, "::placeholder");
       found.push(["text", parts(color), ground(element), `placeholder of ${named(element)}`]);
     }
-    const isUsed = element.matches("input:not([type=checkbox]), select, .list, canvas") && !isOff(element);
+    const isUsed = element.matches("input:not([type=checkbox]), textarea, select, .list, canvas") && !isOff(element);
     if (isUsed) found.push(["edge", parts(style.borderTopColor), ground(element.parentElement), named(element)]);
     if (isUsed) found.push(["edge", parts(style.borderTopColor), ground(element), `${named(element)} inside`]);
   }

@@ -65,7 +65,7 @@ def try_links(person):
 
 def try_faults(person):
     """What is wrong is said beside its field, which is invalid, until it is mended."""
-    for name, press, typed in (("spawn-cells", "spawn", "Name=two words"), ("system-line", "system-add", "")):
+    for name, press, typed in (("spawn-cells", "spawn", "two words"), ("system-line", "system-add", "")):
         person.fill(name, typed)
         person.click_id(press)
         person.wait(f"document.getElementById('{name}').ariaInvalid === 'true'", f"{name} is invalid")

@@ -7,7 +7,7 @@ from pathlib import Path
 TOOLS = Path(__file__).resolve().parent.parent
 sys.path[:0] = [str(TOOLS / "editor"), str(TOOLS)]
 
-from asking import Asker  # noqa: E402
+from asking import TEXTS, Asker  # noqa: E402
 from editor_process import EditorProcess, saved  # noqa: E402
 from timeline import MOST_BYTES, Frame, Timeline  # noqa: E402
 
@@ -52,13 +52,47 @@ def try_own_links(asker, stream):
     """A link `+K` in a spawn is the entity of the K-th spawn, also where an index was used before; in no Link it is
     text."""
     asker.call("spawn Name=dog", "spawn Name=cow", "despawn 1v1", "despawn 2v1")
-    answer = call(asker, "begin", "spawn Aim=+2", "spawn Aim=+0 Name=+0", "spawn Aim=+1", "commit")["answers"][-1]
+    cells = {"Aim": "+2"}, {"Aim": "+0", "Name": "+0"}, {"Aim": "+1"}
+    spawns = [json.dumps({"do": "spawn", "cells": each}) for each in cells]
+    answer = call(asker, "begin", *spawns, "commit")["answers"][-1]
     one, two, three = answer["entities"]
     rows = [asker.call(f"get {entity}")[0]["cells"] for entity in (one, two, three)]
     assert [row["Aim"][0] for row in rows] == [three, one, two], (answer, rows)
     assert rows[1]["Name"][0] == "+0"
-    assert call(asker, "spawn Aim=+5")["answers"][0]["answer"] == "bad", "no such spawn"
+    assert call(asker, '{"do":"spawn","cells":{"Aim":"+5"}}')["answers"][0]["answer"] == "bad", "no such spawn"
     asker.call("undo", "undo", "undo", "undo", "undo")
+    stream.until("undo")
+
+
+def request(word, **keys):
+    return json.dumps({"do": word, **keys}, ensure_ascii=False)
+
+
+def try_texts(asker, stream):
+    """Any text is kept as it was said, and stands in quotes in the words of its frame."""
+    for text in TEXTS:
+        answer = call(asker, request("insert", entity="0v1", kind="Name", value=text))["answers"][0]
+        assert answer["answer"] == "done", (text, answer)
+        assert newest(stream) == [f"Name of 0v1 is {json.dumps(text, ensure_ascii=False)}"]
+        assert asker.call(request("get", entity="0v1"))[0]["cells"]["Name"][0] == text
+    asker.call(*["undo"] * len(TEXTS))
+
+
+def try_requests(asker, stream):
+    """A request is as its line: it has a frame, is kept from tabs, or is bad; and a refusal names the command."""
+    frame = request("begin"), request("spawn", cells={"Name": "a b"}), request("parent", child="+0", parent="0v1")
+    assert asker.told(*frame, request("commit")) == ["ok", "queued", "queued", "done"]
+    assert newest(stream) == ['spawn Name="a b" as 1v1', "1v1 goes below 0v1"]
+    assert asker.told(request("undo"), request("as", session=3), request("mark")) == ["undone", "bad", "bad"]
+    assert asker.told(request("begin"), "spawn") == ["bad", "bad"], "the frame has no end"
+    assert asker.told('{"do":"begin","x":1}', "{", '{"do":["undo"]}', "spawn") == ["bad", "bad", "bad", "done"]
+    lines = request("begin"), request("spawn", cells={}), "despawn 7v7", request("commit")
+    refused = asker.call(*lines)[-1]
+    assert refused["name"] == "NoSuchEntity" and refused["request"] == {"do": "despawn", "entity": "7v7"}, refused
+    refused = asker.call(request("put", name="a b", shape="Int", value=1))[0]
+    assert refused["name"] == "BadName" and refused["request"]["name"] == "a b", refused
+    asker.call("undo")
+    stream.until("undo")
     stream.until("undo")
 
 
@@ -130,11 +164,11 @@ def try_front(program, room):
     with EditorProcess(program, store, script) as editor:
         asker = Asker(editor.address)
         stream = asker.events(asker.join(tab="front")["scene"]["sequence"])
-        for tried in (try_words, try_seen, try_own_links):
+        for tried in (try_words, try_seen, try_own_links, try_texts, try_requests):
             tried(asker, stream)
         stream.close()
         try_names(asker, room)
         try_files(asker, room)
         try_frames(asker)
     assert b"only_here" not in json.dumps(saved(program, store)).encode()
-    return "frames had words, links of copies went to copies, nothing stale was written, and stores were changed"
+    return "frames had words and any texts, links of copies went to copies, nothing stale was written, and stores were changed"

@@ -1,5 +1,5 @@
 """A small level from nothing by keyboard alone: ten named rooms, three levels deep, reordered, duplicated, with a link
-by name, played and stopped, undone to the beginning and done again."""
+by name, played and stopped, undone to the beginning and done again; and the same when the store is opened again."""
 from agreement import hold, shown
 from editor_process import EditorProcess, saved
 from keyboard_walk import ACTIVE
@@ -7,9 +7,9 @@ from person import SHOWN, Person
 from village_walk import children_of
 
 ROOMS = {
-    "Castle": None, "Ground_Floor": "Castle", "Upper_Floor": "Castle", "Hall": "Ground_Floor",
-    "Kitchen": "Ground_Floor", "Pantry": "Ground_Floor", "Chapel": "Ground_Floor", "Bedroom": "Upper_Floor",
-    "Library": "Upper_Floor", "Study": "Upper_Floor",
+    "Big House": None, "Ground Floor": "Big House", "Upper Floor": "Big House", "Hall": "Ground Floor",
+    "Kitchen": "Ground Floor", "Pantry": "Ground Floor", "Chapel": "Ground Floor", 'a "quoted" one': "Upper Floor",
+    "Кузница 🔥": "Upper Floor", "Study": "Upper Floor",
 }  # fmt: skip
 
 
@@ -55,20 +55,20 @@ def try_rooms(person):
         person.wait_for(lambda: room in names(person), f"{room} is built")
         person.wait_chosen(entity_of(person, room))
     levels = {line[2]: line[1] for line in person.forest()}
-    assert levels["Castle"] == 0 and levels["Upper_Floor"] == 1 and levels["Study"] == 2, levels
+    assert levels["Big House"] == 0 and levels["Upper Floor"] == 1 and levels["Study"] == 2, levels
 
 
 def try_changes(person):
     """A room goes up, one is duplicated and renamed, and one points to another by its name."""
-    ground = entity_of(person, "Ground_Floor")
+    ground = entity_of(person, "Ground Floor")
     go_to(person, "Chapel")
     person.key("Enter")
     person.key("ArrowUp", "Alt")
     chapel, pantry = entity_of(person, "Chapel"), entity_of(person, "Pantry")
     person.wait_for(lambda: children_of(person.forest(), ground)[-2:] == [chapel, pantry], "the chapel goes up")
-    go_to(person, "Upper_Floor")
+    go_to(person, "Upper Floor")
     person.key("Enter")
-    upper = entity_of(person, "Upper_Floor")
+    upper = entity_of(person, "Upper Floor")
     person.wait_for(lambda: person.evaluate(SHOWN) == upper, "the upper floor is chosen")
     person.key("d", "Control")
     person.wait_for(lambda: names(person).count("Study") == 2, "the upper floor is there twice")
@@ -77,15 +77,17 @@ def try_changes(person):
     person.key("F2")
     person.wait("document.activeElement.className === 'in-place'", "F2 renames")
     person.key("a", "Control")
-    person.write("Tower")
+    person.write("Tower of")
+    person.key("Enter", "Shift")
+    person.write("two lines")
     person.key("Enter")
-    person.wait_for(lambda: "Tower" in names(person), "it is the tower")
+    person.wait_for(lambda: "Tower of two lines" in names(person), "it is the tower")
     go_to(person, "Hall")
     person.key("Enter")
     person.tab_to("add-kind")
     person.select("add-kind", "Target")
     person.tab_to("add-value")
-    person.write("Library_of_nobody")
+    person.write("Library of nobody")
     person.key("Enter")
     person.wait("document.getElementById('add-value').ariaInvalid === 'true'", "a name of nobody is told there")
     person.key("a", "Control")
@@ -137,3 +139,9 @@ def try_level(remote, program, room):
         seen = shown(person)
         person.close()
     hold(seen, saved(program, store))
+    with EditorProcess(program, store) as process:
+        person = Person(remote, process.address)
+        again = shown(person)
+        person.close()
+    for part in ("forest", "tables", "resources"):
+        assert again[part] == seen[part], f"opened again, {part} is {again[part]}"

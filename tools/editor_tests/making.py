@@ -8,6 +8,7 @@ from asking import Asker
 from editor_process import EDIT, SECONDS, EditorProcess, edit, program_of, saved, try_each, wait_until
 
 SCRIPT = "kind Name Text\nkind Health Int\nspawn Name=cat Health=9\nbegin\nspawn Name=kitten\nparent +0 0v1\n"
+REQUESTS = '{"do":"kind","name":"Name","shape":"Text"}\n{"do":"spawn","cells":{"Name":"Big House"}}\nbegin\n{"do":"commit"}\n'
 BAD_SCRIPT = "kind Name Text\nspawn Name=cat\n\njump\nspawn Name=dog\n"
 MANY_BAD = 25
 BAD_TEXTS = (
@@ -24,7 +25,7 @@ def names_in(room):
 
 
 def try_script(program, room):
-    """A script is played into a new store, and into no other; an open frame is left out."""
+    """A script, also of requests, is played into a new store, and into no other; an open frame is left out."""
     script, store = room / "from.scene", room / "from.db"
     script.write_text(SCRIPT)
     with EditorProcess(program, store, script) as editor:
@@ -35,6 +36,10 @@ def try_script(program, room):
         status, told = edit(program, store, "--from", script)
         assert status == 2 and "isn't new" in told and store.read_bytes() == before, (status, told)
     assert saved(program, store)["tick"] == 1
+    script.write_text(REQUESTS)
+    with EditorProcess(program, room / "requests.db", script) as editor:
+        frames = Asker(editor.address).join()["scene"]["frames"]
+        assert [each["words"] for each in frames] == [['spawn Name="Big House" as 0v1'], ["an empty frame"]], frames
 
 
 def try_bad_lines(program, room):

@@ -105,7 +105,7 @@ def try_systems(person, other):
     other.wait_for(lambda: any("grow" in line for line in other.lines("systems")), "a system is there")
     person.fill("system-line", "jump need=Name leap:Name")
     person.click_id("system-add")
-    person.wait_status("Not done")
+    person.wait_status("no part of a system")
     before = frames(other)
     other.click_id("step")
     person.wait_for(lambda: frames(person) == before + 1, "the other one steps")

@@ -109,7 +109,7 @@ class Person(Tab):
 
     def property(self, kind, at=0):
         """The expression of a field of a component of what is chosen."""
-        return f"document.querySelectorAll('#detail [data-kind={kind}] input')[{at}]"
+        return f"document.querySelectorAll('#detail [data-kind={kind}] :is(input, textarea)')[{at}]"
 
     def frames(self):
         """How many frames of the past the page tells of."""

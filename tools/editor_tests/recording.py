@@ -12,10 +12,12 @@ sys.path[:0] = [str(TOOLS / "editor"), str(TOOLS)]
 import hub as hubs  # noqa: E402
 import timeline  # noqa: E402
 from advancing import script  # noqa: E402
-from calls import frame_words  # noqa: E402
+from asking import TEXTS  # noqa: E402
+from commands import word_of  # noqa: E402
 from texts import exact  # noqa: E402
 from hub import Hub  # noqa: E402
 from random_scripts import ScriptWriter  # noqa: E402
+from request_forms import request_of  # noqa: E402
 from timeline import Frame, Held, Timeline  # noqa: E402
 
 SEED = 36
@@ -45,7 +47,8 @@ def text_lines(script):
 def calls_of(chance, lines):
     """The lines in calls, a frame whole in one. One that is open at the end is left open, so that it isn't sent."""
     call, is_open = [], False
-    for line, word in zip(lines, frame_words(lines)):
+    for line in lines:
+        word = word_of(line)
         call.append(line)
         is_open = (is_open or word == "begin") and word != "commit"
         if not is_open and chance.random() < 0.6:
@@ -53,6 +56,21 @@ def calls_of(chance, lines):
             call = []
     if call:
         yield call
+
+
+def as_request(chance, line, shapes):
+    """The request that stands for a line, with other texts, where there is one."""
+    try:
+        request = request_of(line, shapes)
+    except (LookupError, ValueError):
+        request = None
+    if request is None or chance.random() < 0.5:
+        return line
+    for cells in (each["cells"] for each in (request, *request.get("steps", ())) if "cells" in each):
+        cells.update((name, chance.choice(TEXTS)) for name in cells if shapes[name] == "Text")
+    if shapes.get(request.get("kind"), request.get("shape")) == "Text" and "value" in request:
+        request["value"] = chance.choice(TEXTS)
+    return json.dumps(request, ensure_ascii=chance.random() < 0.5)
 
 
 class Client:
@@ -146,7 +164,7 @@ def play(chance, hub, clients, lines):
     """Plays lines by calls of the clients by turns, and answers how often all were held to the program."""
     held = 0
     for number, call in enumerate(calls_of(chance, lines)):
-        chance.choice(clients).call(*call)
+        chance.choice(clients).call(*(as_request(chance, line, hub.model.shapes) for line in call))
         if chance.random() < 0.15:
             chance.choice(clients).call(*chance.choice((["undo"], ["undo", "undo", "redo"], ["redo"])))
         if number % CALLS_BETWEEN == 0:

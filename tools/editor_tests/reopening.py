@@ -3,7 +3,7 @@ deltas."""
 import json
 import subprocess
 
-from asking import Asker
+from asking import TEXTS, Asker
 from editor_process import EditorProcess, saved
 
 SCRIPT = """kind Name Text
@@ -11,11 +11,19 @@ kind Health Int
 kind Hidden Tag
 spawn Name=cat Health=9
 """
+
+
+def named(entity, text):
+    return json.dumps({"do": "insert", "entity": entity, "kind": "Name", "value": text})
+
+
 FRAMES = (
     (0, ["spawn Name=\"cat\" Health=9 as 0v1"], ()),
     (1, ["spawn Name=\"->\" as 1v1", "1v1 goes below 0v1"], ("begin", "spawn Name=->", "parent +0 0v1", "commit")),
     (2, ["Health of 0v1 is 7"], ("insert 0v1 Health=7",)),
     (2, ["0v1 is Hidden"], ("insert 0v1 Hidden",)),
+    (1, [f'Name of 0v1 is {json.dumps(" ".join(TEXTS[:4]), ensure_ascii=False)}'], (named("0v1", " ".join(TEXTS[:4])),)),
+    (2, ['resource sign is Text="a -> done 0v1"'], ('{"do":"put","name":"sign","shape":"Text","value":"a -> done 0v1"}',)),
     (1, ["advance: hurt"], ("system hurt need=Health addint:Health:-1", "advance")),
     (2, ["an empty frame"], ("begin", "commit")),
     (1, ["resource light is Vec3=1,-2,3"], ("put light Vec3=1,-2,3",)),
@@ -25,7 +33,7 @@ FRAMES = (
     (1, ["2v1 leaves its parent"], ("begin", "parent 2v1 3v1", "unparent 2v1", "commit")),
 )  # fmt: skip
 # What their deltas say alone.
-OF_DELTAS = {4: ["Health of 0v1 is 6"]}
+OF_DELTAS = {6: ["Health of 0v1 is 6"]}
 UNDONE = 2
 
 

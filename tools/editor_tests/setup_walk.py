@@ -5,7 +5,7 @@ from person import Person
 
 KINDS = [("Name", "Text"), ("Health", "Int"), ("Place", "Vec3"), ("Seen", "Tag"), ("Aim", "Link")]
 RUN = "document.title='run'"
-MARKUP = ["<b>bold</b>", f"<script>{RUN}</script>", f'"><img/src=x/onerror={RUN}>', "&lt;&#60;"]
+MARKUP = ["<b>bold</b>", f"<script>{RUN}</script>", f'"><img src=x onerror={RUN}>', "&lt;&#60;"]
 GREATEST = "9223372036854775807"
 
 
@@ -39,10 +39,10 @@ def try_setup(remote, program, room):
         person.wait_for(lambda: person.is_hidden("setup"), "the setup is over")
         for at, name in enumerate(MARKUP):
             spawn(person, f"Name={name} Health={GREATEST} Aim={at}v1", at + 1)
-        person.fill("spawn-cells", "Name=two words")
+        person.fill("spawn-cells", "two words")
         person.click_id("spawn")
-        person.wait_status("space")
-        spawn(person, "Place=1,-2,3 Seen", len(MARKUP) + 1)
+        person.wait_status("no component")
+        spawn(person, "Name=two words Place=1, -2, 3 Seen", len(MARKUP) + 1)
         person.send_line(f"put motto Text={MARKUP[1]}")
         person.wait_for(lambda: MARKUP[1] in person.text("resources"), "the resource is there")
         strange = "document.querySelectorAll('main script, main img, footer script, footer img, .line .text b').length"

@@ -173,8 +173,10 @@ class Tab:
     def write(self, text):
         """Writes a text, key by key."""
         for letter in text:
-            held = ("Shift",) if letter.isupper() else ()
-            self.key(letter, *held)
+            if letter.isascii():
+                self.key(letter, *(["Shift"] if letter.isupper() else []))
+            else:
+                self.call("Input.insertText", text=letter)
 
     def center(self, expression):
         """Where the middle of the element is that an expression gives, scrolled into sight."""

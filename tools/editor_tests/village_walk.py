@@ -47,21 +47,18 @@ class Village:
         for person, entity, kind, written, text in (
             (one, GERRIC, "Age", "40", "40"), (other, GERRIC, "Age", BEYOND_DOUBLES, BEYOND_DOUBLES),
             (one, GERRIC, "Home", MILL, MILL), (other, MILL, "Place", "-31,45,2", "-31,45,2"),
-            (one, MILL, "Name", "The_New_Mill", '"The_New_Mill"'),
+            (one, MILL, "Name", 'The "New" Mill', '"The \\"New\\" Mill"'),
         ):  # fmt: skip
             person.edit_cell(entity, kind, written)
             self.both_show(entity, kind, text)
         one.edit_cell(GERRIC, "Age", "4x")
         one.wait_status("number")
         one.key("Escape")
-        other.edit_cell(MILL, "Name", "The Old Mill")
-        other.wait_status("space")
-        other.key("Escape")
         tick = one.scene()["tick"]
         one.edit_cell(GERRIC, "Age", "7", end="Escape")
         assert one.scene()["tick"] == tick, "Escape has sent what was typed"
         self.both_show(GERRIC, "Age", BEYOND_DOUBLES)
-        self.both_show(MILL, "Name", '"The_New_Mill"')
+        self.both_show(MILL, "Name", '"The \\"New\\" Mill"')
 
     def try_components(self):
         """A tag by its check box, a component added and removed in the detail."""

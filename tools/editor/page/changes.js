@@ -5,7 +5,7 @@ import { isToBeSent, showFault, wasSent } from "./field_faults.js";
 import { called } from "./names.js";
 import { counted } from "./sentences.js";
 import { subtreeOf } from "./subtrees.js";
-import { cellsFault } from "./values.js";
+import { cellsTyped } from "./typed.js";
 
 export class Changes {
   constructor(editor) {
@@ -23,17 +23,15 @@ export class Changes {
 
   async spawn(isBelow) {
     const { editor } = this;
-    const typed = this.cells.value.trim();
-    const fault = cellsFault(editor.mirror.kinds, typed);
-    if (fault !== null) return void this.tellFault(`Not sent: ${fault}.`);
+    const { cells, fault } = cellsTyped(editor.mirror, this.cells.value.trim());
+    if (fault !== undefined) return void this.tellFault(`Not sent: ${fault}.`);
     const parent = editor.chosen.last;
     if (isBelow && parent === null) return void this.tellFault("Choose first below which entity it is to go.");
-    const spawn = `spawn ${typed}`.trim();
-    const lines = isBelow ? ["begin", spawn, `parent +0 ${parent}`, "commit"] : [spawn];
+    const commands = [{ do: "spawn", cells }, ...(isBelow ? [{ do: "parent", child: "+0", parent }] : [])];
     // (the page may hear of the spawn before its answer comes, and the keys of undo are the scene's then)
     wasSent(this.cells);
     const { times } = editor.chosen;
-    const answers = await editor.ask(lines);
+    const answers = await editor.ask(editor.asFrame(commands));
     const bad = answers.find(({ answer }) => answer === "bad");
     if (bad !== undefined) showFault(this.cells, bad.reason, this.cells);
     const entities = answers.at(-1)?.entities ?? [];
@@ -56,7 +54,7 @@ export class Changes {
     const why = kept > 0 ? hidden : "Choose the entities first that are to go.";
     if (targets.length === 0) return void editor.say(why, "refused");
     if (isAll && !(await this.mayGo(targets))) return;
-    const isDone = await editor.sendFrame(targets.map((entity) => `${isAll ? "despawnall" : "despawn"} ${entity}`));
+    const isDone = await editor.sendFrame(targets.map((entity) => ({ do: isAll ? "despawnall" : "despawn", entity })));
     if (isDone && kept > 0) editor.say(`Done; ${counted(kept, "chosen one")} that the search hides stayed.`);
   }
 

@@ -1,6 +1,8 @@
-// The box for lines, as a script has them, and their answers. From `begin` on they wait until `commit`, and go as one.
+// The box for lines, as a script has them, or requests, and their answers. From `begin` on they wait until `commit`,
+// and go as one.
 
 import { part } from "./parts.js";
+import { wordOf } from "./requests.js";
 import { answerText, counted } from "./sentences.js";
 
 const MOST_ANSWERS = 500;
@@ -43,12 +45,13 @@ export class Console {
     if (this.said.at(-1) !== typed) this.said.push(typed);
     this.place = this.said.length;
     this.add("asked", typed);
-    if (this.waiting.length === 0 && typed !== "begin") return this.send([typed]);
+    const word = wordOf(typed);
+    if (this.waiting.length === 0 && word !== "begin") return this.send([typed]);
     this.waiting.push(typed);
     const lines = this.waiting;
-    if (typed === "commit") this.waiting = [];
+    if (word === "commit") this.waiting = [];
     this.showWaiting();
-    if (typed === "commit") await this.send(lines);
+    if (word === "commit") await this.send(lines);
   }
 
   async send(lines) {

@@ -1,7 +1,7 @@
 // Duplicate, copy, paste, and moves among siblings: each one frame, whose words say what it was.
 
 import { called } from "./names.js";
-import { copyOf, duplicateLines, namedWithBelow, placeLines, spawnLines } from "./subtrees.js";
+import { copyOf, duplicateCommands, namedWithBelow, placeCommands, spawnCommands } from "./subtrees.js";
 
 // What was copied is there for all tabs of the server.
 const KEY = "copy";
@@ -19,16 +19,16 @@ export class Copies {
     const { editor } = this;
     const roots = this.targets();
     if (roots.length === 0) return void editor.say("Choose first what is to be duplicated.", "refused");
-    const { lines, fault, count } = duplicateLines(editor.mirror, roots);
+    const { commands, fault, count } = duplicateCommands(editor.mirror, roots);
     if (fault !== undefined) return void editor.say(`Not duplicated: ${fault}.`, "refused");
     const items = copyOf(editor.mirror, roots);
-    await this.askAndChoose(lines, `duplicate ${namedWithBelow(editor.mirror, roots, count)}`, items);
+    await this.askAndChoose(commands, `duplicate ${namedWithBelow(editor.mirror, roots, count)}`, items);
   }
 
   // Sends a frame of copies, and chooses those of them that stand on top.
-  async askAndChoose(lines, words, items) {
+  async askAndChoose(commands, words, items) {
     const { times } = this.editor.chosen;
-    const entities = await this.editor.askFrame(lines, words);
+    const entities = await this.editor.askFrame(commands, words);
     const fresh = entities.filter((_, at) => items[at]?.up === null);
     if (entities.length === items.length) this.editor.chooseWhenThere(fresh, times);
   }
@@ -57,12 +57,12 @@ export class Copies {
     const { editor } = this;
     const items = this.kept();
     if (items === null) return void editor.say("Nothing is copied yet; Ctrl+C copies the chosen.", "refused");
-    const { lines, fault } = spawnLines(editor.mirror, items);
+    const { commands, fault } = spawnCommands(editor.mirror, items);
     if (fault !== undefined) return void editor.say(`Not pasted: ${fault}.`, "refused");
     const tops = items.flatMap(({ up }, at) => (up === null ? [at] : []));
-    if (parent !== null) lines.push(...tops.map((at) => `parent +${at} ${parent}`));
+    if (parent !== null) commands.push(...tops.map((at) => ({ do: "parent", child: `+${at}`, parent })));
     const where = parent === null ? "as roots" : `below ${called(editor.mirror, parent)}`;
-    await this.askAndChoose(lines, `paste ${items.length} ${where}`, items);
+    await this.askAndChoose(commands, `paste ${items.length} ${where}`, items);
   }
 
   // Moves the chosen by one among their siblings.
@@ -90,6 +90,6 @@ export class Copies {
     const what = namedWithBelow(editor.mirror, entities, entities.length);
     const where = way ?? (before === undefined ? `last below ${called(editor.mirror, parent)}`
       : `before ${called(editor.mirror, before)}`);
-    editor.askFrame(placeLines(editor.mirror.state, entities, parent, before), `move ${what} ${where}`);
+    editor.askFrame(placeCommands(editor.mirror.state, entities, parent, before), `move ${what} ${where}`);
   }
 }

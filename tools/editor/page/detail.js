@@ -2,12 +2,11 @@
 // that changed it.
 
 import { showFault } from "./field_faults.js";
-import { linkTyped } from "./links.js";
 import { called, nameOf } from "./names.js";
 import { adopt, part, putIn } from "./parts.js";
 import { Property } from "./property.js";
 import { capital, counted, who } from "./sentences.js";
-import { cellWord, HINTS } from "./values.js";
+import { HINTS, valueTyped } from "./values.js";
 
 const MOST_FRAMES_NAMED = 30;
 
@@ -159,17 +158,12 @@ export class Detail {
     const entities = [...editor.chosen.entities].filter((entity) => editor.mirror.isLive(entity));
     const isReady = entities.length > 0 && kind !== undefined;
     if (!isReady) return void editor.say("Choose an entity and a kind first.", "refused");
-    const { word, fault } = this.wordOf(kind, this.value.value);
+    const [name, shape] = kind;
+    const { value, fault } = valueTyped(editor.mirror, shape, this.value.value);
     if (fault !== undefined) {
       showFault(this.value, fault);
       return void editor.say(`Not sent: ${fault}.`, "refused");
     }
-    editor.sendTyped(this.value, entities.map((entity) => `insert ${entity} ${word}`));
-  }
-
-  wordOf([name, shape], typed) {
-    if (shape !== "Link") return cellWord(name, shape, typed);
-    const { entity, fault } = linkTyped(this.editor.mirror, typed);
-    return fault === undefined ? cellWord(name, shape, entity) : { fault };
+    editor.sendTyped(this.value, entities.map((entity) => ({ do: "insert", entity, kind: name, value })));
   }
 }

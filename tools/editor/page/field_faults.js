@@ -4,7 +4,7 @@
 import { part } from "./parts.js";
 
 const typed = new WeakSet();
-const HOLDS_WORDS = 'input:not([type="checkbox"])';
+const HOLDS_WORDS = 'input:not([type="checkbox"]), textarea';
 
 document.addEventListener("input", (event) => {
   typed.add(event.target);

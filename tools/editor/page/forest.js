@@ -8,7 +8,7 @@ import { isMenuOpen } from "./menu.js";
 import { called } from "./names.js";
 import { counted } from "./sentences.js";
 import { fillTreeLine } from "./tree_line.js";
-import { cellWord } from "./values.js";
+import { valueTyped } from "./values.js";
 
 const SORT = "application/x-entities";
 // A drop on this share of a line's height, above or below, goes between lines.
@@ -143,9 +143,9 @@ export class Forest {
   }
 
   writeName(entity, name, shape, typed) {
-    const { word, fault } = cellWord(name, shape, typed);
+    const { value, fault } = valueTyped(this.editor.mirror, shape, typed);
     if (fault !== undefined) return fault;
-    this.editor.sendFrame([`insert ${entity} ${word}`]);
+    this.editor.sendFrame([{ do: "insert", entity, kind: name, value }]);
     return null;
   }
 
@@ -213,7 +213,7 @@ export class Forest {
 
   moveBelow(entities, parent) {
     if (parent === undefined || entities.length === 0 || this.editor.isLocked(entities)) return;
-    this.editor.sendFrame(entities.map((entity) => `parent ${entity} ${parent}`));
+    this.editor.sendFrame(entities.map((child) => ({ do: "parent", child, parent })));
   }
 
   toRoots(entities) {
@@ -222,7 +222,7 @@ export class Forest {
     const below = this.outermost(entities).filter((entity) => parents.has(entity));
     if (below.length === 0) return void this.editor.say("They are roots already, or none is chosen.", "refused");
     if (this.editor.isLocked(below)) return;
-    this.editor.sendFrame(below.map((entity) => `unparent ${entity}`));
+    this.editor.sendFrame(below.map((child) => ({ do: "unparent", child })));
   }
 
   // Drags

@@ -1,10 +1,10 @@
 // A field over a cell of a list, in which its value is edited. The lines are drawn anew under it.
 
 import { clashBox } from "./clash.js";
+import { breaksLine, fieldFor, fit } from "./fields.js";
 import { clearFault, isTyped, showFault, wasSent } from "./field_faults.js";
 import { LINE_HEIGHT } from "./in_sight.js";
 import { LinkChoices } from "./links.js";
-import { part } from "./parts.js";
 import { HINTS, typedOf } from "./values.js";
 
 const LEAST_WIDTH = 140;
@@ -19,12 +19,10 @@ export class InPlace {
   // answers why it can't be sent, or null. `text` is how the value stands in the field.
   open(cell, { key, shape, value, text = typedOf(shape, value), kind, label, now, whose, send }) {
     this.close();
-    const field = part("input", "in-place", "");
+    const field = fieldFor(shape, "in-place");
     field.id = `${this.list.box.id}-field`;
-    field.type = shape === "Tag" ? "checkbox" : "text";
-    field.checked = shape === "Tag";
-    field.value = text;
-    Object.assign(field, { placeholder: HINTS[shape], autocomplete: "off", spellcheck: false });
+    Object.assign(field, { placeholder: HINTS[shape], checked: shape === "Tag", value: text });
+    fit(field);
     if (kind !== undefined) field.dataset.kind = kind;
     field.setAttribute("aria-label", `${label} (${shape})`);
     field.style.left = `${cell.offsetLeft}px`;
@@ -52,6 +50,7 @@ export class InPlace {
 
   pressed(event) {
     event.stopPropagation();
+    if (breaksLine(event)) return;
     const isUndo = (event.ctrlKey || event.metaKey) && !isTyped(this.field) && "zZy".includes(event.key);
     if (this.choices?.pressed(event)) event.preventDefault();
     else if (isUndo) this.leaveForUndo(event);
@@ -84,7 +83,7 @@ export class InPlace {
     this.editor.say(`Not sent: ${fault}.`, "refused");
     showFault(field, fault, field);
     field.fault.classList.add("field-fault");
-    Object.assign(field.fault.style, { left: field.style.left, top: `${field.offsetTop + LINE_HEIGHT + 2}px` });
+    Object.assign(field.fault.style, { left: field.style.left, top: `${field.offsetTop + field.offsetHeight + 2}px` });
   }
 
   // The focus went elsewhere: what was typed is sent, but not over what another tab wrote meanwhile.
@@ -119,6 +118,7 @@ export class InPlace {
     this.clash = null;
     if (!isTyped(field) || shape === "Tag") {
       field.value = typedOf(shape, value);
+      fit(field);
       this.first = this.typed(field);
       return;
     }
@@ -136,7 +136,7 @@ export class InPlace {
       event.stopPropagation();
       if (event.key === "Escape") this.close(true);
     });
-    Object.assign(this.clash.style, { left: field.style.left, top: `${field.offsetTop + LINE_HEIGHT + 2}px` });
+    Object.assign(this.clash.style, { left: field.style.left, top: `${field.offsetTop + field.offsetHeight + 2}px` });
     this.list.box.append(this.clash);
   }
 

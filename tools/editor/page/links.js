@@ -16,7 +16,7 @@ function choicesFor(mirror, typed, isExact = false) {
   const letters = typed.trim().toLowerCase();
   const [first, rest] = [[], []];
   for (const entity of mirror.state.rows.keys()) {
-    const name = (nameOf(mirror, entity) ?? "").toLowerCase();
+    const name = (nameOf(mirror, entity) ?? "").trim().toLowerCase();
     if (isExact ? name === letters : name.startsWith(letters) && name !== "") first.push(entity);
     else if (!isExact && rest.length < MOST_CHOICES && (name.includes(letters) || entity.startsWith(letters))) {
       rest.push(entity);
@@ -30,9 +30,9 @@ function choicesFor(mirror, typed, isExact = false) {
 export function linkTyped(mirror, typed) {
   const text = typed.trim();
   const [, entity] = text.match(ENTITY) ?? [];
-  if (entity !== undefined) return { entity };
+  if (entity !== undefined) return { value: entity };
   const found = choicesFor(mirror, text, true);
-  if (found.length === 1) return { entity: found[0] };
+  if (found.length === 1) return { value: found[0] };
   if (found.length > 1) return { fault: `several are called ${text}; pick one from the list` };
   return { fault: `“${text}” is no entity's name, nor its id, such as 0v1` };
 }

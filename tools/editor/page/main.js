@@ -18,6 +18,7 @@ import { Panes } from "./panes.js";
 import { Picture } from "./picture.js";
 import { Play } from "./play.js";
 import { refusalText } from "./refusals.js";
+import { lineOf } from "./requests.js";
 import { Resources } from "./resources.js";
 import { Search } from "./search.js";
 import { capital, counted, eventText, who } from "./sentences.js";
@@ -134,10 +135,11 @@ class Editor {
 
   // What the page sends
 
-  // Sends lines and gives their answers; the first that was refused is told.
-  async ask(lines, more) {
+  // Sends requests, or lines as a script has them, and gives their answers; the first that was refused is told.
+  async ask(asked, more) {
     this.refusal = null;
     try {
+      const lines = asked.map((each) => (typeof each === "string" ? each : lineOf(each)));
       const { answers, gone, stale } = await this.wire.call(lines, more);
       if (stale !== undefined) {
         const [entity, kind] = stale;
@@ -150,7 +152,7 @@ class Editor {
         this.say("The shell ended while this was under way; what became of it is shown then.", "refused");
         return [];
       }
-      const told = answers.map((answer, at) => refusalText(answer, lines, at, this.mirror));
+      const told = answers.map((answer) => refusalText(answer, this.mirror));
       const first = told.find((text) => text !== null);
       if (first !== undefined) this.say(first, "refused");
       this.refusal = first ?? null;
@@ -162,8 +164,8 @@ class Editor {
   }
 
   // Whether all was done. `words` are said then, where no event says more.
-  async send(lines, words, more) {
-    const answers = await this.ask(lines, more);
+  async send(asked, words, more) {
+    const answers = await this.ask(asked, more);
     const isDone = answers.length > 0 && answers.every(({ answer }) => !["refused", "fault", "bad"].includes(answer));
     if (isDone && words !== undefined) this.say(words);
     return isDone;
@@ -171,11 +173,11 @@ class Editor {
 
   // Sends what stands in a field, as one frame; the field is empty from then on, but for a refusal: then it may be
   // mended there.
-  async sendTyped(field, lines, words) {
+  async sendTyped(field, commands, words) {
     const typed = field.value;
     field.value = "";
     wasSent(field);
-    const isDone = await this.send(this.asFrame(lines), words);
+    const isDone = await this.send(this.asFrame(commands), words);
     if (!isDone && field.value === "") field.value = typed;
     if (!isDone) showFault(field, this.refusal ?? "It wasn't done.");
   }

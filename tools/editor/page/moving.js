@@ -3,7 +3,7 @@
 
 import { called } from "./names.js";
 import { counted } from "./sentences.js";
-import { cellWord } from "./values.js";
+import { valueTyped } from "./values.js";
 
 const REST = 400;
 
@@ -63,14 +63,14 @@ export class Moving {
     clearTimeout(this.rest);
     const { entities, by, editor } = this;
     const isMoved = entities.size > 0 && (by.x !== 0 || by.y !== 0);
-    const { lines, fault } = isMoved ? this.lines() : { lines: [] };
+    const { commands, fault } = isMoved ? this.commands() : { commands: [] };
     this.entities = new Set();
     if (fault !== undefined) editor.say(`Not moved: ${fault}.`, "refused");
-    if (lines?.length > 0) {
+    if (commands?.length > 0) {
       const sent = this.keepSent(entities, by);
       const [first] = entities;
       const what = entities.size === 1 ? called(editor.mirror, first) : counted(entities.size, "entity", "entities");
-      await editor.sendFrame(lines, { words: `move ${what} by ${by.x},${by.y}` });
+      await editor.sendFrame(commands, { words: `move ${what} by ${by.x},${by.y}` });
       for (const [entity, each] of sent) if (this.sent.get(entity) === each) this.sent.delete(entity);
     }
     this.picture.draw();
@@ -83,23 +83,25 @@ export class Moving {
     return sent;
   }
 
-  // A line for each kind of each that moves. Values have 64 bits, beyond those of a JavaScript number.
-  lines() {
+  // An insert for each kind of each that moves. Values have 64 bits, beyond those of a JavaScript number.
+  commands() {
     const { axes } = this.picture;
-    const lines = [];
+    const { mirror } = this.editor;
+    const commands = [];
     for (const entity of this.entities) {
-      const { cells } = this.editor.mirror.state.rows.get(entity) ?? { cells: new Map() };
+      const { cells } = mirror.state.rows.get(entity) ?? { cells: new Map() };
       const values = new Map();
       for (const [axis, by] of [[axes.x, this.by.x], [axes.y, this.by.y]]) {
         const [value] = cells.get(axis.kind) ?? [];
         if (value !== undefined) values.set(axis.kind, axis.moved(values.get(axis.kind) ?? value, BigInt(by)));
       }
-      for (const [kind, value] of values) {
-        const { word, fault } = cellWord(...this.editor.mirror.kinds[kind], String(value));
+      for (const [kind, moved] of values) {
+        const [name, shape] = mirror.kinds[kind];
+        const { value, fault } = valueTyped(mirror, shape, String(moved));
         if (fault !== undefined) return { fault };
-        lines.push(`insert ${entity} ${word}`);
+        commands.push({ do: "insert", entity, kind: name, value });
       }
     }
-    return { lines };
+    return { commands };
   }
 }

@@ -4,6 +4,8 @@ import { cellsText, rowCells } from "./words.js";
 
 const QUOTED_OR_ENTITY = /"(?:[^"\\]|\\.)*"|\b\d+v\d+\b/g;
 const HUES = 11;
+// What would break a line, or turn about what stands behind it.
+const UNSEEN = /[\p{Cc}\u2028\u2029\u202a-\u202e\u2066-\u2069]+/gu;
 
 // The kind whose text is the name: Name, or else the first Text kind; -1 without one.
 export function nameKind(kinds) {
@@ -11,10 +13,11 @@ export function nameKind(kinds) {
   return named >= 0 ? named : kinds.findIndex(([, shape]) => shape === "Text");
 }
 
-// The name of an entity, or null where it has none.
+// The name of an entity on one line, or null where it has none that can be seen.
 export function nameOf(mirror, entity) {
-  const [value] = mirror.state.rows.get(entity)?.cells.get(mirror.nameKind) ?? [];
-  return value === undefined || value === "" ? null : value;
+  const [value = ""] = mirror.state.rows.get(entity)?.cells.get(mirror.nameKind) ?? [];
+  const name = value.replace(UNSEEN, " ");
+  return name.trim() === "" ? null : name;
 }
 
 export function called(mirror, entity) {

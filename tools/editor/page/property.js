@@ -2,10 +2,11 @@
 // is empty and says —; what is typed there is written for all.
 
 import { clashBox } from "./clash.js";
+import { breaksLine, fieldFor, fit } from "./fields.js";
 import { isTyped, showFault, wasSent } from "./field_faults.js";
-import { LinkChoices, linkText, linkTyped } from "./links.js";
+import { LinkChoices, linkText } from "./links.js";
 import { button, part } from "./parts.js";
-import { cellWord, HINTS, typedOf } from "./values.js";
+import { HINTS, typedOf, valueTyped } from "./values.js";
 import { ticksText } from "./words.js";
 
 const MIXED = "—";
@@ -40,9 +41,8 @@ export class Property {
 
   input(axis) {
     const { name, shape } = this;
-    const field = part("input", "", "");
+    const field = fieldFor(shape);
     field.id = `property-${this.kind}${axis ?? ""}`;
-    Object.assign(field, { type: shape === "Tag" ? "checkbox" : "text", autocomplete: "off", spellcheck: false });
     field.setAttribute("aria-label", `${name}${axis === null ? "" : ` ${axis}`} (${shape})`);
     if (shape === "Link") this.choices = new LinkChoices(field, () => this.editor.mirror, (each) => this.send(each));
     field.addEventListener("keydown", (event) => this.pressed(event, field));
@@ -96,7 +96,14 @@ export class Property {
     if (field.shown === text && field.of === value) return;
     const isEdited = document.activeElement === field && isTyped(field);
     if (isEdited && field.of !== undefined) return void this.changedMeanwhile(field, text, value);
+    this.fill(field, text, value);
+  }
+
+  // `begun` is what stands in the field then: a text area has line feeds alone.
+  fill(field, text, value) {
     Object.assign(field, { value: text, shown: text, of: value });
+    field.begun = field.value;
+    fit(field);
   }
 
   // What this tab itself has just sent is nobody else's change.
@@ -122,13 +129,14 @@ export class Property {
 
   reset(field) {
     this.dropClash();
-    field.value = field.shown ?? "";
+    this.fill(field, field.shown ?? "", field.of);
     wasSent(field);
     field.focus();
     field.select();
   }
 
   pressed(event, field) {
+    if (breaksLine(event)) return;
     if (this.choices?.pressed(event)) return void event.preventDefault();
     if (event.key === "Escape") this.reset(field);
     else if (event.key === "Enter" && this.clash !== null) this.clash.querySelector("button").focus();
@@ -140,19 +148,13 @@ export class Property {
   left(event, field) {
     if (this.clash?.contains(event.relatedTarget)) return;
     if (this.clash !== null) return void this.reset(field);
-    if (isTyped(field) && field.value !== field.shown) this.enter(field, false);
+    if (isTyped(field) && field.value !== field.begun) this.enter(field, false);
   }
 
   // Sends what was typed, for each entity that has the component.
   enter(field, withSelect = true) {
-    if (this.shape === "Tag" || (!isTyped(field) && field.value === field.shown)) return;
-    let typed = field.value;
-    if (this.shape === "Link") {
-      const { entity, fault } = linkTyped(this.editor.mirror, typed);
-      if (fault !== undefined) return void this.tellFault(field, fault);
-      typed = entity;
-    }
-    this.send(typed, field);
+    if (this.shape === "Tag" || (!isTyped(field) && field.value === field.begun)) return;
+    this.send(field.value, field);
     if (withSelect) field.select();
   }
 
@@ -164,20 +166,23 @@ export class Property {
   send(typed, field = this.inputs[0]) {
     const { editor, name, shape, rows } = this;
     const at = this.inputs.indexOf(field);
-    const lines = [];
+    const commands = [];
+    let sent;
     for (const { entity, cells } of rows) {
-      const value = cells.get(this.kind)[0];
-      const text = shape === "Vec3" ? value.map((each, axis) => (axis === at ? typed.trim() : each)).join(",") : typed;
-      const { word, fault } = cellWord(name, shape, text);
+      const [was] = cells.get(this.kind);
+      const text = shape === "Vec3" ? was.map((each, axis) => (axis === at ? typed.trim() : each)).join(",") : typed;
+      const { value, fault } = valueTyped(editor.mirror, shape, text);
       if (fault !== undefined) return void this.tellFault(field, fault);
-      if (typedOf(shape, value) !== text) lines.push(`insert ${entity} ${word}`);
+      if (typedOf(shape, was) !== typedOf(shape, value)) commands.push({ do: "insert", entity, kind: name, value });
+      sent = String(shape === "Vec3" ? value[at] : value);
     }
     wasSent(field);
-    field.sent = typed.trim();
-    if (shape === "Link") Object.assign(field, { shown: undefined, value: linkText(editor.mirror, typed) });
+    field.sent = sent;
+    if (shape === "Link") Object.assign(field, { shown: undefined, value: linkText(editor.mirror, sent) });
     else field.shown = field.value;
+    field.begun = field.value;
     const seen = rows.map(({ entity, cells }) => [entity, name, cells.get(this.kind)[2]]);
-    if (lines.length > 0) this.sent(editor.sendFrame(lines, { seen }), field);
+    if (commands.length > 0) this.sent(editor.sendFrame(commands, { seen }), field);
     else editor.detail.show();
   }
 

@@ -4,9 +4,9 @@ import { ListInSight } from "./in_sight.js";
 import { showFault } from "./field_faults.js";
 import { InPlace } from "./in_place.js";
 import { resourceLines } from "./lines.js";
-import { linkText, linkTyped } from "./links.js";
+import { linkText } from "./links.js";
 import { button, part } from "./parts.js";
-import { cellWord, HINTS } from "./values.js";
+import { HINTS, valueTyped } from "./values.js";
 import { ticksText, valueText } from "./words.js";
 
 export class Resources {
@@ -71,17 +71,16 @@ export class Resources {
   }
 
   drop(name) {
-    this.editor.send([`drop ${name}`]);
+    this.editor.send([{ do: "drop", name }]);
     return null;
   }
 
   // Sends it, and answers why it can't be sent, or null.
   put(name, shape, typed) {
     if (name === "" || name.includes(" ")) return "a resource has a name of one word";
-    const link = shape === "Link" ? linkTyped(this.editor.mirror, typed) : {};
-    const { word, fault } = link.fault === undefined ? cellWord(shape, shape, link.entity ?? typed) : link;
+    const { value, fault } = valueTyped(this.editor.mirror, shape, typed);
     if (fault !== undefined) return fault;
-    this.editor.send([`put ${name} ${word}`]);
+    this.editor.send([{ do: "put", name, shape, value }]);
     return null;
   }
 

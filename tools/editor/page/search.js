@@ -1,12 +1,18 @@
 // What a search and the filter by a kind find. The text of each entity is made once, and anew after its cells changed:
 // so a search over a large scene costs a walk over texts.
 
-import { cellsText, rowCells } from "./words.js";
+import { named, rowCells } from "./words.js";
 import { part } from "./parts.js";
 import { kindCounts } from "./names.js";
 
 const CHUNK = 5000;
 const REST = 15;
+
+// A cell as it is searched: a text between quotes as it is, without escapes.
+function cellText(kinds, [kind, value]) {
+  const [name, shape] = kinds[kind];
+  return shape === "Text" ? `${name}="${value}"` : named(name, shape, value);
+}
 
 export class Search {
   constructor(editor) {
@@ -54,7 +60,8 @@ export class Search {
   textOf(row) {
     const known = this.texts.get(row.entity);
     if (known !== undefined) return known;
-    const text = `${row.entity} ${cellsText(this.editor.mirror.kinds, rowCells(row))}`.toLowerCase();
+    const { kinds } = this.editor.mirror;
+    const text = [row.entity, ...rowCells(row).map((cell) => cellText(kinds, cell))].join(" ").toLowerCase();
     this.texts.set(row.entity, text);
     return text;
   }
@@ -100,7 +107,7 @@ export class Search {
     const words = this.field.value.toLowerCase().split(/\s+/).filter((word) => word !== "");
     const row = mirror.state.rows.get(entity);
     const cells = rowCells(row).filter(([kind]) => kind !== mirror.nameKind);
-    const texts = cells.map((cell) => cellsText(mirror.kinds, [cell]));
+    const texts = cells.map((cell) => cellText(mirror.kinds, cell));
     return texts.filter((text) => words.some((word) => text.toLowerCase().includes(word))).join(" ");
   }
 

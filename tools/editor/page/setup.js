@@ -1,9 +1,8 @@
 // The setup of a new scene: its kinds, until the first other line; or an example, which is played into it.
 
-import { showFault } from "./field_faults.js";
 import { part } from "./parts.js";
 
-const LEVEL = ["Name Text", "Place Vec3", "Health Int", "Lit Tag", "Target Link"];
+const LEVEL = Object.entries({ Name: "Text", Place: "Vec3", Health: "Int", Lit: "Tag", Target: "Link" });
 
 export class Setup {
   constructor(editor) {
@@ -38,23 +37,15 @@ export class Setup {
   add(event) {
     event.preventDefault();
     const name = this.name.value.trim();
-    const { editor } = this;
-    const isWord = name !== "" && !name.includes(" ");
-    if (!isWord) return void this.tellFault("a kind has a name of one word");
     this.name.focus();
-    editor.sendTyped(this.name, [`kind ${name} ${this.shape.value}`], `The kind ${name} is there.`);
-  }
-
-  tellFault(words) {
-    showFault(this.name, words);
-    this.editor.say(`Not sent: ${words}.`, "refused");
+    this.editor.sendTyped(this.name, [{ do: "kind", name, shape: this.shape.value }], `The kind ${name} is there.`);
   }
 
   level() {
     const there = new Set(this.editor.mirror.kinds.map(([name]) => name));
-    const lines = LEVEL.filter((kind) => !there.has(kind.split(" ")[0])).map((kind) => `kind ${kind}`);
+    const missing = LEVEL.filter(([name]) => !there.has(name)).map(([name, shape]) => ({ do: "kind", name, shape }));
     const words = "These kinds are there; add more, or say that they are complete.";
-    if (lines.length > 0) this.editor.send(lines, words);
+    if (missing.length > 0) this.editor.send(missing, words);
   }
 
   async example(name) {

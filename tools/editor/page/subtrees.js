@@ -1,21 +1,21 @@
-// Subtrees as lines of one frame: moves among siblings, and copies. A child goes last below a parent, and no line says
-// another place: so what is to stand behind it goes below the same parent again. Nothing here draws.
+// Subtrees as commands of one frame: moves among siblings, and copies. A child goes last below a parent, and no command
+// says another place: so what is to stand behind it goes below the same parent again. Nothing here draws.
 
 import { nameOf } from "./names.js";
 import { counted } from "./sentences.js";
-import { cellWord, typedOf } from "./values.js";
+import { typedOf, valueTyped } from "./values.js";
 import { rowCells } from "./words.js";
 
 function childrenOf(state, parent) {
   return state.children.get(parent) ?? [];
 }
 
-// The lines that put entities below a parent, before one of its children, or behind all for undefined.
-export function placeLines(state, entities, parent, before) {
+// The commands that put entities below a parent, before one of its children, or behind all for undefined.
+export function placeCommands(state, entities, parent, before) {
   const moved = new Set(entities);
   const others = childrenOf(state, parent).filter((child) => !moved.has(child));
   const at = before === undefined ? others.length : others.indexOf(before);
-  return [...entities, ...others.slice(at)].map((entity) => `parent ${entity} ${parent}`);
+  return [...entities, ...others.slice(at)].map((child) => ({ do: "parent", child, parent }));
 }
 
 // An entity and all below it, parents first, each with the place of its parent in the list; without recursion.
@@ -45,33 +45,33 @@ export function copyOf({ kinds, state }, roots) {
   return items;
 }
 
-// The lines that spawn a copy, or why they can't be: what no line can say yet, as a text with a space. A link to an
-// entity of the copy is `+K`, which the server makes the entity that comes of it.
-export function spawnLines(mirror, items) {
+// The commands that spawn a copy, or why there are none. A link to an entity of the copy is `+K`, which the server
+// makes the entity that comes of it.
+export function spawnCommands(mirror, items) {
   const places = new Map(items.map(({ entity }, at) => [entity, at]));
   const shapes = new Map(mirror.kinds);
-  const lines = [];
+  const commands = [];
   for (const [at, { entity, up, cells }] of items.entries()) {
-    const words = ["spawn"];
-    for (const [name, shape, value] of cells) {
+    const spawned = {};
+    for (const [name, shape, was] of cells) {
       if (shapes.get(name) !== shape) return { fault: `this scene has no kind ${name} of the shape ${shape}` };
-      const own = shape === "Link" ? places.get(value) : undefined;
-      const typed = own === undefined ? cellWord(name, shape, typedOf(shape, value)) : { word: `${name}=+${own}` };
-      const { word, fault } = typed;
+      const own = shape === "Link" ? places.get(was) : undefined;
+      const same = () => valueTyped(mirror, shape, typedOf(shape, was));
+      const { value, fault } = own === undefined ? same() : { value: `+${own}` };
       if (fault !== undefined) return { fault: `${name} of ${nameOf(mirror, entity) ?? entity}: ${fault}` };
-      words.push(word);
+      spawned[name] = value;
     }
-    lines.push(words.join(" "));
-    if (up !== null) lines.push(`parent +${at} +${up}`);
+    commands.push({ do: "spawn", cells: spawned });
+    if (up !== null) commands.push({ do: "parent", child: `+${at}`, parent: `+${up}` });
   }
-  return { lines };
+  return { commands };
 }
 
-// The lines that copy entities with all below them, each copy just behind what it is of.
-export function duplicateLines(mirror, roots) {
+// The commands that copy entities with all below them, each copy just behind what it is of.
+export function duplicateCommands(mirror, roots) {
   const { state } = mirror;
   const items = copyOf(mirror, roots);
-  const { lines, fault } = spawnLines(mirror, items);
+  const { commands, fault } = spawnCommands(mirror, items);
   if (fault !== undefined) return { fault };
   const tops = new Map(items.flatMap(({ entity, up }, at) => (up === null ? [[entity, at]] : [])));
   for (const parent of new Set(roots.map((root) => state.parents.get(root)))) {
@@ -79,11 +79,11 @@ export function duplicateLines(mirror, roots) {
     const list = childrenOf(state, parent);
     const first = list.findIndex((child) => tops.has(child));
     list.slice(first).forEach((child, at) => {
-      if (at > 0) lines.push(`parent ${child} ${parent}`);
-      if (tops.has(child)) lines.push(`parent +${tops.get(child)} ${parent}`);
+      if (at > 0) commands.push({ do: "parent", child, parent });
+      if (tops.has(child)) commands.push({ do: "parent", child: `+${tops.get(child)}`, parent });
     });
   }
-  return { lines, count: items.length };
+  return { commands, count: items.length };
 }
 
 // "Forge and 3 below", or "2 entities and 5 below".

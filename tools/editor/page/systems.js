@@ -3,6 +3,7 @@
 import { showFault } from "./field_faults.js";
 import { ListInSight } from "./in_sight.js";
 import { part } from "./parts.js";
+import { systemText, systemTyped } from "./typed.js";
 
 export class Systems {
   constructor(editor) {
@@ -18,9 +19,10 @@ export class Systems {
   }
 
   show() {
-    const lines = this.editor.mirror.phases.flatMap((phase, at) => [
+    const { mirror } = this.editor;
+    const lines = mirror.phases.flatMap((phase, at) => [
       { sort: "phase", key: `phase ${at}`, text: `phase ${at + 1}` },
-      ...phase.map((line, place) => ({ sort: "system", key: `${at} ${place}`, text: line.replace(/^system +/, "") })),
+      ...phase.map((each, place) => ({ sort: "system", key: `${at} ${place}`, text: systemText(mirror, each) })),
     ]);
     this.list.show(lines);
     this.empty.hidden = lines.length > 0;
@@ -34,7 +36,10 @@ export class Systems {
   async add(event) {
     event.preventDefault();
     const typed = this.line.value.trim().replace(/^system +/, "");
-    if (typed !== "") return void this.editor.sendTyped(this.line, [`system ${typed}`]);
-    showFault(this.line, "Write the system first, as a line has it.", this.line);
+    if (typed === "") return void showFault(this.line, "Write the system first, as a line has it.", this.line);
+    const { request, fault } = systemTyped(this.editor.mirror, typed);
+    if (fault === undefined) return void this.editor.sendTyped(this.line, [request]);
+    showFault(this.line, fault, this.line);
+    this.editor.say(`Not sent: ${fault}.`, "refused");
   }
 }

@@ -1,13 +1,13 @@
 // The tables: each kind set with its rows. Keys go from cell to cell, and a cell is edited in place by its shape.
 
 import { fillTable } from "./fills.js";
-import { linkText, linkTyped } from "./links.js";
+import { linkText } from "./links.js";
 import { called } from "./names.js";
 import { part } from "./parts.js";
 import { ListInSight } from "./in_sight.js";
 import { InPlace } from "./in_place.js";
 import { isUnfolded, newFolds, tableLines, turn } from "./lines.js";
-import { cellWord } from "./values.js";
+import { valueTyped } from "./values.js";
 
 // The column of the entities themselves, before those of their kinds.
 const ENTITY = -1;
@@ -162,15 +162,14 @@ export class Tables {
   // Sends it, and answers why it can't be sent, or null.
   write(entity, name, shape, typed) {
     if (shape === "Tag") {
-      if (typed === false) this.editor.send([`remove ${entity} ${name}`]);
+      if (typed === false) this.editor.send([{ do: "remove", entity, kind: name }]);
       return null;
     }
     const { mirror } = this.editor;
-    const link = shape === "Link" ? linkTyped(mirror, typed) : {};
-    const { word, fault } = link.fault === undefined ? cellWord(name, shape, link.entity ?? typed) : link;
+    const { value, fault } = valueTyped(mirror, shape, typed);
     if (fault !== undefined) return fault;
     const [, , tick] = mirror.state.rows.get(entity)?.cells.get(mirror.kindNamed(name)) ?? [];
-    this.editor.sendFrame([`insert ${entity} ${word}`], { seen: [[entity, name, tick]] });
+    this.editor.sendFrame([{ do: "insert", entity, kind: name, value }], { seen: [[entity, name, tick]] });
     return null;
   }
 }
