@@ -17,12 +17,12 @@ import tempfile
 import textwrap
 import threading
 import traceback
-from contextlib import contextmanager
+from contextlib import contextmanager, suppress
 from pathlib import Path
 from typing import TYPE_CHECKING, Any, Callable, Dict, Iterator, List, Optional, Tuple, Type, TypeVar
 
 import scene
-from scene import BadLine, Calls, Closed, Ended, Entity, KindsDiffer, Refused, StoreError
+from scene import BadLine, Calls, Closed, Ended, Entity, KindsDiffer, Refused, Spawned, StoreError
 
 if TYPE_CHECKING:
     from scene.library import LibraryScene
@@ -40,7 +40,7 @@ Begin = Callable[..., Calls]
 Raised = TypeVar("Raised", bound=BaseException)
 
 
-def error_of(kind: Type[Raised], call: Callable[..., Any], *words: Any, **cells: Any) -> Raised:
+def error_of(kind: Type[Raised], call: Callable[..., Any], /, *words: Any, **cells: Any) -> Raised:
     """The error of a call, which has to be of this kind."""
     try:
         call(*words, **cells)
@@ -49,12 +49,12 @@ def error_of(kind: Type[Raised], call: Callable[..., Any], *words: Any, **cells:
     raise AssertionError("the call was accepted")
 
 
-def refusal(call: Callable[..., Any], *words: Any, **cells: Any) -> Refused:
+def refusal(call: Callable[..., Any], /, *words: Any, **cells: Any) -> Refused:
     """The refusal of a call, which has to be refused."""
     return error_of(Refused, call, *words, **cells)
 
 
-def is_bad(call: Callable[..., Any], *words: Any, **cells: Any) -> bool:
+def is_bad(call: Callable[..., Any], /, *words: Any, **cells: Any) -> bool:
     """Whether a call makes no good line."""
     try:
         call(*words, **cells)
@@ -72,6 +72,13 @@ def spawned(world: Calls, **cells: Any) -> Entity:
     """An entity that is spawned outside a frame."""
     entity = world.spawn(**cells)
     assert isinstance(entity, Entity)
+    return entity
+
+
+def to_come(world: Calls, **cells: Any) -> Spawned:
+    """An entity that an open frame is to spawn."""
+    entity = world.spawn(**cells)
+    assert isinstance(entity, Spawned)
     return entity
 
 
@@ -112,7 +119,7 @@ def frames(begin: Begin) -> None:
         cat = spawned(world, Name="cat", Health=9)
         before = world.show()
         with world.frame() as made:
-            assert world.spawn(Name="bird") is None
+            world.spawn(Name="bird")
             world.parent("+0", cat)
             world.spawn(Name="egg")
             world.set_parent("+1", "+0")
@@ -130,6 +137,39 @@ def frames(begin: Begin) -> None:
             refused = error
         assert refused is not None and told(refused) == (12, "BadLocal", [], (0, 0, 1))
         assert world.show() == before
+
+
+def frames_name_what_they_spawn(begin: Begin) -> None:
+    with begin() as world:
+        cat = spawned(world, Name="cat")
+        with world.frame() as made:
+            bird, egg = to_come(world, Name="bird"), to_come(world, Name="egg")
+            world.set_parent(egg, bird)
+            world.parent(bird, cat)
+            world.insert(egg, Health=1)
+            assert bird.entity is None and is_bad(world.insert, cat, Target=bird)
+            world.line("spawn Name=nest")
+            world.insert(to_come(world, Name="worm"), Health=2)
+            world.line("queue")
+            assert is_bad(world.despawn, egg)
+            leaf = to_come(world, Name="leaf")
+            world.insert(leaf, Health=3)
+        assert made == [bird.entity, egg.entity, "3v1", "4v1", leaf.entity]
+        assert [world.row(each).values().get("Health") for each in made] == [None, 1, None, 2, 3]
+        world.insert(cat, Target=egg)
+        assert world.get(cat, "Target") == egg.entity == "2v1"
+        world.set_parent(egg, None)
+        assert refusal(world.set_parent, egg, None).name == "NoParent"
+        with suppress(Refused), world.frame():
+            lost = to_come(world, Name="bird")
+            world.insert("+1", Health=1)
+        assert lost.entity is None and is_bad(world.despawn, lost) and is_bad(world.get, lost)
+        with world.frame():
+            left = to_come(world, Name="bird")
+            world.line("commit")
+            assert is_bad(world.despawn, left)
+            world.line("begin")
+            assert world.spawn(Name="bird") is None and is_bad(world.despawn, left)
 
 
 def frames_that_fail(begin: Begin) -> None:
@@ -261,7 +301,7 @@ def texts(begin: Begin) -> None:
 
 
 def texts_with_spaces(begin: Begin) -> None:
-    """A library takes any text."""
+    """A text has any characters."""
     with begin() as world:
         for text in (" ", "two words", "\n", "a\r\nb\n", " row 0v1 A=1@1/1"):
             entity = spawned(world, Name=text)
@@ -274,13 +314,39 @@ def texts_with_spaces(begin: Begin) -> None:
             assert other.rows() == world.rows()
 
 
-def texts_on_lines(begin: Begin) -> None:
-    """A line has no place for a space or a line break."""
+def requests(begin: Begin) -> None:
+    """What a request asks for is answered as its line, and a bad one says where."""
     with begin() as world:
-        for text in (" ", "two words", "a\nb"):
-            for call in (world.spawn, lambda **cells: world.insert("0v1", **cells)):
-                assert "Name" in str(error_of(BadLine, call, Name=text))
-        assert is_bad(world.line, "show\nshow") and not world.rows()
+        assert isinstance(world, scene.Scene)
+        assert is_bad(world.line, "show\nshow") and is_bad(world.line, '{"do":"spawn","cells":{}}') and not world.rows()
+        assert world.request("spawn", cells={"Name": "two words"}) == {"answer": "done", "entities": ["0v1"]}
+        assert world.request("put", name="title", shape="Text", value="a \u044f\n")["answer"] == "done"
+        assert "resource title Text=\"a \u044f\\n\"@2/2" in world.show()
+        assert world.request("get", entity="0v1")["cells"] == {"Name": ["two words", 1, 1]}
+        assert told(refusal(world.request, "despawn", entity="7v9")) == (1, "NoSuchEntity", [], (0, 0, 0))
+        before = world.show()
+        for path, bad in {
+            "do": {"do": "jump"},
+            "entity": {"do": "despawn"},
+            "cells.Nam": {"do": "spawn", "cells": {"Nam": 1}},
+            "value[2]": {"do": "insert", "entity": "0v1", "kind": "At", "value": [1, 2, 0.5]},
+        }.items():
+            error = error_of(BadLine, world.request, **bad)
+            assert error.path == path and f'"{path}"' in str(error), error
+        assert error_of(BadLine, world.request, "show", more="\ud800").path is None
+        error_of(TypeError, world.request, "despawn", entity=b"0v1")
+        assert world.show() == before
+
+
+def requests_of_setups(begin: Begin) -> None:
+    """A request too loads a scene text, whose kinds then are all there are, and tells its faults as a line does."""
+    with begin({"A": "Int"}) as world:
+        text = world.save()
+    with begin({"A": "Text"}) as world:
+        assert isinstance(world, scene.Scene) and world.shape_of("A") == "Text"
+        unknown = error_of(Refused, world.request, "load", text='{"scene":1,"\u044f \\"":0}')
+        assert told(unknown) == (51, "UnknownKey", ['"\u044f \\""'], None)
+        assert world.request("load", text=text) == {"answer": "ok"} and world.shape_of("A") == "Int"
 
 
 def undo_and_redo(begin: Begin) -> None:
@@ -706,12 +772,14 @@ def quiet() -> Iterator[List[str]]:
 BOTH = (
     commands,
     frames,
+    frames_name_what_they_spawn,
     frames_that_fail,
     reads,
     bad_values,
     wrong_types,
     names_of_kinds,
     texts,
+    texts_with_spaces,
     undo_and_redo,
     changes,
     full_histories,
@@ -721,8 +789,8 @@ BOTH = (
     reasons,
     refused_lines,
 )
-SHELL = (texts_on_lines,)
-LIBRARY = (texts_with_spaces, dropped_frames)
+SHELL = (requests, requests_of_setups)
+LIBRARY = (dropped_frames,)
 PROGRAMS = (
     stores,
     kinds_of_stores,

@@ -3,8 +3,8 @@
     with scene.open("level.db", kinds={"Name": "Text", "Health": "Int"}) as level:
         cat = level.spawn(Name="cat", Health=9)
         with level.frame():
-            level.insert(cat, Health=5)
-            level.spawn(Name="kitten")
+            kitten = level.spawn(Name="kitten", Health=3)
+            level.set_parent(kitten, cat)
         level.undo()
         print(level.get(cat, "Health"))
 
@@ -15,8 +15,10 @@
 `scene.open` gives either. docs/MODEL.md says what the calls do, docs/SCRIPTS.md what lines do, docs/BINDINGS.md how the
 package is installed.
 
+A `spawn` gives an entity, and in a frame a `Spawned`, which stands for the one that is to come.
+
 Values are True for a Tag, int, three ints, str, and an entity for a Link; numbers may be given as a line writes them. A
-text with a space or a line break has no place on a line: over the shell it is a `BadLine`.
+text has any characters. Over the shell `Scene.request` says what a line can't, as a resource whose text has a space.
 
 What goes wrong is a `SceneError`. `Refused` and `BadLine`, a ValueError, leave the scene as it was, and so does the
 TypeError of a value whose type its kind doesn't take. `KindsDiffer` tells of a store with other kinds, `Closed`, a
@@ -34,7 +36,7 @@ from scene.calls import Calls
 from scene.errors import BadLine, Closed, Ended, KindsDiffer, Lost, NoMemory, OtherVersion, Refused, SceneError
 from scene.errors import StoreError, Untold
 from scene.shell import Scene
-from scene.values import Cell, Entity, Given, Row, Value
+from scene.values import Cell, Entity, Given, Row, Spawned, Value
 from scene.version import __version__
 
 __license__ = "MIT"
@@ -54,6 +56,7 @@ __all__ = [
     "Row",
     "Scene",
     "SceneError",
+    "Spawned",
     "StoreError",
     "Untold",
     "Value",

@@ -5,11 +5,11 @@ import reprlib
 from abc import ABC, abstractmethod
 from contextlib import contextmanager
 from types import TracebackType
-from typing import Dict, Iterator, List, Mapping, Optional, Tuple, Type, TypeVar, overload
+from typing import Dict, Iterator, List, Mapping, Optional, Tuple, Type, TypeVar, Union, overload
 
 from scene.errors import BadLine, KindsDiffer, Refused, SceneError
-from scene.values import SHAPES, Entity, Given, Row, Value, entity_named, fitting, kind_named, row_of, shape_named
-from scene.values import target_named
+from scene.values import SHAPES, Entity, Given, Named, Row, Spawned, Spawns, Value, entity_named, fitting, kind_named
+from scene.values import row_of, shape_named, target_named
 
 Own = TypeVar("Own", bound="Calls")
 
@@ -24,8 +24,12 @@ class Calls(ABC):
     names no kind; TypeError, where a value is of a type that can't be; `Closed`; `NoMemory` over the library, and
     `Ended` over the shell. But for the last two the scene is then as it was.
 
-    An entity may be given as the text of one, and, in an open frame, as `+K`: the K-th that it spawns, from 0.
+    An entity may be given as the text of one, as what a `spawn` in a frame gave, and, in an open frame, as `+K`: the K-th
+    that it spawns, from 0.
     """
+
+    # What the open frame of a `with` spawns.
+    _spawns: Optional[Spawns] = None
 
     @abstractmethod
     def line(self, text: str) -> List[str]:
@@ -43,14 +47,15 @@ class Calls(ABC):
         """The shape of a kind; None where no kind has the name."""
 
     @abstractmethod
-    def spawn(self, /, **cells: Given) -> Optional[Entity]:
+    def spawn(self, /, **cells: Given) -> Union[Entity, Spawned, None]:
         """Spawns an entity with components, given by the names of their kinds, as `spawn(Health=9)`.
 
-        None in an open frame, whose `with` gives all that it spawned.
+        In the `with` of a `frame` it gives a `Spawned`, which later commands take for the entity; in a frame that a line
+        began, None.
         """
 
     @abstractmethod
-    def insert(self, entity: str, /, **cells: Given) -> None:
+    def insert(self, entity: Named, /, **cells: Given) -> None:
         """Gives an entity components, or other values to those that it has, as `insert(cat, Health=5)`.
 
         Each is a frame of its own where none is open. All values are read before the first one is given.
@@ -72,6 +77,15 @@ class Calls(ABC):
             # What went wrong first is what the caller has to see.
             if error is None:
                 raise
+
+    def _noted(self, word: str) -> None:
+        """Notes what the frame of a `with` has to know of a line or a request that was answered, by its first word."""
+        if self._spawns is not None:
+            self._spawns.note(word)
+
+    def _spawned(self) -> Optional[Spawned]:
+        """The entity that the frame of a `with` spawns by its newest command."""
+        return None if self._spawns is None or self._spawns.is_over else self._spawns.newest()
 
     def _made(self, text: str) -> List[Entity]:
         """The entities that a frame spawned; none where the command only joined an open frame."""
@@ -123,20 +137,20 @@ class Calls(ABC):
         """
         self.line(f"kind {kind_named(name)} {shape_named(name, shape)}")
 
-    def remove(self, entity: str, kind: str) -> None:
+    def remove(self, entity: Named, kind: str) -> None:
         """Takes the component of a kind from an entity. Where it has none, that is refused."""
         self._known_shape(kind)
         self._made(f"remove {target_named(entity)} {kind}")
 
-    def despawn(self, entity: str) -> None:
+    def despawn(self, entity: Named) -> None:
         """Despawns an entity. One with children is refused."""
         self._made(f"despawn {target_named(entity)}")
 
-    def despawn_all(self, entity: str) -> None:
+    def despawn_all(self, entity: Named) -> None:
         """Despawns an entity and all below it."""
         self._made(f"despawnall {target_named(entity)}")
 
-    def set_parent(self, child: str, parent: Optional[str]) -> None:
+    def set_parent(self, child: Named, parent: Optional[Named]) -> None:
         """Makes an entity the last child of another; with None, takes it from its parent.
 
         An entity below itself is refused.
@@ -144,7 +158,7 @@ class Calls(ABC):
         below = target_named(child)
         self._made(f"unparent {below}" if parent is None else f"parent {below} {target_named(parent)}")
 
-    def parent(self, child: str, parent: Optional[str]) -> None:
+    def parent(self, child: Named, parent: Optional[Named]) -> None:
         """The same as `set_parent`."""
         self.set_parent(child, parent)
 
@@ -157,12 +171,12 @@ class Calls(ABC):
         self.line("redo")
 
     @overload
-    def get(self, entity: str) -> str: ...
+    def get(self, entity: Named) -> str: ...
 
     @overload
-    def get(self, entity: str, kind: str) -> Value: ...
+    def get(self, entity: Named, kind: str) -> Value: ...
 
-    def get(self, entity: str, kind: Optional[str] = None) -> Value:
+    def get(self, entity: Named, kind: Optional[str] = None) -> Value:
         """The value of a component; without a kind, the row of an entity as a line writes it.
 
         Refused, where the entity isn't alive, or has no component of the kind.
@@ -176,7 +190,7 @@ class Calls(ABC):
             raise Refused("refused 3 NotPresent")
         return cells[kind].value
 
-    def row(self, entity: str) -> Row:
+    def row(self, entity: Named) -> Row:
         """The row of an entity: its components by the names of their kinds, each with its ticks."""
         return row_of(self.get(entity))
 
@@ -208,18 +222,28 @@ class Calls(ABC):
     def frame(self) -> Iterator[List[Entity]]:
         """A frame of all commands of a `with`, done whole or not at all. Its list then has the entities spawned.
 
-        `+K` names the k-th spawn, from 0, to the frame's later commands. An error in the `with` leaves the scene as it
-        was. Where a command is refused, so is the frame, at its end, and nothing of it is done.
+        What a `spawn` gives names the entity to the frame's later commands, and behind it to all calls. An error in the
+        `with` leaves the scene as it was. Where a command is refused, so is the frame, at its end, and nothing of it is
+        done.
         """
         self.line("begin")
+        spawns = self._spawns = Spawns()
         made: List[Entity] = []
         try:
-            yield made
-        except BaseException:
-            self._drop_frame()
-            raise
+            try:
+                yield made
+            except BaseException:
+                self._drop_frame()
+                raise
+            made += self._committed()
+        finally:
+            self._spawns = None
+            spawns.end(made)
+
+    def _committed(self) -> List[Entity]:
+        """Ends the open frame by doing it, and gives what it spawned."""
         try:
-            made += self._made("commit")
+            return self._made("commit")
         except MemoryError:
             # But for this, the frame is over whatever the answer is.
             self._drop_frame()

@@ -1,8 +1,9 @@
 """What goes wrong with a scene: all are a `SceneError`."""
 from __future__ import annotations
 
+import json
 import re
-from typing import List, Optional, Tuple
+from typing import Any, List, Mapping, Optional, Tuple
 
 # A path, which a file fault may end with, is a JSON string, and can have anything in it.
 WORD = re.compile(r'"(?:[^"\\]|\\.)*"|[^ ]+')
@@ -37,11 +38,36 @@ class Refused(SceneError):
 
 
 class BadLine(SceneError, ValueError):
-    """What was asked makes no good line here: a kind that isn't there, a value out of range, a call out of place."""
+    """What was asked makes no good line here: a kind that isn't there, a value out of range, a call out of place.
+
+    Of a bad request `path` tells which part it is, as `cells.Health`, unless it is the whole.
+    """
+
+    def __init__(self, words: str, number: Optional[int] = None, name: Optional[str] = None) -> None:
+        super().__init__(words, number, name)
+        self.path: Optional[str] = None
 
 
 class KindsDiffer(BadLine):
     """A kind of `kinds=` is there with another shape (KindTaken), or isn't there behind the setup (NoSuchKind)."""
+
+
+def told_in_json(answer: Mapping[str, Any]) -> Optional[SceneError]:
+    """The error that an answer in JSON tells (docs/SHELL.md, "JSON"); None of any other answer."""
+    if answer["answer"] == "bad":
+        bad = BadLine(answer["reason"])
+        bad.path = answer.get("path")
+        return bad
+    return Refused(refusal_text(answer)) if answer["answer"] in ("refused", "fault") else None
+
+
+def refusal_text(answer: Mapping[str, Any]) -> str:
+    """A refusal of JSON as a line answers it."""
+    fields = {key: value for key, value in answer.items() if key not in ("answer", "number", "name", "place")}
+    words = [json.dumps(value, ensure_ascii=False) if key == "path" else str(value) for key, value in fields.items()]
+    place = answer.get("place")
+    at = "" if place is None else f" at {place['phase']}.{place['queue']}.{place['command']}"
+    return " ".join([answer["answer"], str(answer["number"]), answer["name"], *words]) + at
 
 
 class Closed(SceneError, ValueError):

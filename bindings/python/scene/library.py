@@ -19,7 +19,7 @@ from typing import Any, Callable, Dict, List, Mapping, NamedTuple, Optional, Tup
 
 from scene.calls import Calls
 from scene.errors import BadLine, Closed, Lost, NoMemory, OtherVersion, Refused, Untold
-from scene.values import Entity, Given, Value, entity_named, kind_named, target_named
+from scene.values import Entity, Given, Named, Spawned, Value, entity_named, kind_named, target_named
 from scene.version import __version__
 
 __all__ = ["BAD", "CLOSED", "DONE", "LOST", "NO_MEMORY", "REFUSED", "UNTOLD"]
@@ -233,7 +233,7 @@ class Library:
             self.close()
 
 
-def raw_target(given: str) -> RawEntity:
+def raw_target(given: Named) -> RawEntity:
     """What a command is about: an entity, or `+K` for the k-th spawn of the frame."""
     target = target_named(given)
     if target.startswith("+"):
@@ -300,19 +300,19 @@ class LibraryScene(Calls):
         self._came(self._scene.call("status", byref(info)), "status")
         return {name: int(getattr(info, name)) for name, _ in RawInfo._fields_}
 
-    def is_alive(self, entity: str) -> bool:
+    def is_alive(self, entity: Named) -> bool:
         """Whether an entity is alive."""
         yes = c_uint32(0)
         self._came(self._scene.call("is_alive", raw_target(entity), byref(yes)), "is_alive")
         return bool(yes.value)
 
-    def parent_of(self, entity: str) -> Optional[Entity]:
+    def parent_of(self, entity: Named) -> Optional[Entity]:
         """The parent of an entity, if it has one."""
         found = RawEntity()
         self._came(self._scene.call("parent", raw_target(entity), byref(found)), "parent")
         return None if (found.index, found.generation) == (2**32 - 1, 2**32 - 1) else shown(found)
 
-    def children_of(self, entity: str) -> List[Entity]:
+    def children_of(self, entity: Named) -> List[Entity]:
         """The children of an entity, in their order."""
         return [shown(child) for child in self._listed("children", RawEntity, raw_target(entity))]
 
@@ -366,6 +366,8 @@ class LibraryScene(Calls):
     def _note(self, line: bytes, code: int) -> None:
         """Keeps what a good line said that this side has to know: the kinds, and whether a frame is open."""
         command, _, rest = line.decode().lstrip(" ").partition(" ")
+        if code != REFUSED:
+            self._noted(command)
         if command == "commit":
             self._in_frame = False
         elif code == REFUSED:
@@ -455,7 +457,7 @@ class LibraryScene(Calls):
         numbered = [(self._kinds[name][0], value) for name, value in self._fitting(cells).items()]
         return [(kind, raw_component(kind, value)) for kind, value in numbered]
 
-    def spawn(self, /, **cells: Given) -> Optional[Entity]:
+    def spawn(self, /, **cells: Given) -> Union[Entity, Spawned, None]:
         components = self._components(cells)
         with self._scene.lock:
             try:
@@ -469,9 +471,12 @@ class LibraryScene(Calls):
                 raise
             self._call("spawn")
             made = RawEntity()
-            return shown(made) if self._scene.call("spawned", 0, byref(made)) == DONE else None
+            if self._scene.call("spawned", 0, byref(made)) == DONE:
+                return shown(made)
+            self._noted("spawn")
+            return self._spawned()
 
-    def insert(self, entity: str, /, **cells: Given) -> None:
+    def insert(self, entity: Named, /, **cells: Given) -> None:
         target = raw_target(entity)
         for kind, value in self._components(cells):
             with self._scene.lock:
@@ -480,20 +485,20 @@ class LibraryScene(Calls):
                 else:
                     self._call("insert", target, value)
 
-    def remove(self, entity: str, kind: str) -> None:
+    def remove(self, entity: Named, kind: str) -> None:
         self._known_shape(kind)
         with self._scene.lock:
             self._call("remove", raw_target(entity), self._kinds[kind][0])
 
-    def despawn(self, entity: str) -> None:
+    def despawn(self, entity: Named) -> None:
         with self._scene.lock:
             self._call("despawn", raw_target(entity))
 
-    def despawn_all(self, entity: str) -> None:
+    def despawn_all(self, entity: Named) -> None:
         with self._scene.lock:
             self._call("despawn_all", raw_target(entity))
 
-    def set_parent(self, child: str, parent: Optional[str]) -> None:
+    def set_parent(self, child: Named, parent: Optional[Named]) -> None:
         with self._scene.lock:
             if parent is None:
                 self._call("remove_parent", raw_target(child))
@@ -509,12 +514,12 @@ class LibraryScene(Calls):
             self._call("redo")
 
     @overload
-    def get(self, entity: str) -> str: ...
+    def get(self, entity: Named) -> str: ...
 
     @overload
-    def get(self, entity: str, kind: str) -> Value: ...
+    def get(self, entity: Named, kind: str) -> Value: ...
 
-    def get(self, entity: str, kind: Optional[str] = None) -> Value:
+    def get(self, entity: Named, kind: Optional[str] = None) -> Value:
         if kind is None:
             return super().get(entity)
         named = entity_named(entity)

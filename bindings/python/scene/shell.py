@@ -1,6 +1,7 @@
-"""Scenes over the program's shell (docs/SHELL.md): `Scene`, each call of which is a line that waits for its answer."""
+"""Scenes over the program's shell (docs/SHELL.md): `Scene`. Its calls are lines or requests, and wait for answers."""
 from __future__ import annotations
 
+import json
 import logging
 import os
 import re
@@ -8,11 +9,11 @@ import select
 import subprocess
 from contextlib import suppress
 from pathlib import Path
-from typing import IO, Dict, List, Mapping, Optional, Sequence, Set, Union
+from typing import IO, Any, Dict, List, Mapping, Optional, Sequence, Set, Union
 
 from scene.calls import Calls
-from scene.errors import BadLine, Closed, Ended, Refused, SceneError, ended
-from scene.values import KIND, Entity, Given, Value, kind_named, target_named, written
+from scene.errors import BadLine, Closed, Ended, Refused, SceneError, ended, told_in_json
+from scene.values import KIND, Entity, Given, Named, Spawned, kind_named, target_named
 
 # For how many milliseconds an answer is awaited before what the program says beside it is passed on.
 PATIENCE = 1000
@@ -97,10 +98,11 @@ class Program:
         return bool(told)
 
     def _errors_heard(self) -> List[str]:
-        """The lines of standard error that weren't used."""
+        """The lines of standard error that weren't used, each whole: the last one comes when its end is there."""
         heard = self._heard[self._errors]
-        lines = heard.decode(errors="replace").rstrip("\n").split("\n")
-        heard.clear()
+        end = len(heard) if self._errors in self._silent else heard.rfind(b"\n") + 1
+        lines = heard[:end].decode(errors="replace").rstrip("\n").split("\n")
+        del heard[:end]
         return [line for line in lines if line]
 
     def _pass_on(self) -> None:
@@ -184,14 +186,35 @@ class Scene(Calls):
     def line(self, text: str) -> List[str]:
         if "\n" in text:
             raise BadLine("a line has no line break")
+        if text.startswith("{"):
+            raise BadLine("a request is no line of a script: `request` sends one")
         # The shell drops a carriage return at the end of a line, and takes spaces there for none.
         end = " \n" if text.endswith("\r") else "\n"
         answer = self._program.ask((text + end).encode())
         if answer and answer[0].startswith(("refused ", "fault ")):
             raise Refused(answer[0])
-        if text.lstrip(" ").startswith("load"):
-            self._shapes.clear()
+        self._answered(text.lstrip(" ").partition(" ")[0])
         return answer
+
+    def request(self, do: str, **keys: Any) -> Dict[str, Any]:
+        """Plays a request (docs/SHELL.md, "Requests"), and gives its answer, as `request("get", entity="0v1")`.
+
+        `do` is the first word of the line that it stands for. Its texts have any characters. A bad request is a
+        `BadLine`, with the path of the part that is bad; a value that JSON doesn't have, a TypeError.
+        """
+        sent = json.dumps({"do": do, **keys}, separators=(",", ":"))
+        answer: Dict[str, Any] = json.loads(self._program.ask(f"{sent}\n".encode())[0])
+        error = told_in_json(answer)
+        if error:
+            raise error
+        self._answered(do)
+        return answer
+
+    def _answered(self, word: str) -> None:
+        """Keeps what this side has to know of a line or a request that was answered, by its first word."""
+        if word == "load":
+            self._shapes.clear()
+        self._noted(word)
 
     def shape_of(self, kind: str) -> Optional[str]:
         if kind not in self._shapes and KIND.fullmatch(kind_named(kind)):
@@ -206,22 +229,14 @@ class Scene(Calls):
                     raise
         return self._shapes.get(kind)
 
-    @staticmethod
-    def _cell(name: str, value: Value) -> str:
-        """A cell as a line writes it."""
-        text = name if value is True else f"{name}={written(value)}"
-        if " " in text or "\n" in text:
-            raise BadLine(f"{name}: a line has no place for a space or a line break in a value")
-        return text
+    def spawn(self, /, **cells: Given) -> Union[Entity, Spawned, None]:
+        answer = self.request("spawn", cells=self._fitting(cells))
+        return Entity(answer["entities"][0]) if answer["answer"] == "done" else self._spawned()
 
-    def spawn(self, /, **cells: Given) -> Optional[Entity]:
-        made = self._made(" ".join(["spawn", *(self._cell(*one) for one in self._fitting(cells).items())]))
-        return made[0] if made else None
-
-    def insert(self, entity: str, /, **cells: Given) -> None:
+    def insert(self, entity: Named, /, **cells: Given) -> None:
         named = target_named(entity)
-        for cell in [self._cell(*one) for one in self._fitting(cells).items()]:
-            self._made(f"insert {named} {cell}")
+        for kind, value in self._fitting(cells).items():
+            self.request("insert", entity=named, kind=kind, value=value)
 
     def load(self, text: str) -> None:
         # A line break is white space of JSON, as a tab is, and neither can stand within a string.

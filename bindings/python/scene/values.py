@@ -5,7 +5,7 @@ import json
 import operator
 import re
 import reprlib
-from typing import Callable, Dict, NamedTuple, Optional, Sequence, Tuple, TypeVar, Union
+from typing import Callable, Dict, List, NamedTuple, Optional, Sequence, Tuple, TypeVar, Union
 
 from scene.errors import BadLine
 
@@ -26,9 +26,73 @@ class Entity(str):
         return int(self.partition("v")[2])
 
 
+class Spawned:
+    """An entity that a frame spawns. It names it to the frame's later commands, and behind the frame to all calls."""
+
+    __slots__ = ("_frame", "_number", "_entity")
+
+    def __init__(self, frame: "Spawns", number: int) -> None:
+        self._frame = frame
+        self._number = number
+        self._entity: Optional[Entity] = None
+
+    @property
+    def entity(self) -> Optional[Entity]:
+        """The entity; None before the end of its frame, and where that wasn't done."""
+        return self._entity
+
+    def spawned(self) -> Entity:
+        """The entity, behind its frame; before, and where that wasn't done, a BadLine."""
+        if self._entity is None:
+            raise BadLine("no frame has spawned the entity yet")
+        return self._entity
+
+    def target(self) -> str:
+        """Its text in a command: the entity's, or in its frame `+K`."""
+        return self._entity if self._entity is not None else self._frame.target(self._number)
+
+    def __repr__(self) -> str:
+        return f"Spawned({str(self._entity)!r})" if self._entity is not None else f"Spawned(number {self._number})"
+
+
+class Spawns:
+    """What an open frame spawns. `+K` is the K-th spawn of its queue, and so means nothing in another queue."""
+
+    def __init__(self) -> None:
+        self._all: List[Spawned] = []
+        self._first = 0
+        self.is_over = False
+
+    def note(self, word: str) -> None:
+        """Notes a command that was queued, or a line of the frame itself, by its first word."""
+        if word == "spawn":
+            self._all.append(Spawned(self, len(self._all)))
+        elif word == "queue":
+            self._first = len(self._all)
+        elif word == "commit":
+            self.is_over = True
+
+    def newest(self) -> Optional[Spawned]:
+        return self._all[-1] if self._all else None
+
+    def target(self, number: int) -> str:
+        if self.is_over:
+            raise BadLine("the frame that was to spawn the entity wasn't done")
+        if number < self._first:
+            raise BadLine("another queue of the frame spawns the entity")
+        return f"+{number - self._first}"
+
+    def end(self, entities: Sequence[Entity]) -> None:
+        """Ends the frame, which has spawned these, or none where it wasn't done."""
+        self.is_over = True
+        for spawned, entity in zip(self._all, entities):
+            spawned._entity = entity  # pylint: disable=protected-access
+
+
 Value = Union[bool, int, Tuple[int, int, int], str, Entity]
-# What a call takes for a value.
-Given = Union[Value, Sequence[int]]
+# What a call takes for a value, and for an entity.
+Given = Union[Value, Sequence[int], Spawned]
+Named = Union[str, Spawned]
 
 
 class Cell(NamedTuple):
@@ -80,11 +144,6 @@ def row_of(line: str) -> Row:
     return Row(Entity(entity), cells)
 
 
-def written(value: Value) -> str:
-    """A value as a line writes it."""
-    return ",".join(map(str, value)) if isinstance(value, tuple) else str(value)
-
-
 WHOLE = re.compile(r"0|-?[1-9][0-9]{0,18}")
 ENTITY = re.compile(r"(0|[1-9][0-9]{0,9})v(0|[1-9][0-9]{0,9})")
 NEW = re.compile(r"\+(0|[1-9][0-9]{0,9})")
@@ -131,6 +190,8 @@ def read_text(value: object) -> str:
 
 def read_entity(value: object) -> Entity:
     """An entity."""
+    if isinstance(value, Spawned):
+        return value.spawned()
     if not isinstance(value, str):
         raise TypeError
     parts = ENTITY.fullmatch(value)
@@ -141,6 +202,8 @@ def read_entity(value: object) -> Entity:
 
 def read_target(value: object) -> str:
     """What a command is about: an entity, or `+K` for the k-th spawn of the frame."""
+    if isinstance(value, Spawned):
+        return value.target()
     new = NEW.fullmatch(value) if isinstance(value, str) else None
     return read_entity(value) if new is None or int(new[1]) >= 2**32 else new[0]
 
@@ -161,6 +224,8 @@ def fitting(what: str, read: Callable[[object], Read], form: str, value: object)
     """What is read of a value. Where it isn't of this form, a TypeError or a BadLine says so."""
     try:
         return read(value)
+    except BadLine:
+        raise
     except (TypeError, ValueError) as error:
         try:
             shown = reprlib.repr(value)
