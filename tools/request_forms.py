@@ -238,9 +238,16 @@ def system_of(shapes, name, *words):
     return request
 
 
+def has_kind_twice(line):
+    """Whether a system's child has a kind twice in a good line, which no request says."""
+    children = [word.removeprefix("child:").split(";") for word in line.split(" ") if word.startswith("child:")]
+    return any(len({cell.partition("=")[0] for cell in cells}) < len(cells) for cells in children)
+
+
 def request_of(line, kinds):
     """The request that stands for a good line of a script. None for an empty line, a comment, and a spawn with a kind
-    twice, which no request says."""
+    twice, which no request says. Of a system whose child has a kind twice, which no advance takes, one without the
+    first of them."""
     shapes = dict(kinds)
     word, *words = [word for word in line.split(" ") if word] or [""]
     if word not in KEYS:
