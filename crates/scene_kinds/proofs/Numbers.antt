@@ -1,5 +1,5 @@
 -- The one text of a number, and where the text of an entity is cut.
-use Rattle.std.proofs.Common.{◌≡◌, ◌≢◌, true, false, subst, ℕ, zero, suc, ◌<◌, ◌^◌, List, [], ◌∷◌, ◌++◌, length, get_or, Result, Ok, Err, arith, refl, sym, lit<}
+use Rattle.std.proofs.Common.{◌≡◌, ◌≢◌, true, false, subst, ℕ, zero, suc, ◌<◌, ◌^◌, List, [], ◌∷◌, length, get_or, Result, Ok, Err, arith, refl, sym, lit<}
 use Rattle.std.specs.Prelude.{MatchResult, is_ok}
 use Rattle.std.specs.Str.{IsUtf8}
 use Rattle.std.proofs.lemmas.Str.{IsUtf8-from_ascii, IsAscii-append}

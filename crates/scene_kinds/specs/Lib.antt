@@ -3,6 +3,7 @@ pub mod Cells
 pub mod Entity
 pub mod EntityReading
 pub mod Fault
+pub mod Held
 pub mod KindLaws
 pub mod KindSet
 pub mod Lists

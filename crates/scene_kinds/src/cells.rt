@@ -1,34 +1,41 @@
 //! Rows, and the cells of a row by their kinds.
-ghost use Rattle.std.specs.Prelude.{◌≡◌, ◌<◌, ◌^◌, ◌↔◌, IsTrue, [], length, IfOk, IsOk, OnOk, OnErr, IfSome, IfNone, IsSome, None, Some, not, nat_eq, nat_lt};
+ghost use Rattle.std.specs.Prelude.{◌≡◌, ◌<◌, ◌^◌, ◌++◌, ◌↔◌, IsTrue, [], length, IfOk, IsOk, OnOk, OnErr, IfSome, IfNone, IsSome, None, Some, not, nat_eq, nat_lt};
 ghost use Rattle.std.specs.List.{position_from};
-ghost use Rattle.std.specs.Option.{option_map};
+ghost use Rattle.std.specs.Option.{option_map, option_to_list};
 ghost use Rattle.scene_kinds.specs.Cells.{cell_of, with_cell, without_cell, mask_of, shown, IsAscending, AreKindsBelow, IsPlaceOf, IsTakenAt, IsNext, GoesLast};
 
 use crate::cell::{Cell, CellRef};
 use crate::entity::Entity;
+use crate::held::{Held, held_of};
 use crate::kind_set::KindSet;
 use std::alloc::{AllocError, Global};
 use std::marker::Model;
+use std::{fmt, mem};
 
-/// The cells of a row, each with its kind. In a row that stands in a table the kinds ascend.
-#[derive(Clone, Debug)]
+/// For how many cells a list is made where a second one comes to a lone one.
+const FIRST_ROOM: usize = 2;
+
+/// The cells of a row, each with its kind. In a row that stands in a table the kinds ascend. One alone takes no memory
+/// of its own.
 pub struct Cells {
-    items: Vec<(u8, Cell)>,
+    alloc: Global,
+    held: Held,
 }
 
 impl Drop for Cells {
     fn drop(self) {
-        let Cells { items: _ } = self;
+        let Cells { alloc: _, held: _ } = self;
     }
 }
 
 impl Model for Cells {
     ghost use Rattle.std.specs.Prelude.{List, ℕ};
     ghost use Rattle.scene_kinds.specs.declared.cell.Cell.{Cell};
+    ghost use Rattle.scene_kinds.specs.Held.{held_cells};
 
     ghost Value = { List (ℕ × Cell) };
 
-    ghost view = { λ c. c.items.items };
+    ghost view = { λ c. held_cells c.held };
 }
 
 impl Cells {
@@ -37,30 +44,35 @@ impl Cells {
         ensures { result ≡ [] }
     {
         Cells {
-            items: Vec::new(alloc),
+            alloc,
+            held: Held::Empty,
         }
     }
 
-    /// The cells of a list. It takes no memory.
+    /// The cells of a list. It takes no memory, and a lone cell gives the list's back.
     pub fn from_vec(items: Vec<(u8, Cell)>) -> Self
         ensures { result ≡ items.items }
     {
-        Cells { items }
+        let alloc = *items.allocator();
+        Cells {
+            alloc,
+            held: held_of(items),
+        }
     }
 
-    /// The list of these cells. It takes no memory.
-    pub fn into_vec(self) -> Vec<(u8, Cell)>
-        ensures { result.items ≡ self }
+    /// Takes out the last cell with its kind, or gives `None` where there are no cells. It takes no memory.
+    pub fn pop(&mut self) -> Option<(u8, Cell)>
+        ensures items { self.old ≡ self.new ++ option_to_list result }
+        ensures empty { IfNone result (self.old ≡ []) }
     {
-        let Cells { items } = self;
-        items
+        self.held.pop()
     }
 
     /// The kinds with their cells, in order.
     pub fn as_slice(&self) -> &[(u8, Cell)]
         ensures { result.now ≡ self.now }
     {
-        self.items.as_slice()
+        self.held.as_slice()
     }
 
     /// How many cells there are.
@@ -68,21 +80,21 @@ impl Cells {
         ensures count { result ≡ length self.now }
         ensures small { result < 2 ^ 63 }
     {
-        self.items.len()
+        self.as_slice().len()
     }
 
     /// Whether there are no cells.
     pub fn is_empty(&self) -> bool
         ensures { IsTrue result ↔ (self.now ≡ []) }
     {
-        self.items.is_empty()
+        self.as_slice().is_empty()
     }
 
     /// The cell of a kind, or `None` where it has none. It costs a walk over the cells.
     pub fn get(&self, kind: u8) -> Option<CellRef<'_>>
         ensures { option_map shown result ≡ cell_of self.now kind }
     {
-        let items = self.items.as_slice();
+        let items = self.as_slice();
         let at = place_of(items, kind)?;
         let cell = &items[at].1;
         Some(CellRef {
@@ -100,7 +112,19 @@ impl Cells {
         ensures done { OnOk result (self.new ≡ with_cell self.old kind cell) }
         ensures full { OnErr result (self.new ≡ self.old) }
     {
-        put_cell(&mut self.items, kind, cell)
+        match &mut self.held {
+            Held::Empty => {
+                self.held = Held::Lone((kind, cell));
+                return Ok(());
+            }
+            Held::Lone(_) => (),
+            Held::Many(items) => return put_cell(items, kind, cell),
+        }
+        let empty = Vec::with_capacity(self.alloc, FIRST_ROOM)?;
+        let mut list = mem::replace(&mut self.held, Held::Empty).into_list(empty);
+        let put = put_cell(&mut list, kind, cell);
+        self.held = Held::Many(list);
+        put
     }
 
     /// Takes out the cell of a kind, or gives `None` where it has none. It takes no memory, and costs a walk over
@@ -110,8 +134,8 @@ impl Cells {
         ensures value { result ≡ cell_of self.old kind }
         ensures rest { self.new ≡ without_cell self.old kind }
     {
-        let at = place_of(self.items.as_slice(), kind)?;
-        let (_, cell) = self.items.remove(at);
+        let at = place_of(self.held.as_slice(), kind)?;
+        let (_, cell) = self.held.remove(at);
         Some(cell)
     }
 
@@ -121,7 +145,7 @@ impl Cells {
         requires below { AreKindsBelow 64 self.now }
         ensures { result ≡ mask_of self.now }
     {
-        mask_of_kinds(self.items.as_slice())
+        mask_of_kinds(self.as_slice())
     }
 
     /// Puts a cell in place of that of a kind which is there, and answers the old one. It takes no memory,
@@ -132,8 +156,8 @@ impl Cells {
         ensures old { cell_of self.old kind ≡ Some result }
         ensures new { self.new ≡ with_cell self.old kind cell }
     {
-        match place_of(self.items.as_slice(), kind) {
-            Some(at) => std::mem::replace(&mut self.items[at].1, cell),
+        match place_of(self.held.as_slice(), kind) {
+            Some(at) => self.held.replace(at, cell),
             None => unreachable!(),
         }
     }
@@ -143,8 +167,26 @@ impl Cells {
         ensures { IfOk result (λ copy. copy ≡ self.now) }
     {
         Ok(Cells {
-            items: self.items.clone()?,
+            alloc: self.alloc,
+            held: self.held.try_clone()?,
         })
+    }
+}
+
+/// Equal cells, or an error where no memory was found.
+impl Clone for Cells {
+    ghost is_clone = { λ a b. b ≡ a };
+
+    fn clone(&self) -> Result<Cells, AllocError> {
+        self.try_clone()
+    }
+}
+
+/// As a list of kinds with cells.
+impl fmt::Debug for Cells {
+    fn fmt<W: fmt::Write>(&self, f: &mut fmt::Formatter<W>) -> fmt::Result {
+        let items = self.as_slice();
+        write!(f, "Cells {{ items: {items:?} }}")
     }
 }
 

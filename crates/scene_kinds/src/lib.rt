@@ -15,6 +15,7 @@ mod cells;
 mod digits;
 mod entity;
 mod fault;
+mod held;
 mod kind_set;
 mod laws;
 mod number;

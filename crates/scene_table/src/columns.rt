@@ -17,7 +17,7 @@ use crate::row_cells::{RowCells, Source};
 use crate::run::RunColumn;
 use crate::since::Since;
 use crate::writer::ColumnWriter;
-use scene_kinds::{Cell, KindSet, has_kind};
+use scene_kinds::{Cell, Cells, KindSet, has_kind};
 use std::alloc::{AllocError, Global};
 
 /// The columns of a kind set, without cells.
@@ -67,10 +67,10 @@ pub(crate) fn reserve_each(columns: &mut [Column], additional: usize) -> Result<
 }
 
 /// Puts the cells of a row back at a place, one in each column. It takes no memory.
-pub(crate) fn put_cells(columns: &mut [Column], at: usize, cells: Vec<(u8, Cell)>)
-    requires count { length cells.items ≡ length columns.old }
+pub(crate) fn put_cells(columns: &mut [Column], at: usize, cells: Cells)
+    requires count { length cells ≡ length columns.old }
     requires room { All (HasRoomAt at) columns.old }
-    ensures { columns.new ≡ put_each at cells.items columns.old }
+    ensures { columns.new ≡ put_each at cells columns.old }
 {
     let mut cells = cells;
     while let Some((_, cell)) = cells.pop() {
@@ -99,7 +99,7 @@ pub(crate) fn put_row(columns: &mut [Column], at: usize, cells: RowCells<'_>)
     ensures { columns.new ≡ put_each at cells.entry columns.old }
 {
     match cells.into_source() {
-        Source::Own(cells) => put_cells(columns, at, cells.into_vec()),
+        Source::Own(cells) => put_cells(columns, at, cells),
         Source::Lent(cells) => put_copies(columns, at, cells.as_slice()),
     }
 }

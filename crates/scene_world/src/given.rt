@@ -83,7 +83,11 @@ pub(crate) fn new_cells(
     ensures { IfOk result (λ cells. cells ≡ new_cells tick given.items) }
 {
     let mut given = given;
-    let mut cells = Cells::from_vec(Vec::with_capacity(alloc, given.len())?);
+    let mut cells = if given.len() > 1 {
+        Cells::from_vec(Vec::with_capacity(alloc, given.len())?)
+    } else {
+        Cells::new(alloc)
+    };
     while let Some((kind, value)) = given.pop() {
         cells.put(kind, Cell::new(value, tick))?;
     }

@@ -7,11 +7,11 @@ use Rattle.scene_table.proofs.columns.put_cells.Goals as goal
 
 pub loop-cell-preserved : goal.loop-cell-preserved
 loop-cell-preserved c =
-    let cells = c.pop.new.self.items in
+    let cells = c.pop.new.self in
     let columns = c.loop-cell.columns in
     let d = c.index-columns-len.result in
-    let popped : c.loop-cell.cells.items ≡ cells ++ (c.in-Some.field-0-0, c.in-Some.cell) ∷ [] = c.in-Some.ensures.items in
-    let count : length c.loop-cell.cells.items ≡ length cells + 1 = ap length popped ∙ length-append cells _ in
+    let popped : c.loop-cell.cells ≡ cells ++ (c.in-Some.field-0-0, c.in-Some.cell) ∷ [] = c.in-Some.ensures.items in
+    let count : length c.loop-cell.cells ≡ length cells + 1 = ap length popped ∙ length-append cells _ in
     let at : c.len.result ≡ length cells = omega (arith, c.len.ensures) in
     let written : slice_set columns c.len.result c.put_back.new.self ≡ slice_set columns (length cells) (back_in_column c.args.at (get_or columns (length cells) d) c.in-Some.cell) =
     ap (slice_set columns c.len.result) c.put_back.ensures ∙ ap (λ n. slice_set columns n (back_in_column c.args.at (get_or columns n d) c.in-Some.cell)) at in
