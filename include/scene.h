@@ -43,7 +43,8 @@ typedef enum scene_code {
     SCENE_REFUSED = 3,   /* refused, by the rules of the world: scene_refused says why */
     SCENE_BAD = 4,       /* there is no such call here, as a commit without a begin, or its arguments name nothing */
     SCENE_UNTOLD = 5,    /* answered, but memory was wanting for the text alone: scene_refused says if it was refused,
-                            scene_spawned and scene_named what it made. Only of scene_line, scene_load and scene_save */
+                            scene_spawned and scene_named what it made. Only of scene_line, scene_request, scene_load,
+                            scene_save and scene_advance */
     SCENE_LOST = 6       /* memory was wanting, and the kinds or the scene that the setup had are lost */
 } scene_code;
 
@@ -54,7 +55,7 @@ typedef enum scene_shape {
     SCENE_VEC3 = 2, /* x, y and z */
     SCENE_TEXT = 3, /* none: the text comes apart */
     SCENE_LINK = 4, /* x is the index of an entity, y its generation */
-    SCENE_ABSENT = 5 /* of scene_gather alone: there is no such component */
+    SCENE_ABSENT = 5 /* of scene_gather and scene_step: there is no such component */
 } scene_shape;
 
 /* An entity. Its generation is 1 or more, and an index that is used again has a greater one: so an old entity never
@@ -110,11 +111,18 @@ void scene_close(scene **s);
  * bad line, of which scene_bad_reason says why. */
 scene_code scene_line(scene **s, const uint8_t *line, size_t len);
 
+/* Plays a request: `len` bytes of a JSON object in place of a line, whose texts have any characters, as
+ * {"do":"put","name":"Motto","shape":"Text","value":"Big House"} (docs/SHELL.md, "Requests"). It does what scene_line
+ * does with the line that it stands for, and keeps the text of that line's answer. SCENE_BAD is a bad request, and
+ * changes nothing: the text that is kept says why, and where in it. Of one that is out of place, as a commit without a
+ * begin, scene_bad_reason says why, as of the line. */
+scene_code scene_request(scene **s, const uint8_t *request, size_t len);
+
 /* The length of the text that is kept; its first `room` bytes go to `at`, which may be NULL where `room` is 0.
- * scene_line, scene_load, scene_save, scene_bad_reason and scene_get of a text keep a text, and other calls that are
- * answered an empty one. The text before stays where nothing was done for want of memory or since the arguments name
- * nothing, where a component is given to a spawn, where a frame is dropped, and where the last answer is read (this
- * call, scene_spawned, scene_named, scene_refused). */
+ * scene_line, scene_request, scene_load, scene_save, scene_advance, scene_bad_reason and scene_get of a text keep a
+ * text, and other calls that are answered an empty one. The text before stays where nothing was done for want of memory
+ * or since the arguments name nothing, where a component is given to a spawn, where a frame is dropped, and where the
+ * last answer is read (this call, scene_spawned, scene_named, scene_refused). */
 size_t scene_answer(scene **s, uint8_t *at, size_t room);
 
 /* Says in words why the last call that was answered was SCENE_BAD, as a bad line, or a commit without a begin: the
@@ -160,9 +168,10 @@ scene_code scene_undo(scene **s);
 scene_code scene_redo(scene **s);
 
 /* The same of the `count` newest frames, one after another, where there are so many, as a drag is one step for a user:
- * SCENE_REFUSED where there are fewer, and none is taken back or done. Each is a call as scene_undo makes one. Where
- * memory was wanting (SCENE_NO_MEMORY), or a line `calls` has set a limit of calls that is reached (SCENE_REFUSED,
- * fault 17), those before are done: scene_status says how many are left. They end the setup. */
+ * SCENE_REFUSED where there are fewer, and none is taken back or done; in an open frame SCENE_BAD, as scene_undo is,
+ * where there are enough and `count` isn't 0. Each is a call as scene_undo makes one. Where memory was wanting
+ * (SCENE_NO_MEMORY), or a line `calls` has set a limit of calls that is reached (SCENE_REFUSED, fault 17), those before
+ * are done: scene_status says how many are left. They end the setup. */
 scene_code scene_undo_by(scene **s, size_t count);
 scene_code scene_redo_by(scene **s, size_t count);
 
@@ -191,6 +200,20 @@ scene_code scene_remove(scene **s, scene_entity entity, uint32_t kind);
 scene_code scene_set_parent(scene **s, scene_entity child, scene_entity parent);
 scene_code scene_remove_parent(scene **s, scene_entity child);
 
+/* Puts a resource at a name, or writes the one that is there, of any shape; the cell's kind means nothing. And takes
+ * one away. SCENE_BAD for a name or a text that is no UTF-8; fault 30 for a name that isn't good, as a kind's is. */
+scene_code scene_put(scene **s, const uint8_t *name, size_t name_len, scene_cell cell);
+scene_code scene_put_text(scene **s, const uint8_t *name, size_t name_len, const uint8_t *text, size_t len);
+scene_code scene_drop(scene **s, const uint8_t *name, size_t name_len);
+
+/* ---- systems (docs/MODEL.md, "The rule of systems"): scene_request and scene_line add one to the last phase */
+
+/* Begins a phase behind those that there are; takes all systems away; plays all of them once, which is a frame, and
+ * keeps the text of the answer. */
+scene_code scene_phase(scene **s);
+scene_code scene_clear_systems(scene **s);
+scene_code scene_advance(scene **s);
+
 /* ---- the last answer: scene_spawned, scene_named and scene_refused tell of the last call that was answered, not of
  * one that was SCENE_BAD for its arguments, gave a component to a spawn, dropped a frame, or found no memory */
 
@@ -215,8 +238,8 @@ scene_code scene_named(scene **s, size_t at, scene_name *out);
 scene_code scene_refused(scene **s, scene_refusal *out);
 
 /* ---- reading a scene as it is: these calls change nothing, neither the scene nor the last answer, and need no memory
- * but for a list where it is said: SCENE_NO_MEMORY then. In the setup there is nothing to read but kinds: SCENE_BAD, and
- * nowhere else but where it is said. On any other code than SCENE_DONE what would be written stays as it was.
+ * but for a list where it is said: SCENE_NO_MEMORY then. In the setup there is nothing to read but kinds: SCENE_BAD,
+ * and nowhere else but where it is said. On any other code than SCENE_DONE what would be written stays as it was.
  * scene_refused tells nothing of them.
  *
  * A list is told from the item `from` on: as many items as there are, and as fit into `room`, go to `at`, in their
@@ -327,6 +350,37 @@ scene_code scene_changed_since(scene **s, scene_moment moment, uint64_t need, ui
                                scene_name *at, size_t room, size_t *total);
 scene_code scene_added_since(scene **s, scene_moment moment, uint64_t need, uint64_t without, size_t from,
                              scene_name *at, size_t room, size_t *total);
+
+/* A way along the frames that are kept: from the newest that can be undone, or from the next that can be redone. */
+typedef enum scene_way {
+    SCENE_BACK = 0,
+    SCENE_ON = 1
+} scene_way;
+
+/* What a delta did (docs/JOURNAL.md, "The six deltas"). */
+typedef enum scene_change {
+    SCENE_SPAWNED = 0,   /* the entity came, with components that the scene tells */
+    SCENE_DESPAWNED = 1, /* it went, from its parent too */
+    SCENE_SHIFTED = 2,   /* a component came, of kind after.kind, or went: before.kind; the other is SCENE_ABSENT */
+    SCENE_SET = 3,       /* a component was written */
+    SCENE_LINKED = 4,    /* the parent is another, or the place among its children */
+    SCENE_RESOURCE = 5   /* a resource came, went or was written; the entity is SCENE_NONE */
+} scene_change;
+
+/* A delta of a frame. Where there is no such component or parent, SCENE_ABSENT and SCENE_NONE; a text comes apart. */
+typedef struct scene_delta {
+    uint32_t change; /* a scene_change */
+    scene_entity entity;
+    scene_cell before, after;
+    scene_entity parent_before, parent_after;
+} scene_delta;
+
+/* What a frame did that is kept: the one at a place, from 0, on a way; the tick of the scene before it, and its deltas
+ * in the order in which they were made, which led from that scene to the one behind the frame. So a view follows a
+ * frame or a redo by the deltas at place 0 of SCENE_BACK, and an undo by those at place 0 of SCENE_ON from the last to
+ * the first, with before and after exchanged. SCENE_REFUSED where there is no such frame, SCENE_BAD for another way. */
+scene_code scene_step(scene **s, uint32_t way, size_t place, uint64_t *tick, size_t from, scene_delta *at, size_t room,
+                      size_t *total);
 
 #ifdef __cplusplus
 }

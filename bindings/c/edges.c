@@ -78,6 +78,64 @@ static void be_refused(scene **s)
     CHECK(play(s, "get x") == SCENE_BAD && scene_refused(s, &(scene_refusal){0}) == SCENE_BAD);
 }
 
+static scene_code request(scene **s, const char *text)
+{
+    return scene_request(s, (const uint8_t *)text, strlen(text));
+}
+
+/* A request says what no line can, and is answered as the line that it stands for; a bad one is no answer. */
+static void make_requests(void)
+{
+    const char *undo = "{\"do\":\"undo\"}";
+    scene *s;
+    scene_entity made;
+    uint8_t room[16];
+    size_t len;
+    CHECK(scene_open(&s) == SCENE_DONE);
+    CHECK(request(&s, "{\"do\":\"kind\",\"name\":\"Name\",\"shape\":\"Text\"}") == SCENE_DONE);
+    CHECK(request(&s, "{\"cells\":{\"Name\":\"Big \\\"House\\\"\"},\"do\":\"spawn\"}") == SCENE_DONE);
+    CHECK(answers(&s, "done 0v1\n", true));
+    CHECK(scene_spawned(&s, 0, &made) == SCENE_DONE && made.index == 0 && made.generation == 1);
+    CHECK(scene_read_text(&s, made, 0, 0, room, sizeof room, &len) == SCENE_DONE);
+    CHECK(len == 11 && memcmp(room, "Big \"House\"", 11) == 0);
+    CHECK(request(&s, undo) == SCENE_DONE && request(&s, undo) == SCENE_REFUSED && refused_by(&s, 15));
+    CHECK(request(&s, "{\"do\":\"spawn\",\"cells\":{\"Nome\":1}}") == SCENE_BAD && !answers(&s, "", true));
+    CHECK(scene_refused(&s, &(scene_refusal){0}) == SCENE_BAD && scene_bad_reason(&s) == SCENE_BAD);
+    CHECK(request(&s, "undo") == SCENE_BAD && request(&s, "") == SCENE_BAD && scene_redo(&s) == SCENE_DONE);
+    scene_close(&s);
+    CHECK(request(&s, undo) == SCENE_CLOSED);
+}
+
+/* Resources have texts of any characters, and systems are played by calls. */
+static void put_and_advance(void)
+{
+    const uint8_t name[] = "a_name", text[] = "Big \"House\"", none[] = {0xff};
+    const char *count = "{\"do\":\"system\",\"name\":\"all\",\"need\":[],\"without\":[],"
+                        "\"steps\":[{\"step\":\"count\",\"name\":\"how_many\"}]}";
+    uint8_t room[16];
+    size_t len;
+    scene *s;
+    scene_cell cell = {.shape = SCENE_INT, .x = 7};
+    scene_tick_pair ticks;
+    CHECK(scene_open(&s) == SCENE_DONE);
+    CHECK(scene_put(&s, name, 6, cell) == SCENE_DONE && scene_put_text(&s, name, 5, text, 11) == SCENE_DONE);
+    CHECK(scene_put(&s, text, 11, cell) == SCENE_REFUSED && refused_by(&s, 30));
+    CHECK(scene_resource(&s, name, 6, &cell, &ticks) == SCENE_DONE && cell.x == 7 && ticks.added == 1);
+    CHECK(scene_resource_text(&s, name, 5, 0, room, sizeof room, &len) == SCENE_DONE && len == 11);
+    CHECK(memcmp(room, text, 11) == 0 && scene_put(&s, none, 1, cell) == SCENE_BAD);
+    CHECK(scene_put_text(&s, none, 1, text, 1) == SCENE_BAD && scene_put_text(&s, name, 1, none, 1) == SCENE_BAD);
+    CHECK(scene_drop(&s, name, 6) == SCENE_DONE && scene_drop(&s, name, 6) == SCENE_REFUSED && refused_by(&s, 10));
+    cell.shape = SCENE_TEXT;
+    CHECK(scene_drop(&s, none, 1) == SCENE_BAD && scene_put(&s, name, 6, cell) == SCENE_BAD);
+    CHECK(scene_phase(&s) == SCENE_DONE && request(&s, count) == SCENE_DONE && scene_spawn(&s) == SCENE_DONE);
+    CHECK(scene_advance(&s) == SCENE_DONE);
+    CHECK(scene_resource(&s, (const uint8_t *)"how_many", 8, &cell, &ticks) == SCENE_DONE && cell.x == 1);
+    CHECK(scene_clear_systems(&s) == SCENE_DONE && scene_undo(&s) == SCENE_DONE);
+    CHECK(scene_resource(&s, (const uint8_t *)"how_many", 8, &cell, &ticks) == SCENE_REFUSED);
+    scene_close(&s);
+    CHECK(scene_put(&s, name, 6, cell) == SCENE_CLOSED && scene_advance(&s) == SCENE_CLOSED);
+}
+
 /* A dropped frame is no call. */
 static void drop_frames(scene **s)
 {
@@ -121,6 +179,8 @@ int main(void)
     pass_what_means_nothing(s);
     be_refused(s);
     drop_frames(s);
+    make_requests();
+    put_and_advance();
     limit_calls();
     call_on_null(s);
     free(s);

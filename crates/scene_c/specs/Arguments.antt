@@ -7,7 +7,7 @@ use Rattle.scene_kinds.specs.declared.shape.Shape.{Shape}
 use Rattle.scene_kinds.specs.declared.shape.Shape.TheVariants as shape
 use Rattle.scene_kinds.specs.declared.value.Value.{Value}
 use Rattle.scene_kinds.specs.declared.value.Value.TheVariants as value
-use Rattle.scene_commands.specs.declared.command.Command.TheVariants.{Insert}
+use Rattle.scene_commands.specs.declared.command.Command.TheVariants.{Insert, PutResource, RemoveResource}
 use Rattle.scene_commands.specs.declared.target.Target.{Target}
 use Rattle.scene_commands.specs.declared.target.Target.TheVariants.{Id, New}
 use Rattle.scene_script.specs.declared.script_line.Line.{Line}
@@ -108,6 +108,19 @@ text_component kind bytes = both_of (kind_of kind) (option_map value.Text (text_
 -- the line that inserts a component
 abbrev pub insert_line : SceneEntity → ℕ × Value → Line
 insert_line e c = Do (Insert (target_of e) c.0 c.1)
+
+-- the line that puts a value at a name
+abbrev pub put_line : Value → List ℕ → Line
+put_line v name = Do (PutResource name v)
+
+-- the line that drops a resource
+abbrev pub drop_line : List ℕ → Line
+drop_line name = Do (RemoveResource name)
+
+-- a value at a name, where there are both
+abbrev pub put_of : Option Value → Option (List ℕ) → Option Line
+put_of (Some v) (Some name) = Some (put_line v name)
+put_of v name = None
 
 -- the moment that C names
 abbrev pub cursor_of : SceneMoment → Cursor

@@ -67,7 +67,8 @@ pub record Played (old new : OpenScene) (r : LineReply) (text : List ℕ) (code 
 abbrev pub Plays : (Interpreter → LineReply) → (LineReply → List ℕ) → Option OpenScene → Option OpenScene → ℕ → Type 0
 Plays reply text None None code = code ≡ 2
 Plays reply text (Some old) (Some new) code =
-    Played old new (reply (interpreter_of old.interpreter)) (text (reply (interpreter_of old.interpreter))) code × (new.cells.items ≡ old.cells.items)
+    Played old new (reply (interpreter_of old.interpreter)) (text (reply (interpreter_of old.interpreter))) code
+    × (new.cells.items ≡ old.cells.items)
 Plays reply text old new code = ⊥
 
 -- a line as a value
@@ -133,7 +134,8 @@ AsksText (Some line) old new code = HasNoRoom old new code ⊎ Does line old new
 abbrev pub DropsFrame : Option OpenScene → Option OpenScene → ℕ → Type 0
 DropsFrame None None code = code ≡ 2
 DropsFrame (Some old) (Some new) code = (code ≡ (if frame_is_open (interpreter_of old.interpreter) then 0 else 4))
-    × (interpreter_of new.interpreter ≡ without_frame (interpreter_of old.interpreter)) × KeepsAnswer old new × (new.cells.items ≡ old.cells.items)
+    × (interpreter_of new.interpreter ≡ without_frame (interpreter_of old.interpreter)) × KeepsAnswer old new
+    × (new.cells.items ≡ old.cells.items)
 DropsFrame old new code = ⊥
 
 -- by whether the last line was bad: the text is why, or no memory was found for that; or else there is nothing to say,

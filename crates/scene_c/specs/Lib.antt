@@ -5,5 +5,7 @@ pub mod Memory
 pub mod Names
 pub mod OpenScene
 pub mod Reads
+pub mod Requests
 pub mod Shown
+pub mod Steps
 pub mod Times

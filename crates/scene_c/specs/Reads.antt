@@ -117,7 +117,8 @@ tables_in w f = map (λ mask. record { mask = mask; rows = length (rows_at w.tab
 
 -- they are listed, or no memory was found
 abbrev pub TellsTables : List SceneTable → ℕ → (old new : List SceneTable) → (old_total total : ℕ) → ℕ → Type 0
-TellsTables tables from old new old_total total code = Lists tables from old new total code ⊎ ((code ≡ 1) × ((new ≡ old) × (total ≡ old_total)))
+TellsTables tables from old new old_total total code =
+    Lists tables from old new total code ⊎ ((code ≡ 1) × ((new ≡ old) × (total ≡ old_total)))
 
 -- the cells of a kind in the rows of a kind set that has it, row by row
 abbrev pub column_in : World → KindSet → Option ℕ → Option (List (Option Cell))
@@ -136,7 +137,8 @@ value_told (Some cell) = cell.value
 
 -- the values of a kind of a shape
 abbrev pub values_in : World → KindSet → Option ℕ → Shape → Option (List Value)
-values_in w mask kind shape = if is_of_shape shape (option_and_then (shape_of w.schema) kind) then option_map (map value_told) (column_in w mask kind) else None
+values_in w mask kind shape = if is_of_shape shape (option_and_then (shape_of w.schema) kind)
+    then option_map (map value_told) (column_in w mask kind) else None
 
 -- the tick of a cell
 abbrev pub tick_told : (Cell → ℕ) → Option Cell → ℕ
@@ -159,9 +161,12 @@ abbrev pub kind_named : Kinds → List ℕ → Option ℕ
 kind_named kinds name = option_and_then (number_of kinds) (text_of name)
 
 -- the name and the shape of a kind that there is
-abbrev pub TellsKind : Option (List ℕ × Shape) → (old_shape new_shape from : ℕ) → (old new : List ℕ) → (old_total total : ℕ) → ℕ → Type 0
-TellsKind None old_shape new_shape from old new old_total total code = (code ≡ 4) × ((new_shape ≡ old_shape) × ((new ≡ old) × (total ≡ old_total)))
-TellsKind (Some kind) old_shape new_shape from old new old_total total code = (new_shape ≡ shape_number kind.1) × Lists kind.0 from old new total code
+abbrev pub TellsKind : Option (List ℕ × Shape) → (old_shape new_shape from : ℕ)
+    → (old new : List ℕ) → (old_total total : ℕ) → ℕ → Type 0
+TellsKind None old_shape new_shape from old new old_total total code =
+    (code ≡ 4) × ((new_shape ≡ old_shape) × ((new ≡ old) × (total ≡ old_total)))
+TellsKind (Some kind) old_shape new_shape from old new old_total total code =
+    (new_shape ≡ shape_number kind.1) × Lists kind.0 from old new total code
 
 -- the number of a kind, where there is one
 abbrev pub TellsNumber : Option ℕ → (old new : ℕ) → ℕ → Type 0
@@ -187,15 +192,18 @@ TellsText None from old new old_total total code = (code ≡ 3) × ((new ≡ old
 TellsText (Some text) from old new old_total total code = Lists text from old new total code
 
 -- of the scene that a handle holds; no component has a kind of more than 8 bits
-abbrev pub TellsCellOf : Option ℕ → Entity → Option OpenScene → (old new : SceneCell) → (old_ticks new_ticks : SceneTicks) → ℕ → Type 0
+abbrev pub TellsCellOf : Option ℕ → Entity → Option OpenScene
+    → (old new : SceneCell) → (old_ticks new_ticks : SceneTicks) → ℕ → Type 0
 TellsCellOf None e d old new old_ticks new_ticks code = (code ≡ 4) × ((new ≡ old) × (new_ticks ≡ old_ticks))
 TellsCellOf (Some kind) e d old new old_ticks new_ticks code =
     TellsOf ((new ≡ old) × (new_ticks ≡ old_ticks)) (λ o. TellsCell kind (component_of (world_of o) e kind) old new old_ticks new_ticks) d code
 
+-- a text of an entity is told from one of its bytes on, where the number names a kind
 abbrev pub TellsTextOf : Option ℕ → Entity → Option OpenScene → ℕ → (old new : List ℕ) → (old_total total : ℕ) → ℕ → Type 0
 TellsTextOf None e d from old new old_total total code = (code ≡ 4) × ((new ≡ old) × (total ≡ old_total))
 TellsTextOf (Some kind) e d from old new old_total total code =
-    TellsOf ((new ≡ old) × (total ≡ old_total)) (λ o. TellsText (text_at (component_of (world_of o) e kind)) from old new old_total total) d code
+    TellsOf ((new ≡ old) × (total ≡ old_total))
+    (λ o. TellsText (text_at (component_of (world_of o) e kind)) from old new old_total total) d code
 
 -- ---- resources
 

@@ -42,13 +42,27 @@ abbrev pub AreDone : ℕ → Line → Interpreter → Type 0
 AreDone zero line p = ⊤
 AreDone (suc n) line p = AreDone n line p × (said_code (says line (after n line p)).said ≡ 0)
 
+-- the last answer is that of the last of so many lines, without a text; of no line it is as before
+abbrev pub AnswersLast : ℕ → Line → Interpreter → (old new : OpenScene) → Type 0
+AnswersLast zero line p old new = KeepsAnswer old new
+AnswersLast (suc n) line p old new = (said_of new.answer ≡ (says line (after n line p)).said) × (string_bytes new.text ≡ [])
+
+-- so many lines were done, and that is the call's answer
+abbrev pub EndsDone : (count : ℕ) → Line → ℕ → Interpreter → (old new : OpenScene) → ℕ → Type 0
+EndsDone count line n p old new code = (code ≡ 0) × (count ≡ n) × (interpreter_of new.interpreter ≡ after count line p)
+    × AnswersLast count line p old new
+
+-- fewer were, and the next one wasn't, whose answer is the call's
+abbrev pub EndsEarly : (count : ℕ) → Line → ℕ → Interpreter → (old new : OpenScene) → ℕ → Type 0
+EndsEarly count line n p old new code = (code ≢ 0) × (count < n)
+    × (before : OpenScene) × (interpreter_of before.interpreter ≡ after count line p) × AnswersLast count line p old before
+    × Played before new (says line (after count line p)) [] code
+
 -- A line was played so many times, each done; or fewer times, and then once more, which wasn't done
-pub record PlayedTimes (line : Line) (n : ℕ) (p : Interpreter) (new : OpenScene) (code : ℕ) : Type 0 where
+pub record PlayedTimes (line : Line) (n : ℕ) (p : Interpreter) (old new : OpenScene) (code : ℕ) : Type 0 where
   pub count : ℕ
   pub done : AreDone count line p
-  pub last : ((code ≡ 0) × (count ≡ n) × (interpreter_of new.interpreter ≡ after count line p))
-      ⊎ ((code ≢ 0) × (count < n) × (before : OpenScene) × (interpreter_of before.interpreter ≡ after count line p)
-      × Played before new (says line (after count line p)) [] code)
+  pub last : EndsDone count line n p old new code ⊎ EndsEarly count line n p old new code
 
 -- too few frames are there: that is the answer, and nothing was done but that the setup is over
 abbrev pub IsRefused : Way → (old new : OpenScene) → ℕ → Type 0
@@ -65,7 +79,7 @@ pub record IsHalted (old new : OpenScene) (code : ℕ) : Type 0 where
 -- by whether there are too few frames on a way: that is refused, or so many are gone
 abbrev pub TurnsIf : Bool → Way → ℕ → (old new : OpenScene) → ℕ → Type 0
 TurnsIf true way n old new code = IsRefused way old new code
-TurnsIf false way n old new code = PlayedTimes (line_of way) n (begun (interpreter_of old.interpreter)) new code
+TurnsIf false way n old new code = PlayedTimes (line_of way) n (begun (interpreter_of old.interpreter)) old new code
 
 -- so many frames along a way, where there are so many, and else none
 abbrev pub IsTurned : Way → ℕ → (old new : OpenScene) → ℕ → Type 0

@@ -151,7 +151,8 @@ impl OpenScene {
         total: &mut usize,
     ) -> u32
         ensures { Tells ((at.new ≡ at.old) × (total.new ≡ total.old))
-            (ListsIf ((at.new ≡ at.old) × (total.new ≡ total.old)) (option_map (map int_of) (values_in (world_of self.now) mask (kind_of kind) Int))
+            (ListsIf ((at.new ≡ at.old) × (total.new ≡ total.old))
+            (option_map (map int_of) (values_in (world_of self.now) mask (kind_of kind) Int))
             from at.old at.new total.new) self.now result }
     {
         let Some(world) = self.world() else {
@@ -175,7 +176,8 @@ impl OpenScene {
         total: &mut usize,
     ) -> u32
         ensures { Tells ((at.new ≡ at.old) × (total.new ≡ total.old))
-            (ListsIf ((at.new ≡ at.old) × (total.new ≡ total.old)) (option_map (map vec3_of) (values_in (world_of self.now) mask (kind_of kind) Vec3))
+            (ListsIf ((at.new ≡ at.old) × (total.new ≡ total.old))
+            (option_map (map vec3_of) (values_in (world_of self.now) mask (kind_of kind) Vec3))
             from at.old at.new total.new) self.now result }
     {
         let Some(world) = self.world() else {
@@ -199,7 +201,8 @@ impl OpenScene {
         total: &mut usize,
     ) -> u32
         ensures { Tells ((at.new ≡ at.old) × (total.new ≡ total.old))
-            (ListsIf ((at.new ≡ at.old) × (total.new ≡ total.old)) (option_map (map link_of) (values_in (world_of self.now) mask (kind_of kind) Link))
+            (ListsIf ((at.new ≡ at.old) × (total.new ≡ total.old))
+            (option_map (map link_of) (values_in (world_of self.now) mask (kind_of kind) Link))
             from at.old at.new total.new) self.now result }
     {
         let Some(world) = self.world() else {

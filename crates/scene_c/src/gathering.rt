@@ -44,7 +44,8 @@ impl OpenScene {
     /// Tells the components of a kind that entities have.
     pub(crate) fn gather(&self, entities: &[SceneEntity], kind: u8, at: &mut [SceneCell]) -> u32
         ensures { Tells (at.new ≡ at.old)
-            (IsGathered (map (λ e. cell_or_absent kind (component_of (world_of self.now) (entity_of e) kind)) entities.now) at.old at.new) self.now result }
+            (IsGathered (map (λ e. cell_or_absent kind (component_of (world_of self.now) (entity_of e) kind)) entities.now) at.old at.new)
+            self.now result }
     {
         let Some(world) = self.world() else {
             return BAD;

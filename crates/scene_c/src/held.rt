@@ -3,11 +3,13 @@
 ghost use Rattle.std.specs.Prelude.{◌≡◌, ℕ, List, None};
 ghost use Rattle.scene_interpreter.specs.Interpreter.{interpreter_reply};
 ghost use Rattle.scene_c.specs.Calls.{Asks, Does, DropsFrame, Explains, Gives, Plays, Spawns, says};
+ghost use Rattle.scene_c.specs.Requests.{Requests};
 ghost use Rattle.scene_c.specs.Times.{Turns};
 ghost use Rattle.std.specs.Option.{option_map};
 
 use crate::handle::{Handle, into_open_scene};
 use crate::played::{drop_frame_at, explain_at, give_at, line_at, say_at, spawn_at, tell_at};
+use crate::requests::request_at;
 use crate::times::Way;
 use crate::{BAD, CLOSED};
 use scene_kinds::Value;
@@ -25,6 +27,20 @@ pub(crate) fn line(alloc: Global, scene: &mut Handle, bytes: &[u8]) -> u32
     };
     let mut boxed = boxed;
     let code = line_at(alloc, &mut boxed, bytes);
+    *scene = Handle::of_box(boxed);
+    code
+}
+
+/// Plays a request.
+pub(crate) fn request(alloc: Global, scene: &mut Handle, bytes: &[u8]) -> u32
+    ensures { Requests bytes.now scene.old.value scene.new.value result }
+{
+    let taken = mem::replace(scene, Handle::closed(alloc));
+    let Some(boxed) = into_open_scene(taken) else {
+        return CLOSED;
+    };
+    let mut boxed = boxed;
+    let code = request_at(alloc, &mut boxed, bytes);
     *scene = Handle::of_box(boxed);
     code
 }

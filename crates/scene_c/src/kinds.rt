@@ -29,7 +29,8 @@ impl OpenScene {
         at: &mut [u8],
         total: &mut usize,
     ) -> u32
-        ensures { TellsKind (option_and_then (slice_get (kinds_now self.now)) (kind_of kind)) shape.old shape.new from at.old at.new total.old total.new result }
+        ensures { TellsKind (option_and_then (slice_get (kinds_now self.now)) (kind_of kind))
+            shape.old shape.new from at.old at.new total.old total.new result }
     {
         let Some(kind) = kind_of(kind) else {
             return BAD;

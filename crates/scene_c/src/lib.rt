@@ -18,12 +18,14 @@ ghost use Rattle.scene_c.specs.Arguments.{component_of_cell, entity_of, insert_l
 ghost use Rattle.scene_c.specs.Calls.{Asks, AsksText, Does, DropsFrame, Explains, Gets, Gives, GivesText, Loads, Opens, Plays, Spawns, made_at, named_at, refusal_now, says, text_now};
 ghost use Rattle.scene_c.specs.Memory.{bytes_at, copied};
 ghost use Rattle.scene_c.specs.Names.{name_of};
+ghost use Rattle.scene_c.specs.Requests.{Requests};
 ghost use Rattle.scene_c.specs.Times.{Turns};
 ghost use Rattle.scene_c.specs.contracts.handle.Handle.{the_row};
 ghost use Rattle.scene_c.specs.declared.handle.Handle.{Handle as Held};
 ghost use Rattle.scene_c.specs.declared.times.Way.TheVariants as way;
 
 mod columns;
+mod delta;
 mod filling;
 mod gathering;
 mod handle;
@@ -33,6 +35,7 @@ mod lines;
 mod look;
 mod look_resources;
 mod look_since;
+mod look_steps;
 mod loose;
 mod moments;
 mod names;
@@ -41,18 +44,23 @@ mod played;
 mod points;
 mod reading;
 mod reads;
+mod requests;
+mod resource_calls;
 mod resources;
 mod roots;
 mod shown;
 mod status;
+mod steps;
+mod system_calls;
 mod texts;
 mod times;
 mod tree;
 mod value;
 
+pub use delta::SceneDelta;
 pub use handle::Handle;
 use handle::{into_open_scene, new_handle};
-use held::{ask, drop_frame, explain, give, line, say, spawn, tell, turn};
+use held::{ask, drop_frame, explain, give, line, request, say, spawn, tell, turn};
 pub use names::each_fault_has_its_name;
 use names::{copy_name, name_len};
 pub use open_scene::OpenScene;
@@ -128,6 +136,16 @@ pub extern "C" fn scene_line(alloc: Global, scene: &mut Handle, bytes: &[u8]) ->
     ensures { Plays (λ p. interpreter_reply p bytes.now) (λ r. r.text) scene.old.value scene.new.value result }
 {
     line(alloc, scene, bytes)
+}
+
+/// Plays a request: a JSON object in place of a line, whose texts have any characters (docs/SHELL.md, "Requests"). Its
+/// answer is that of the line that it stands for, kept with its text. `BAD` for one that is bad: it changes nothing, and
+/// the text of the answer says why; and `NO_MEMORY`.
+#[unsafe(no_mangle)]
+pub extern "C" fn scene_request(alloc: Global, scene: &mut Handle, bytes: &[u8]) -> u32
+    ensures { Requests bytes.now scene.old.value scene.new.value result }
+{
+    request(alloc, scene, bytes)
 }
 
 /// How long the text of the last answer is, and as much of it as there is room for at `at`; 0 for null. `at` may be
@@ -416,7 +434,8 @@ pub extern "C" fn scene_spawned(
     at: usize,
     out: &mut SceneEntity,
 ) -> u32
-    ensures found { MatchOption (made_at scene.old.value at) ((result ≡ 4) × (out.new ≡ out.old)) (λ e. (result ≡ 0) × (out.new ≡ shown_entity e)) }
+    ensures found { MatchOption (made_at scene.old.value at) ((result ≡ 4) × (out.new ≡ out.old))
+        (λ e. (result ≡ 0) × (out.new ≡ shown_entity e)) }
     ensures kept { scene.new.value ≡ scene.old.value }
 {
     let taken = std::mem::replace(scene, Handle::closed(alloc));
@@ -442,7 +461,8 @@ pub extern "C" fn scene_named(
     at: usize,
     out: &mut SceneName,
 ) -> u32
-    ensures found { MatchOption (named_at scene.old.value at) ((result ≡ 4) × (out.new ≡ out.old)) (λ n. (result ≡ 0) × (out.new ≡ shown_name n)) }
+    ensures found { MatchOption (named_at scene.old.value at) ((result ≡ 4) × (out.new ≡ out.old))
+        (λ n. (result ≡ 0) × (out.new ≡ shown_name n)) }
     ensures kept { scene.new.value ≡ scene.old.value }
 {
     let taken = std::mem::replace(scene, Handle::closed(alloc));
@@ -463,7 +483,8 @@ pub extern "C" fn scene_named(
 /// Why the last call was refused; `BAD` where it wasn't.
 #[unsafe(no_mangle)]
 pub extern "C" fn scene_refused(alloc: Global, scene: &mut Handle, out: &mut SceneRefusal) -> u32
-    ensures found { MatchOption (refusal_now scene.old.value) ((result ≡ 4) × (out.new ≡ out.old)) (λ r. (result ≡ 0) × (out.new ≡ shown_refusal r)) }
+    ensures found { MatchOption (refusal_now scene.old.value) ((result ≡ 4) × (out.new ≡ out.old))
+        (λ r. (result ≡ 0) × (out.new ≡ shown_refusal r)) }
     ensures kept { scene.new.value ≡ scene.old.value }
 {
     let taken = std::mem::replace(scene, Handle::closed(alloc));

@@ -158,7 +158,8 @@ pub extern "C" fn scene_tables(
     total: &mut usize,
 ) -> u32
     ensures told { TellsOf ((at.new ≡ at.old) × (total.new ≡ total.old))
-        (λ d. TellsTables (tables_in (world_of d) (record { need = need; without = without })) from at.old at.new total.old total.new) scene.old.value result }
+        (λ d. TellsTables (tables_in (world_of d) (record { need = need; without = without }))
+        from at.old at.new total.old total.new) scene.old.value result }
     ensures kept { scene.new.value ≡ scene.old.value }
 {
     let taken = mem::replace(scene, Handle::closed(alloc));
@@ -205,7 +206,8 @@ pub extern "C" fn scene_ints(
     total: &mut usize,
 ) -> u32
     ensures told { TellsOf ((at.new ≡ at.old) × (total.new ≡ total.old))
-        (λ d. ListsIf ((at.new ≡ at.old) × (total.new ≡ total.old)) (option_map (map int_of) (values_in (world_of d) mask (kind_of kind) Int)) from at.old at.new total.new) scene.old.value result }
+        (λ d. ListsIf ((at.new ≡ at.old) × (total.new ≡ total.old)) (option_map (map int_of) (values_in (world_of d) mask (kind_of kind) Int))
+        from at.old at.new total.new) scene.old.value result }
     ensures kept { scene.new.value ≡ scene.old.value }
 {
     let taken = mem::replace(scene, Handle::closed(alloc));
@@ -229,7 +231,8 @@ pub extern "C" fn scene_vec3s(
     total: &mut usize,
 ) -> u32
     ensures told { TellsOf ((at.new ≡ at.old) × (total.new ≡ total.old))
-        (λ d. ListsIf ((at.new ≡ at.old) × (total.new ≡ total.old)) (option_map (map vec3_of) (values_in (world_of d) mask (kind_of kind) Vec3)) from at.old at.new total.new) scene.old.value result }
+        (λ d. ListsIf ((at.new ≡ at.old) × (total.new ≡ total.old)) (option_map (map vec3_of) (values_in (world_of d) mask (kind_of kind) Vec3))
+        from at.old at.new total.new) scene.old.value result }
     ensures kept { scene.new.value ≡ scene.old.value }
 {
     let taken = mem::replace(scene, Handle::closed(alloc));
@@ -253,7 +256,8 @@ pub extern "C" fn scene_links(
     total: &mut usize,
 ) -> u32
     ensures told { TellsOf ((at.new ≡ at.old) × (total.new ≡ total.old))
-        (λ d. ListsIf ((at.new ≡ at.old) × (total.new ≡ total.old)) (option_map (map link_of) (values_in (world_of d) mask (kind_of kind) Link)) from at.old at.new total.new) scene.old.value result }
+        (λ d. ListsIf ((at.new ≡ at.old) × (total.new ≡ total.old)) (option_map (map link_of) (values_in (world_of d) mask (kind_of kind) Link))
+        from at.old at.new total.new) scene.old.value result }
     ensures kept { scene.new.value ≡ scene.old.value }
 {
     let taken = mem::replace(scene, Handle::closed(alloc));
@@ -279,7 +283,8 @@ pub extern "C" fn scene_ticks(
     total: &mut usize,
 ) -> u32
     ensures told { TellsOf ((at.new ≡ at.old) × (total.new ≡ total.old))
-        (λ d. ListsIf ((at.new ≡ at.old) × (total.new ≡ total.old)) (ticks_in (world_of d) mask (kind_of kind) which) from at.old at.new total.new) scene.old.value result }
+        (λ d. ListsIf ((at.new ≡ at.old) × (total.new ≡ total.old)) (ticks_in (world_of d) mask (kind_of kind) which)
+        from at.old at.new total.new) scene.old.value result }
     ensures kept { scene.new.value ≡ scene.old.value }
 {
     let taken = mem::replace(scene, Handle::closed(alloc));
@@ -303,7 +308,8 @@ pub extern "C" fn scene_kind(
     total: &mut usize,
 ) -> u32
     ensures told { TellsAlways ((shape.new ≡ shape.old) × ((at.new ≡ at.old) × (total.new ≡ total.old)))
-        (λ d. TellsKind (option_and_then (slice_get (kinds_now d)) (kind_of kind)) shape.old shape.new from at.old at.new total.old total.new) scene.old.value result }
+        (λ d. TellsKind (option_and_then (slice_get (kinds_now d)) (kind_of kind))
+        shape.old shape.new from at.old at.new total.old total.new) scene.old.value result }
     ensures kept { scene.new.value ≡ scene.old.value }
 {
     let taken = mem::replace(scene, Handle::closed(alloc));

@@ -24,7 +24,8 @@ pub extern "C" fn scene_resources(
 ) -> u32
     ensures told { TellsOf ((at.new ≡ at.old) × (total.new ≡ total.old))
         (λ d. OrNoMemory ((at.new ≡ at.old) × (total.new ≡ total.old))
-        (ListsIf ((at.new ≡ at.old) × (total.new ≡ total.old)) (slice_get (names_of (world_of d).resources) place) from at.old at.new total.new)) scene.old.value result }
+        (ListsIf ((at.new ≡ at.old) × (total.new ≡ total.old)) (slice_get (names_of (world_of d).resources) place)
+        from at.old at.new total.new)) scene.old.value result }
     ensures kept { scene.new.value ≡ scene.old.value }
 {
     let taken = mem::replace(scene, Handle::closed(alloc));

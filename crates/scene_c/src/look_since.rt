@@ -44,7 +44,8 @@ pub extern "C" fn scene_changed_since(
 ) -> u32
     ensures told { TellsOf ((at.new ≡ at.old) × (total.new ≡ total.old))
         (λ d. OrNoMemory ((at.new ≡ at.old) × (total.new ≡ total.old)) (ListsSince
-        (shown_names (names_since changed_since (whole_now d) moment (record { need = need; without = without }))) from at.old at.new total.old total.new)) scene.old.value result }
+        (shown_names (names_since changed_since (whole_now d) moment (record { need = need; without = without })))
+        from at.old at.new total.old total.new)) scene.old.value result }
     ensures kept { scene.new.value ≡ scene.old.value }
 {
     let taken = mem::replace(scene, Handle::closed(alloc));
@@ -70,7 +71,8 @@ pub extern "C" fn scene_added_since(
 ) -> u32
     ensures told { TellsOf ((at.new ≡ at.old) × (total.new ≡ total.old))
         (λ d. OrNoMemory ((at.new ≡ at.old) × (total.new ≡ total.old)) (ListsSince
-        (shown_names (names_since added_since (whole_now d) moment (record { need = need; without = without }))) from at.old at.new total.old total.new)) scene.old.value result }
+        (shown_names (names_since added_since (whole_now d) moment (record { need = need; without = without })))
+        from at.old at.new total.old total.new)) scene.old.value result }
     ensures kept { scene.new.value ≡ scene.old.value }
 {
     let taken = mem::replace(scene, Handle::closed(alloc));

@@ -88,7 +88,8 @@ impl OpenScene {
     ) -> u32
         ensures { Tells ((at.new ≡ at.old) × (total.new ≡ total.old))
             (OrNoMemory ((at.new ≡ at.old) × (total.new ≡ total.old))
-            (ListsSince (shown_names (names_since changed_cells (whole_now self.now) moment filter)) from at.old at.new total.old total.new)) self.now result }
+            (ListsSince (shown_names (names_since changed_cells (whole_now self.now) moment filter))
+            from at.old at.new total.old total.new)) self.now result }
     {
         let Some(editor) = self.interpreter.editor() else {
             return BAD;
@@ -111,7 +112,8 @@ impl OpenScene {
     ) -> u32
         ensures { Tells ((at.new ≡ at.old) × (total.new ≡ total.old))
             (OrNoMemory ((at.new ≡ at.old) × (total.new ≡ total.old))
-            (ListsSince (shown_names (names_since added_cells (whole_now self.now) moment filter)) from at.old at.new total.old total.new)) self.now result }
+            (ListsSince (shown_names (names_since added_cells (whole_now self.now) moment filter))
+            from at.old at.new total.old total.new)) self.now result }
     {
         let Some(editor) = self.interpreter.editor() else {
             return BAD;

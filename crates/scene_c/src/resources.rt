@@ -25,7 +25,8 @@ fn resource_of<'a>(world: &'a World, name: &[u8]) -> Option<&'a Cell>
 /// Tells the name of a resource, by its place in their order.
 fn tell_name(world: &World, place: usize, from: usize, at: &mut [u8], total: &mut usize) -> u32
     ensures { OrNoMemory ((at.new ≡ at.old) × (total.new ≡ total.old))
-        (ListsIf ((at.new ≡ at.old) × (total.new ≡ total.old)) (slice_get (names_of world.now.world.resources) place) from at.old at.new total.new) result }
+        (ListsIf ((at.new ≡ at.old) × (total.new ≡ total.old)) (slice_get (names_of world.now.world.resources) place)
+        from at.old at.new total.new) result }
 {
     let Ok(names) = world.resources().names() else {
         return NO_MEMORY;

@@ -46,7 +46,7 @@ impl Way {
 /// Plays the line of a way so many times, each of which is done; or up to the first that isn't, and gives its code.
 #[tactic(auto, using(crate::proofs::TimesLaws::one_more, crate::proofs::TimesLaws::finished, crate::proofs::TimesLaws::stopped))]
 fn say_times(open_scene: &mut OpenScene, way: Way, count: usize) -> u32
-    ensures played { PlayedTimes (line_of way) count (interpreter_of open_scene.old.interpreter) open_scene.new result }
+    ensures played { PlayedTimes (line_of way) count (interpreter_of open_scene.old.interpreter) open_scene.old open_scene.new result }
     ensures cells { open_scene.new.cells.items ≡ open_scene.old.cells.items }
 {
     'turns: for _ in 0..count {

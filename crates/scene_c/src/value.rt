@@ -1,6 +1,7 @@
 //! What crosses to C and back, and what it names here.
 ghost use Rattle.std.specs.Prelude.{◌≡◌, IfOk, OnErr, Some, is_some, true};
 ghost use Rattle.std.specs.Option.{option_map};
+ghost use Rattle.std.specs.Str.{is_utf8};
 ghost use Rattle.scene_c.specs.Arguments.{both_of, component_of_cell, cursor_of, entity_of, kind_of, link_by, shape_number, shown_cell, shown_entity, shown_name, shown_refusal, small, target_of, text_component, text_of, value_of};
 
 use crate::reading::Reading;
@@ -179,7 +180,7 @@ fn link_by(index: Option<u32>, generation: Option<u32>) -> Option<Value>
 }
 
 /// The value that a cell names.
-fn value_of(cell: SceneCell) -> Option<Value>
+pub(crate) fn value_of(cell: SceneCell) -> Option<Value>
     ensures { result ≡ value_of cell }
 {
     match cell.shape {
@@ -198,6 +199,16 @@ pub(crate) fn component_of_cell(cell: SceneCell) -> Option<(u8, Value)>
     match (kind_of(cell.kind), value_of(cell)) {
         (Some(kind), Some(value)) => Some((kind, value)),
         _ => None,
+    }
+}
+
+/// Whether bytes are a text.
+pub(crate) fn is_text(bytes: &[u8]) -> bool
+    ensures { result ≡ is_utf8 bytes.now }
+{
+    match str::from_utf8(bytes) {
+        Ok(_) => true,
+        Err(_) => false,
     }
 }
 

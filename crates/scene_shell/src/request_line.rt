@@ -120,7 +120,6 @@ fn write_bad_request(alloc: Global, out: &mut String, reason: &BadRequest) -> Re
 }
 
 /// Plays the line that a request stands for, and adds its answer.
-#[tactic(auto, using(crate::proofs::Requests::is_request_answer))]
 fn answer_good<P: Performer<LoneOwner>>(
     performer: &P,
     interpreter: &mut Interpreter<LoneOwner>,
