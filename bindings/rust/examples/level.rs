@@ -1,5 +1,5 @@
 //! A level with a room, what stands in it, and an editor's undo: an example to copy.
-use scene::{Entity, Error, Scene, Shape, Value};
+use scene::{Entity, Error, Scene, Shape};
 
 fn main() -> Result<(), Error> {
     let mut scene = Scene::new()?;
@@ -28,12 +28,14 @@ fn main() -> Result<(), Error> {
     // A refusal tells its fault and its place, and leaves the scene as it was.
     let nobody = Entity { index: 7, generation: 9 };
     match scene.set_parent(room, nobody) {
-        Err(Error::Refused(refusal)) => println!("{refusal}: fault {}, {}", refusal.fault, refusal.name),
+        Err(Error::Refused(refusal)) => {
+            println!("{refusal}: fault {}, {}", refusal.fault.number(), refusal.fault.name())
+        }
         other => println!("{other:?}"),
     }
 
     scene.undo()?;
-    assert_eq!(scene.get(cat, health)?, Value::Int(9));
+    assert_eq!(scene.get::<i64>(cat, health)?, 9);
     scene.redo()?;
 
     // A save has the past too: what is loaded can be undone.

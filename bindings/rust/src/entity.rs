@@ -1,5 +1,5 @@
 //! Entities, and what stands for one in a frame.
-use crate::raw::{NONE, RawEntity};
+use scene_sys::{SCENE_NONE, scene_entity};
 use std::error::Error;
 use std::fmt;
 use std::str::FromStr;
@@ -16,6 +16,7 @@ use std::str::FromStr;
 /// # Ok::<(), scene::NoEntity>(())
 /// ```
 #[derive(Clone, Copy, Debug, PartialEq, Eq, PartialOrd, Ord, Hash)]
+#[repr(C)]
 pub struct Entity {
     /// The index, from 0.
     pub index: u32,
@@ -67,13 +68,23 @@ impl FromStr for Entity {
     }
 }
 
+/// Lists of entities are filled by the library in place, so both have one form.
+const _: () = assert!(
+    size_of::<Entity>() == size_of::<scene_entity>()
+        && align_of::<Entity>() == align_of::<scene_entity>()
+        && std::mem::offset_of!(Entity, generation) == std::mem::offset_of!(scene_entity, generation)
+);
+
 impl Entity {
-    pub(crate) fn of_raw(raw: RawEntity) -> Entity {
+    /// What the library tells where there is none.
+    pub(crate) const NONE: Entity = Entity { index: SCENE_NONE.index, generation: SCENE_NONE.generation };
+
+    pub(crate) fn of_raw(raw: scene_entity) -> Entity {
         Entity { index: raw.index, generation: raw.generation }
     }
 
-    pub(crate) fn to_raw(self) -> RawEntity {
-        RawEntity { index: self.index, generation: self.generation }
+    pub(crate) fn to_raw(self) -> scene_entity {
+        scene_entity { index: self.index, generation: self.generation }
     }
 }
 
@@ -144,14 +155,14 @@ impl From<New> for Target {
 
 impl Target {
     /// As the library takes it, in a frame.
-    pub(crate) fn to_raw(self, frame: u64) -> RawEntity {
+    pub(crate) fn to_raw(self, frame: u64) -> scene_entity {
         match self {
             // With generation 0 it would be a spawn of the frame; it is never alive, and so is this one.
-            Target::Entity(Entity { generation: 0, .. }) => NONE,
+            Target::Entity(Entity { generation: 0, .. }) => SCENE_NONE,
             Target::Entity(entity) => entity.to_raw(),
-            Target::New(new) if new.frame == frame => RawEntity { index: new.place, generation: 0 },
+            Target::New(new) if new.frame == frame => scene_entity { index: new.place, generation: 0 },
             // A spawn that no frame has: it is refused with BadLocal, as one too early is.
-            Target::New(_) => RawEntity { index: u32::MAX, generation: 0 },
+            Target::New(_) => scene_entity { index: u32::MAX, generation: 0 },
         }
     }
 }

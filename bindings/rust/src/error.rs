@@ -1,20 +1,23 @@
 //! Why a call wasn't done.
-use crate::raw::RawRefusal;
+use crate::fault::Fault;
+use scene_sys as raw;
 use std::fmt;
 
-/// Why a call wasn't done, or not told. But for `Untold` and `Lost` the scene is as it was.
+/// Why a call wasn't done, or not told. But for `Untold` and `Lost`, and where a step of several frames was begun, the
+/// scene is as it was.
 ///
 /// ```
-/// use scene::{Error, Scene};
+/// use scene::{Error, Fault, Scene};
 ///
 /// let mut scene = Scene::new()?;
 /// match scene.undo() {
-///     Err(Error::Refused(refusal)) => assert_eq!(refusal.name, "NothingToUndo"),
+///     Err(Error::Refused(refusal)) => assert_eq!(refusal.fault, Fault::NothingToUndo),
 ///     other => panic!("{other:?}"),
 /// }
 /// # Ok::<(), Error>(())
 /// ```
 #[derive(Clone, Debug, PartialEq, Eq)]
+#[non_exhaustive]
 pub enum Error {
     /// The rules of the world refused it.
     Refused(Refusal),
@@ -35,10 +38,10 @@ impl Error {
     /// The refusal, where it is one.
     ///
     /// ```
-    /// use scene::{Error, Scene};
+    /// use scene::{Error, Fault, Scene};
     ///
     /// let error = Scene::new()?.redo().unwrap_err();
-    /// assert_eq!(error.refusal().map(|refusal| refusal.fault), Some(16));
+    /// assert_eq!(error.refusal().map(|refusal| refusal.fault), Some(Fault::NothingToRedo));
     /// assert_eq!(Error::Lost.refusal(), None);
     /// # Ok::<(), Error>(())
     /// ```
@@ -112,22 +115,20 @@ impl fmt::Display for Place {
 /// A refusal by the rules of the world: a fault of docs/MODEL.md, and the place of the command that has it.
 ///
 /// ```
-/// # use scene::{Entity, Error, Scene};
+/// # use scene::{Entity, Error, Fault, Scene};
 /// let mut scene = Scene::new()?;
 /// let error = scene.despawn(Entity { index: 7, generation: 9 }).unwrap_err();
 /// let refusal = error.refusal().unwrap();
-/// assert_eq!((refusal.fault, refusal.name), (1, "NoSuchEntity"));
+/// assert_eq!(refusal.fault, Fault::NoSuchEntity);
 /// assert_eq!(refusal.to_string(), "refused 1 NoSuchEntity at 0.0.0");
 /// # Ok::<(), Error>(())
 /// ```
 #[derive(Clone, Debug, PartialEq, Eq)]
 pub struct Refusal {
-    /// The number of the fault.
-    pub fault: u32,
-    /// The name of the fault.
-    pub name: &'static str,
-    /// What follows the name where the refusal was told as a text, which `line`, `play`, `load` and `save` do: as the
-    /// path of a BadField, or the length of a HistoryFull.
+    /// The fault.
+    pub fault: Fault,
+    /// What follows the name where the refusal was told as a text, which lines, requests, `load` and `save` do, and an
+    /// `advance` with a BadRule or a Conflict: as the path of a BadField, or the length of a HistoryFull.
     pub fields: String,
     /// The place, where the fault is one of a command.
     pub place: Option<Place>,
@@ -138,7 +139,7 @@ pub struct Refusal {
 impl fmt::Display for Refusal {
     fn fmt(&self, f: &mut fmt::Formatter<'_>) -> fmt::Result {
         let word = if self.is_of_text { "fault" } else { "refused" };
-        write!(f, "{word} {} {}", self.fault, self.name)?;
+        write!(f, "{word} {}", self.fault)?;
         if !self.fields.is_empty() {
             write!(f, " {}", self.fields)?;
         }
@@ -151,101 +152,40 @@ impl fmt::Display for Refusal {
 
 impl std::error::Error for Refusal {}
 
-/// The name of a fault.
-fn name(fault: u32) -> &'static str {
-    match fault {
-        1 => "NoSuchEntity",
-        2 => "HasChildren",
-        3 => "NotPresent",
-        4 => "WrongShape",
-        5 => "NoSuchKind",
-        6 => "DuplicateKind",
-        7 => "SelfParent",
-        8 => "Cycle",
-        9 => "NoParent",
-        10 => "NoSuchResource",
-        11 => "EntitiesFull",
-        12 => "BadLocal",
-        13 => "TickFull",
-        14 => "Overflow",
-        15 => "NothingToUndo",
-        16 => "NothingToRedo",
-        17 => "HistoryFull",
-        18 => "Rewound",
-        19 => "Busy",
-        20 => "NoMemory",
-        21 => "Conflict",
-        22 => "BadRule",
-        23 => "OtherSchema",
-        24 => "QueueFull",
-        30 => "BadName",
-        31 => "KindTaken",
-        32 => "KindsFull",
-        40 => "BadWorld",
-        41 => "BadRecord",
-        50 => "NotJson",
-        51 => "UnknownKey",
-        52 => "BadField",
-        53 => "BadVersion",
-        54 => "ReadFault",
-        55 => "WriteFault",
-        56 => "TooLong",
-        _ => "Unknown",
-    }
-}
-
-/// The place that ends a refusal's text.
-fn place(text: &str) -> Option<Place> {
-    let mut numbers = text.split('.').map(str::parse);
-    let place = Place { phase: numbers.next()?.ok()?, queue: numbers.next()?.ok()?, command: numbers.next()?.ok()? };
-    if numbers.next().is_none() { Some(place) } else { None }
-}
-
 impl Refusal {
-    pub(crate) fn of_raw(raw: RawRefusal) -> Refusal {
-        let RawRefusal { fault, has_place, phase, queue, command } = raw;
-        let place = (has_place != 0).then_some(Place { phase, queue, command });
-        Refusal { fault, name: name(fault), fields: String::new(), place, is_of_text: false }
+    /// A refusal that has no fields and no place.
+    pub(crate) fn of_fault(fault: Fault) -> Refusal {
+        Refusal { fault, fields: String::new(), place: None, is_of_text: false }
     }
 
-    /// The refusal that the text of an answer is: `refused` or `fault`, the number, the name, the fields, and the
-    /// place.
-    pub(crate) fn of_text(text: &str) -> Option<Refusal> {
-        let (word, told) = text.strip_suffix('\n').unwrap_or(text).split_once(' ')?;
-        let is_of_text = word == "fault";
-        if !is_of_text && word != "refused" {
-            return None;
+    /// What `scene_refused` tells; its fields are told by the text of the answer alone, where that has one.
+    pub(crate) fn of_raw(raw: raw::scene_refusal, text: &str) -> Refusal {
+        let raw::scene_refusal { fault, has_place, phase, queue, command } = raw;
+        let place = (has_place != 0).then_some(Place { phase, queue, command });
+        let mut refusal = Refusal { place, ..Refusal::of_fault(Fault::of_number(fault)) };
+        let before = format!("refused {} ", refusal.fault);
+        let behind = place.map(|place| format!(" at {place}")).unwrap_or_default();
+        let told = text.strip_suffix('\n').unwrap_or(text).strip_suffix(&behind);
+        if let Some(fields) = told.and_then(|told| told.strip_prefix(&before)) {
+            refusal.fields = fields.to_owned();
         }
-        let (told, place) = match told.rsplit_once(" at ") {
-            Some((before, last)) if !is_of_text => (before, place(last)),
-            _ => (told, None),
-        };
-        let mut parts = told.splitn(3, ' ');
-        let fault = parts.next()?.parse().ok()?;
-        parts.next()?;
-        let fields = parts.next().unwrap_or("").to_owned();
-        Some(Refusal { fault, name: name(fault), fields, place, is_of_text })
+        refusal
+    }
+
+    /// The fault of a scene text, which the text of the answer tells, and no call does: its number is the second word,
+    /// and behind that are its name and its fields.
+    pub(crate) fn of_answer(text: &str) -> Option<Refusal> {
+        let told = text.strip_prefix("fault ")?;
+        let digits = told.find(|character: char| !character.is_ascii_digit()).unwrap_or(told.len());
+        let (number, behind) = told.split_at(digits);
+        let fault = Fault::of_number(number.parse().ok()?);
+        let fields = behind.strip_suffix('\n').unwrap_or(behind).strip_prefix(&format!(" {} ", fault.name()));
+        Some(Refusal { fields: fields.unwrap_or("").to_owned(), is_of_text: true, ..Refusal::of_fault(fault) })
     }
 }
 
-#[cfg(test)]
-mod tests {
-    use super::name;
-    use crate::raw;
-    use std::ptr;
-
-    #[test]
-    fn faults_have_the_names_of_the_library() {
-        for fault in 0..1000 {
-            let mut room = [0; 32];
-            // SAFETY: `room` has as many bytes, and is lent for the call; where there is no room, null is fine.
-            let (length, again) = unsafe {
-                let length = raw::scene_fault_name(fault, room.as_mut_ptr(), room.len());
-                (length, raw::scene_fault_name(fault, ptr::null_mut(), 0))
-            };
-            let found = std::str::from_utf8(&room[..length]).unwrap();
-            assert_eq!(if found.is_empty() { "Unknown" } else { found }, name(fault));
-            assert_eq!(again, length);
-        }
+impl From<Fault> for Error {
+    fn from(fault: Fault) -> Error {
+        Error::Refused(Refusal::of_fault(fault))
     }
 }

@@ -1,8 +1,9 @@
 //! Frames: commands that are done together, all or none.
 use crate::entity::{Entity, New, Target};
 use crate::error::Error;
+use crate::kind::Kind;
 use crate::scene::Scene;
-use crate::value::{Kind, Value};
+use crate::value::Value;
 use std::sync::atomic::{AtomicU64, Ordering};
 
 /// The frames so far, so that each has a number of its own.
@@ -18,13 +19,15 @@ pub(crate) enum Command {
     Remove(Target, Kind),
     SetParent(Target, Target),
     RemoveParent(Target),
+    Put(String, Value),
+    RemoveResource(String),
 }
 
 /// A frame that is being made. Its commands are kept here until [`commit`](Frame::commit): one that is let go without
 /// it leaves the scene as it was.
 ///
 /// ```
-/// # use scene::{Error, Scene, Shape, Value};
+/// # use scene::{Error, Scene, Shape};
 /// let mut scene = Scene::new()?;
 /// let name = scene.declare("Name", Shape::Text)?;
 /// let mut frame = scene.frame();
@@ -32,7 +35,7 @@ pub(crate) enum Command {
 /// let kitten = frame.spawn(&[name.of("kitten")]);
 /// frame.set_parent(kitten, cat);
 /// let made = frame.commit()?;
-/// assert_eq!(scene.get(made[kitten.place()], name)?, Value::from("kitten"));
+/// assert_eq!(scene.get::<String>(made[kitten.place()], name)?, "kitten");
 ///
 /// scene.frame().spawn(&[]);
 /// assert_eq!(scene.rows()?.len(), 2);
@@ -110,14 +113,14 @@ impl<'a> Frame<'a> {
     /// Gives an entity a component, or writes the one of that kind that it has.
     ///
     /// ```
-    /// # use scene::{Error, Scene, Shape, Value};
+    /// # use scene::{Error, Scene, Shape};
     /// # let mut scene = Scene::new()?;
     /// let at = scene.declare("At", Shape::Vec3)?;
     /// let cat = scene.spawn(&[])?;
     /// let mut frame = scene.frame();
     /// frame.insert(cat, at, [1, 2, 3]);
     /// frame.commit()?;
-    /// assert_eq!(scene.get(cat, at)?, Value::Vec3([1, 2, 3]));
+    /// assert_eq!(scene.get::<[i64; 3]>(cat, at)?, [1, 2, 3]);
     /// # Ok::<(), Error>(())
     /// ```
     pub fn insert(&mut self, entity: impl Into<Target>, kind: Kind, value: impl Into<Value>) -> &mut Self {
@@ -135,7 +138,7 @@ impl<'a> Frame<'a> {
     /// let mut frame = scene.frame();
     /// frame.remove(cat, hidden);
     /// frame.commit()?;
-    /// assert!(scene.get(cat, hidden).is_err());
+    /// assert!(scene.get::<()>(cat, hidden).is_err());
     /// # Ok::<(), Error>(())
     /// ```
     pub fn remove(&mut self, entity: impl Into<Target>, kind: Kind) -> &mut Self {
@@ -152,8 +155,8 @@ impl<'a> Frame<'a> {
     /// let mut frame = scene.frame();
     /// let kitten = frame.spawn(&[]);
     /// frame.set_parent(kitten, cat);
-    /// frame.commit()?;
-    /// assert!(scene.line("show")?.ends_with("link 0v1 1v1"));
+    /// let made = frame.commit()?;
+    /// assert_eq!(scene.children_of(cat)?, made);
     /// # Ok::<(), Error>(())
     /// ```
     pub fn set_parent(&mut self, child: impl Into<Target>, parent: impl Into<Target>) -> &mut Self {
@@ -170,11 +173,44 @@ impl<'a> Frame<'a> {
     /// let mut frame = scene.frame();
     /// frame.set_parent(kitten, cat).remove_parent(kitten);
     /// frame.commit()?;
-    /// assert!(!scene.line("show")?.contains("link"));
+    /// assert_eq!(scene.parent_of(kitten)?, None);
     /// # Ok::<(), Error>(())
     /// ```
     pub fn remove_parent(&mut self, child: impl Into<Target>) -> &mut Self {
         self.commands.push(Command::RemoveParent(child.into()));
+        self
+    }
+
+    /// Puts a resource, or writes the one of that name.
+    ///
+    /// ```
+    /// # use scene::{Error, Scene};
+    /// # let mut scene = Scene::new()?;
+    /// let mut frame = scene.frame();
+    /// frame.put("motto", "onward").put("score", 5).remove_resource("motto");
+    /// frame.commit()?;
+    /// assert_eq!(scene.resource::<i64>("score")?, 5);
+    /// # Ok::<(), Error>(())
+    /// ```
+    pub fn put(&mut self, name: &str, value: impl Into<Value>) -> &mut Self {
+        self.commands.push(Command::Put(name.to_owned(), value.into()));
+        self
+    }
+
+    /// Removes a resource.
+    ///
+    /// ```
+    /// # use scene::{Error, Scene};
+    /// # let mut scene = Scene::new()?;
+    /// scene.put("score", 5)?;
+    /// let mut frame = scene.frame();
+    /// frame.remove_resource("score");
+    /// frame.commit()?;
+    /// assert!(scene.resources()?.is_empty());
+    /// # Ok::<(), Error>(())
+    /// ```
+    pub fn remove_resource(&mut self, name: &str) -> &mut Self {
+        self.commands.push(Command::RemoveResource(name.to_owned()));
         self
     }
 

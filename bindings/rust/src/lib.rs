@@ -4,7 +4,7 @@
 //! does and when it is refused, docs/MODEL.md says; what a line does, docs/SCRIPTS.md.
 //!
 //! ```
-//! use scene::{Error, Scene, Shape, Value};
+//! use scene::{Error, Scene, Shape};
 //!
 //! let mut scene = Scene::new()?;
 //! let name = scene.declare("Name", Shape::Text)?;
@@ -20,30 +20,67 @@
 //! // Outside a frame, a command is a frame by itself.
 //! scene.insert(made[0], health, 5)?;
 //! scene.undo()?;
-//! assert_eq!(scene.get(made[0], health)?, Value::Int(9));
+//! assert_eq!(scene.get::<i64>(made[0], health)?, 9);
+//!
+//! // A query reads columns.
+//! for (entity, (name, health)) in scene.query::<(String, i64)>([name, health])?.with_entities() {
+//!     println!("{entity} is {name}, with {health}");
+//! }
 //! # Ok::<(), Error>(())
 //! ```
 //!
-//! A [`Scene`] stays on the thread that made it: it is neither `Send` nor `Sync`, since the library's proof is of one
-//! thread. Two threads can have a scene each.
+//! A view follows by deltas, through undo and redo too: behind a frame, an advance or a redo by those of
+//! [`Scene::past_step`], and behind an undo by those of [`Scene::future_step`], [`undone`](FrameStep::undone). What no
+//! delta tells, as the components of a spawn, it then reads from the scene ([`FrameStep`] shows a whole view). Or it
+//! keeps a [`Moment`], and asks by [`Scene::changed_since`] what was written since, until an undo.
 //!
-//! The library is found by the variable `SCENE_LIB_DIR` when this crate is built: the folder that `./scene library
-//! FOLDER` made.
+//! A [`Scene`] may go to another thread, and is with one at a time: it is `Send`, and not `Sync`.
+//!
+//! The library is found by the variable `SCENE_LIB_DIR` when a program is built: the folder that `./scene library
+//! FOLDER` made. Without it `cargo doc` and `cargo check` do their work, and `cargo build` says what is missing.
 
+mod call;
 mod columns;
+mod commands;
+mod component;
+mod deltas;
 mod entity;
 mod error;
+mod fault;
+mod following;
 mod frame;
-mod loaded;
-mod raw;
+mod frame_steps;
+mod json;
+mod kind;
+mod lines;
+mod points;
+mod query;
+mod resources;
 mod rows;
 mod scene;
+mod steps;
+mod systems;
 mod value;
 
-pub use columns::Table;
+pub use columns::{Table, Ticks};
+pub use component::Component;
+pub use deltas::{Delta, DeltaValue};
 pub use entity::{Entity, New, NoEntity, Target};
 pub use error::{Error, Place, Refusal};
+pub use fault::Fault;
+pub use following::{Changed, Moment};
 pub use frame::Frame;
+pub use frame_steps::FrameStep;
+pub use kind::{Filter, Kind, KindSet};
+pub use lines::{Answer, Outcome};
+pub use query::{Found, FoundEntities, Query};
+pub use resources::Resource;
 pub use rows::{Cell, Row, Rows};
-pub use scene::{Answer, Changed, Outcome, Scene, version};
-pub use value::{Kind, NoShape, Shape, Value};
+pub use scene::{Scene, Status, version};
+pub use systems::Step;
+pub use value::{NoShape, Shape, Value};
+
+/// The README's program is tried as a test.
+#[cfg(doctest)]
+#[doc = include_str!("../README.md")]
+struct Readme;

@@ -1,6 +1,7 @@
 //! Kinds, their shapes, and the values of components.
 use crate::entity::Entity;
-use crate::raw;
+use crate::kind::Kind;
+use scene_sys as raw;
 use std::error::Error;
 use std::fmt;
 use std::str::FromStr;
@@ -25,6 +26,19 @@ pub enum Shape {
     Text,
     /// An entity, which need not be alive.
     Link,
+}
+
+impl Shape {
+    pub(crate) fn of_raw(shape: u32) -> Shape {
+        match shape {
+            raw::SCENE_TAG => Shape::Tag,
+            raw::SCENE_INT => Shape::Int,
+            raw::SCENE_VEC3 => Shape::Vec3,
+            raw::SCENE_TEXT => Shape::Text,
+            raw::SCENE_LINK => Shape::Link,
+            other => unreachable!("scene.h has no shape {other}"),
+        }
+    }
 }
 
 impl fmt::Display for Shape {
@@ -63,51 +77,6 @@ impl FromStr for Shape {
             "Link" => Ok(Shape::Link),
             _ => Err(NoShape),
         }
-    }
-}
-
-/// A kind of components of one scene, by its number. [`Scene::declare`](crate::Scene::declare) gives it, and
-/// [`Scene::kind`](crate::Scene::kind) finds it by its name. In another scene it names the kind of that number there,
-/// if any.
-///
-/// ```
-/// # use scene::{Error, Scene, Shape};
-/// let mut scene = Scene::new()?;
-/// let health = scene.declare("Health", Shape::Int)?;
-/// assert_eq!(scene.kind("Health"), Some(health));
-/// # Ok::<(), Error>(())
-/// ```
-#[derive(Clone, Copy, Debug, PartialEq, Eq, PartialOrd, Ord, Hash)]
-pub struct Kind(pub(crate) u8);
-
-impl Kind {
-    /// Its number: kinds are counted from 0, in the order in which they were declared.
-    ///
-    /// ```
-    /// # use scene::{Error, Scene, Shape};
-    /// # let mut scene = Scene::new()?;
-    /// scene.declare("Name", Shape::Text)?;
-    /// assert_eq!(scene.declare("Health", Shape::Int)?.number(), 1);
-    /// # Ok::<(), Error>(())
-    /// ```
-    #[must_use]
-    pub fn number(self) -> u8 {
-        self.0
-    }
-
-    /// A component of this kind, as a spawn takes it.
-    ///
-    /// ```
-    /// # use scene::{Error, Scene, Shape, Value};
-    /// # let mut scene = Scene::new()?;
-    /// let health = scene.declare("Health", Shape::Int)?;
-    /// assert_eq!(health.of(9), (health, Value::Int(9)));
-    /// scene.spawn(&[health.of(9)])?;
-    /// # Ok::<(), Error>(())
-    /// ```
-    #[must_use]
-    pub fn of(self, value: impl Into<Value>) -> (Kind, Value) {
-        (self, value.into())
     }
 }
 
@@ -195,7 +164,7 @@ impl From<Entity> for Value {
 
 /// A component as the library takes it.
 pub(crate) enum Sent<'a> {
-    Cell(raw::RawCell),
+    Cell(raw::scene_cell),
     Text(&'a str),
 }
 
@@ -203,23 +172,22 @@ impl Value {
     pub(crate) fn sent(&self, kind: Kind) -> Sent<'_> {
         let (shape, [x, y, z]) = match self {
             Value::Text(text) => return Sent::Text(text),
-            Value::Tag => (raw::TAG, [0; 3]),
-            Value::Int(number) => (raw::INT, [*number, 0, 0]),
-            Value::Vec3(numbers) => (raw::VEC3, *numbers),
-            Value::Link(entity) => (raw::LINK, [entity.index.into(), entity.generation.into(), 0]),
+            Value::Tag => (raw::SCENE_TAG, [0; 3]),
+            Value::Int(number) => (raw::SCENE_INT, [*number, 0, 0]),
+            Value::Vec3(numbers) => (raw::SCENE_VEC3, *numbers),
+            Value::Link(entity) => (raw::SCENE_LINK, [entity.index.into(), entity.generation.into(), 0]),
         };
-        Sent::Cell(raw::RawCell { kind: kind.0.into(), shape, x, y, z })
+        Sent::Cell(raw::scene_cell { kind: kind.0.into(), shape, x, y, z })
     }
 
-    /// The value that the library gave; a text comes apart. The numbers of a link have 32 bits.
-    pub(crate) fn given(cell: raw::RawCell, text: impl FnOnce() -> String) -> Value {
-        match cell.shape {
-            raw::TAG => Value::Tag,
-            raw::INT => Value::Int(cell.x),
-            raw::VEC3 => Value::Vec3([cell.x, cell.y, cell.z]),
-            raw::TEXT => Value::Text(text()),
-            raw::LINK => Value::Link(Entity { index: cell.x as u32, generation: cell.y as u32 }),
-            other => unreachable!("scene.h has no shape {other}"),
+    /// The value that the library tells, whose text comes apart. The numbers of a link have 32 bits.
+    pub(crate) fn of_cell(cell: &raw::scene_cell, text: String) -> Value {
+        match Shape::of_raw(cell.shape) {
+            Shape::Tag => Value::Tag,
+            Shape::Int => Value::Int(cell.x),
+            Shape::Vec3 => Value::Vec3([cell.x, cell.y, cell.z]),
+            Shape::Text => Value::Text(text),
+            Shape::Link => Value::Link(Entity { index: cell.x as u32, generation: cell.y as u32 }),
         }
     }
 }

@@ -1,5 +1,5 @@
 //! Saving and loading.
-use scene::{Error, Scene, Shape, Value};
+use scene::{Error, Fault, Scene, Shape};
 
 /// A scene with a past and a future.
 fn edited() -> Scene {
@@ -49,7 +49,7 @@ fn a_text_of_a_world_alone_is_loaded() {
     let dumped = scene.line("dump").unwrap();
     let mut other = Scene::load(&dumped).unwrap();
     assert_eq!(other.line("show"), scene.line("show"));
-    assert_eq!(other.undo().unwrap_err().refusal().unwrap().name, "NothingToUndo");
+    assert_eq!(other.undo().unwrap_err().refusal().unwrap().fault, Fault::NothingToUndo);
 }
 
 #[test]
@@ -62,7 +62,7 @@ fn a_line_loads_too() {
     assert!(matches!(scene.declare("Late", Shape::Tag), Err(Error::Bad(_))));
     scene.line("depth 1").unwrap();
     let name = scene.kind("Name").unwrap();
-    assert_eq!(scene.get("0v1".parse().unwrap(), name), Ok(Value::from("a \"cat\"\n")));
+    assert_eq!(scene.get("0v1".parse().unwrap(), name), Ok("a \"cat\"\n".to_owned()));
     scene.undo().unwrap();
     assert!(scene.undo().is_err());
 }

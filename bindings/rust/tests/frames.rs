@@ -1,5 +1,5 @@
 //! Frames, and what refuses them.
-use scene::{Entity, Error, Kind, Outcome, Place, Scene, Shape, Value};
+use scene::{Entity, Error, Fault, Kind, Outcome, Place, Scene, Shape, Value};
 
 /// A scene with a kind of each sort that is used here.
 fn begun() -> (Scene, Kind, Kind) {
@@ -21,7 +21,7 @@ fn command(command: u32) -> Option<Place> {
 /// The number, the name and the place of a refusal.
 fn refusal<T: std::fmt::Debug>(came: Result<T, Error>) -> (u32, &'static str, Option<Place>) {
     match came {
-        Err(Error::Refused(refusal)) => (refusal.fault, refusal.name, refusal.place),
+        Err(Error::Refused(refusal)) => (refusal.fault.number(), refusal.fault.name(), refusal.place),
         other => panic!("{other:?}"),
     }
 }
@@ -36,12 +36,12 @@ fn a_frame_is_one_step() {
     frame.insert(dog, health, 7).insert(old, health, 1).set_parent(dog, cat).remove(old, name);
     let made = frame.commit().unwrap();
     assert_eq!(made, [entity("1v1"), entity("2v1")]);
-    assert_eq!(scene.get(made[dog.place()], health), Ok(Value::Int(7)));
+    assert_eq!(scene.get(made[dog.place()], health), Ok(7));
     assert_eq!(refusal(scene.despawn(made[cat.place()])), (2, "HasChildren", command(0)));
     scene.undo().unwrap();
     assert_eq!(scene.rows().unwrap().len(), 1);
-    assert_eq!(scene.get(old, name), Ok(Value::from("old")));
-    assert_eq!(refusal(scene.get(old, health)), (3, "NotPresent", None));
+    assert_eq!(scene.get::<Value>(old, name), Ok(Value::from("old")));
+    assert_eq!(refusal(scene.get::<i64>(old, health)), (3, "NotPresent", None));
 }
 
 #[test]
@@ -105,7 +105,7 @@ fn a_kind_of_another_scene_is_refused() {
     let mut scene = Scene::new().unwrap();
     let cat = scene.spawn(&[]).unwrap();
     assert_eq!(refusal(scene.insert(cat, second, 1)), (5, "NoSuchKind", command(0)));
-    assert_eq!(refusal(scene.get(cat, second)), (5, "NoSuchKind", None));
+    assert_eq!(refusal(scene.get::<i64>(cat, second)), (5, "NoSuchKind", None));
     // The components that were given for a refused spawn are gone with it.
     assert_eq!(refusal(scene.spawn(&[second.of(1)])), (5, "NoSuchKind", command(0)));
     scene.spawn(&[]).unwrap();
@@ -132,7 +132,7 @@ fn generation_0_names_no_spawn() {
     frame.insert(never, health, 1);
     assert_eq!(refusal(frame.commit()), (1, "NoSuchEntity", command(1)));
     assert_eq!(refusal(scene.insert(never, health, 1)), (1, "NoSuchEntity", command(0)));
-    assert_eq!(refusal(scene.get(never, health)), (1, "NoSuchEntity", None));
+    assert_eq!(refusal(scene.get::<i64>(never, health)), (1, "NoSuchEntity", None));
 }
 
 #[test]
@@ -145,11 +145,15 @@ fn in_a_frame_of_lines_commands_go_by_lines() {
     assert!(matches!(scene.frame().commit(), Err(Error::Bad(_))));
     assert!(matches!(scene.undo(), Err(Error::Bad(_))));
     assert!(matches!(scene.save(), Err(Error::Bad(_))));
-    assert!(scene.rows().is_err() && scene.changed().is_err() && scene.mark().is_err());
+    assert!(scene.changed().is_err() && scene.mark().is_err());
+    assert!(matches!(scene.put("score", 5), Err(Error::Bad(_))));
+    assert!(matches!(scene.advance(), Err(Error::Bad(_))));
+    // What reads, reads the scene as it was before the frame.
+    assert_eq!((scene.rows().unwrap().len(), scene.status().unwrap().in_frame), (0, true));
     assert!(matches!(scene.line("begin"), Err(Error::Bad(_))));
     assert_eq!(scene.line("insert +0 Health=8"), Ok("queued".to_owned()));
     assert_eq!(scene.line(" commit "), Ok("done 0v1".to_owned()));
-    assert_eq!(scene.get(entity("0v1"), health), Ok(Value::Int(8)));
+    assert_eq!(scene.get(entity("0v1"), health), Ok(8));
     scene.line("begin").unwrap();
     scene.line("despawn 7v9").unwrap();
     assert!(scene.line("commit").is_err());
@@ -166,7 +170,7 @@ fn a_dropped_frame_is_no_call() {
         scene.line("begin").unwrap();
         scene.line("insert 0v1 Health=5").unwrap();
         assert!(scene.drop_frame() && !scene.drop_frame());
-        assert_eq!(scene.get(cat, health), Ok(Value::Int(9)));
+        assert_eq!(scene.get(cat, health), Ok(9));
     }
     assert_eq!(scene.line("history").unwrap(), history);
     assert!(scene.line("commit").unwrap_err().to_string().starts_with("no frame is open"));
@@ -195,7 +199,7 @@ fn a_line_and_a_call_are_refused_alike() {
     let told = scene.line("undo").unwrap_err();
     assert_eq!(scene.undo(), Err(told));
     let told = scene.line("get 7v9").unwrap_err();
-    assert_eq!(scene.get(entity("7v9"), health), Err(told));
+    assert_eq!(scene.get::<i64>(entity("7v9"), health), Err(told));
 }
 
 #[test]
@@ -205,7 +209,8 @@ fn errors_say_what_they_are() {
     scene.spawn(&[]).unwrap();
     let error = scene.line("undo").unwrap_err();
     assert_eq!(error.to_string(), "refused 17 HistoryFull 1");
-    assert_eq!(error.refusal().unwrap().fields, "1");
+    let refusal = error.refusal().unwrap();
+    assert_eq!((refusal.fault, refusal.fields.as_str()), (Fault::HistoryFull, "1"));
     assert_eq!(std::error::Error::source(&error).unwrap().to_string(), error.to_string());
     assert_eq!(scene.undo().unwrap_err().to_string(), "refused 17 HistoryFull");
     for error in [Error::Bad(String::new()), Error::NoMemory, Error::Closed, Error::Untold, Error::Lost] {
@@ -223,7 +228,7 @@ fn a_large_frame_and_two_scenes() {
     }
     let made = frame.commit().unwrap();
     assert_eq!(made.len(), 10_000);
-    assert_eq!(scene.get(made[9_999], health), Ok(Value::Int(9_999)));
+    assert_eq!(scene.get(made[9_999], health), Ok(9_999));
     assert_eq!(other.rows().unwrap().len(), 0);
     drop(scene);
     other.spawn(&[]).unwrap();

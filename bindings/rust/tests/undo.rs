@@ -1,5 +1,5 @@
 //! Undo and redo, and what was changed.
-use scene::{Error, Kind, Scene, Shape, Value};
+use scene::{Error, Fault, Kind, Scene, Shape};
 
 fn begun() -> (Scene, Kind, Kind) {
     let mut scene = Scene::new().unwrap();
@@ -41,8 +41,8 @@ fn a_new_frame_ends_the_future() {
     scene.insert(cat, health, 5).unwrap();
     scene.undo().unwrap();
     scene.insert(cat, health, 6).unwrap();
-    assert_eq!(scene.redo().unwrap_err().refusal().unwrap().name, "NothingToRedo");
-    assert_eq!(scene.get(cat, health), Ok(Value::Int(6)));
+    assert_eq!(scene.redo().unwrap_err().refusal().unwrap().fault, Fault::NothingToRedo);
+    assert_eq!(scene.get(cat, health), Ok(6));
 }
 
 #[test]
@@ -69,7 +69,7 @@ fn after_an_undo_changed_is_refused() {
     scene.insert(cat, health, 5).unwrap();
     scene.undo().unwrap();
     match scene.changed() {
-        Err(Error::Refused(refusal)) => assert_eq!((refusal.fault, refusal.name, refusal.place), (18, "Rewound", None)),
+        Err(Error::Refused(refusal)) => assert_eq!((refusal.fault, refusal.place), (Fault::Rewound, None)),
         other => panic!("{:?}", other.map(Iterator::count)),
     }
     assert_eq!(scene.line("changed").unwrap_err().refusal().unwrap().fields, "1");

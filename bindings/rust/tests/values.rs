@@ -1,5 +1,5 @@
 //! Entities, kinds, values, and the rows that have them.
-use scene::{Cell, Entity, Error, NoEntity, Row, Scene, Shape, Value};
+use scene::{Cell, Entity, Error, Fault, NoEntity, Row, Scene, Shape, Value};
 
 /// Texts that a line couldn't have, or that something on the way could spoil.
 const TEXTS: [&str; 14] = [
@@ -27,8 +27,8 @@ fn texts_come_back_as_they_were() {
     for text in TEXTS {
         let entity = scene.spawn(&[name.of(text)]).unwrap();
         scene.insert(entity, other, text.to_owned()).unwrap();
-        assert_eq!(scene.get(entity, name), Ok(Value::from(text)));
-        assert_eq!(scene.get(entity, other), Ok(Value::from(text)));
+        assert_eq!(scene.get::<String>(entity, name).as_deref(), Ok(text));
+        assert_eq!(scene.get::<Value>(entity, other), Ok(Value::from(text)));
     }
     let rows: Vec<Row> = scene.rows().unwrap().collect();
     assert_eq!(rows.len(), TEXTS.len());
@@ -36,7 +36,7 @@ fn texts_come_back_as_they_were() {
         assert_eq!(row.value(name), Some(&Value::from(text)));
         assert_eq!(row.value(other), Some(&Value::from(text)));
     }
-    let mut loaded = Scene::load(&scene.save().unwrap()).unwrap();
+    let loaded = Scene::load(&scene.save().unwrap()).unwrap();
     assert_eq!(loaded.rows().unwrap().collect::<Vec<_>>(), rows);
 }
 
@@ -46,7 +46,7 @@ fn a_long_text_comes_back() {
     let name = scene.declare("Name", Shape::Text).unwrap();
     let text = "a long text\u{e9} ".repeat(100_000);
     let entity = scene.spawn(&[name.of(text.as_str())]).unwrap();
-    assert_eq!(scene.get(entity, name), Ok(Value::Text(text)));
+    assert_eq!(scene.get(entity, name), Ok(text));
 }
 
 #[test]
@@ -61,7 +61,7 @@ fn values_come_back_as_they_were() {
         let cells = [tag.of(()), int.of(number), vec3.of([number, 0, i64::MIN]), link.of(linked)];
         let entity = scene.spawn(&cells).unwrap();
         for (kind, value) in &cells {
-            assert_eq!(scene.get(entity, *kind).as_ref(), Ok(value));
+            assert_eq!(scene.get::<Value>(entity, *kind).as_ref(), Ok(value));
         }
         let row = scene.rows().unwrap().last().unwrap();
         let read: Vec<_> = row.cells.iter().map(|cell| (cell.kind, cell.value.clone())).collect();
@@ -97,14 +97,14 @@ fn kinds_are_counted_and_found() {
         let kind = scene.declare(&format!("K{number}"), Shape::Int).unwrap();
         assert_eq!(kind.number(), number);
     }
-    assert_eq!(scene.declare("K64", Shape::Int).unwrap_err().refusal().unwrap().name, "KindsFull");
+    assert_eq!(scene.declare("K64", Shape::Int).unwrap_err().refusal().unwrap().fault, Fault::KindsFull);
     assert_eq!(scene.kind("K63").map(|kind| kind.number()), Some(63));
     let last = scene.kind("K63").unwrap();
     let entity = scene.spawn(&[last.of(1)]).unwrap();
-    assert_eq!(scene.get(entity, last), Ok(Value::Int(1)));
+    assert_eq!(scene.get(entity, last), Ok(1));
     let mut scene = Scene::new().unwrap();
     for name in ["9", "a-b", "\u{e9}", "a\nb"] {
-        assert_eq!(scene.declare(name, Shape::Int).unwrap_err().refusal().unwrap().name, "BadName", "{name}");
+        assert_eq!(scene.declare(name, Shape::Int).unwrap_err().refusal().unwrap().fault, Fault::BadName, "{name}");
     }
     for name in ["", "a b", " a"] {
         assert!(matches!(scene.declare(name, Shape::Int), Err(Error::Bad(_))), "{name}");

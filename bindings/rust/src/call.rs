@@ -1,0 +1,183 @@
+//! Calls of the library: what they are lent, and what their codes say.
+use crate::error::{Error, Refusal};
+use crate::scene::Scene;
+use scene_sys as raw;
+use std::ptr;
+
+/// The place of a `scene *`: each call takes it, as it may leave another pointer there.
+pub(crate) type Handle = *mut *mut raw::scene;
+
+/// Makes a call of the library on a scene, and tells what it came to.
+macro_rules! call {
+    ($scene:expr, $name:ident $(, $argument:expr)*) => {{
+        // SAFETY: the declaration is the header's. The handle is the place of what `scene_open` put there, and no other
+        // call has it meanwhile, since the scene is lent to this one thread. A pointer to bytes is that of a slice or a
+        // `&str`, never null, with its length behind it; one to write to is a `&mut`. All are lent for the call, and
+        // the library keeps none.
+        let code = unsafe { scene_sys::$name($scene.handle() $(, $argument)*) };
+        $scene.came(code)
+    }};
+}
+pub(crate) use call;
+
+/// Why a read told nothing, where nothing else is known.
+const UNTOLD: &str = "there is nothing of this to read";
+
+/// How many items a list is given room for at first, so that a short one takes one call.
+const ROOM: usize = 64;
+
+impl Scene {
+    /// Where the library's pointer is. A scene isn't `Sync`, so that who has this has it alone.
+    pub(crate) fn handle(&self) -> Handle {
+        self.at.get()
+    }
+
+    /// What a code says. Why it was refused is asked at once, since the next call takes it away.
+    pub(crate) fn came(&mut self, code: u32) -> Result<(), Error> {
+        match code {
+            raw::SCENE_DONE => Ok(()),
+            raw::SCENE_REFUSED => Err(self.refusal()),
+            raw::SCENE_BAD => Err(Error::Bad(self.reason())),
+            other => Err(failed(other)),
+        }
+    }
+
+    /// Why the last call was refused.
+    fn refusal(&mut self) -> Error {
+        if let Some(refusal) = self.told_refusal() {
+            return Error::Refused(refusal);
+        }
+        // A scene text has the fault.
+        let text = self.text();
+        Refusal::of_answer(&text).map_or(Error::Bad(text), Error::Refused)
+    }
+
+    /// Why the last call was refused, where it was, and not for a fault of a scene text.
+    fn told_refusal(&mut self) -> Option<Refusal> {
+        let mut refusal = raw::scene_refusal::default();
+        // SAFETY: as in `call!`; `refusal` is lent for the call.
+        let code = unsafe { raw::scene_refused(self.handle(), &mut refusal) };
+        (code == raw::SCENE_DONE).then(|| Refusal::of_raw(refusal, &self.text()))
+    }
+
+    /// Why the last call was bad, in words, which are the text of its answer then; nothing where no memory was found.
+    fn reason(&mut self) -> String {
+        // SAFETY: as in `call!`.
+        match unsafe { raw::scene_bad_reason(self.handle()) } {
+            raw::SCENE_DONE => self.text(),
+            _ => String::new(),
+        }
+    }
+
+    /// The text of the last answer.
+    pub(crate) fn text(&mut self) -> String {
+        let mut room = Vec::new();
+        // SAFETY: as in `call!`; where there is no room, null is fine.
+        let length = unsafe { raw::scene_answer(self.handle(), ptr::null_mut(), 0) };
+        if length == 0 {
+            return String::new();
+        }
+        room.resize(length, 0);
+        // SAFETY: as in `call!`; `room` has `length` bytes.
+        unsafe { raw::scene_answer(self.handle(), room.as_mut_ptr(), length) };
+        text_of(room)
+    }
+
+    /// Makes a call that only reads, which is given the handle, and says whether it told something. In the setup there
+    /// is nothing to read, so that this ends it, as each call does that is no declaration.
+    pub(crate) fn look(&self, mut call: impl FnMut(Handle) -> u32) -> Result<bool, Error> {
+        let mut code = call(self.handle());
+        if code == raw::SCENE_BAD && self.ends_setup()? {
+            code = call(self.handle());
+        }
+        match code {
+            raw::SCENE_DONE => Ok(true),
+            raw::SCENE_REFUSED | raw::SCENE_BAD => Ok(false),
+            other => Err(failed(other)),
+        }
+    }
+
+    /// Ends the setup, and says whether it had not ended before.
+    fn ends_setup(&self) -> Result<bool, Error> {
+        let mut info = raw::scene_info::default();
+        // SAFETY: as in `call!`; `info` is lent for the call.
+        if unsafe { raw::scene_status(self.handle(), &mut info) } != raw::SCENE_BAD {
+            return Ok(false);
+        }
+        // A step of no frames is no call, and ends the setup.
+        // SAFETY: as in `call!`.
+        match unsafe { raw::scene_undo_by(self.handle(), 0) } {
+            raw::SCENE_DONE => Ok(true),
+            other => Err(failed(other)),
+        }
+    }
+
+    /// Fills a part of a list of known length: as many items as `part` is to have. Says whether it was told.
+    pub(crate) fn fill<T: Copy>(
+        &self,
+        blank: T,
+        length: usize,
+        part: &mut Vec<T>,
+        call: impl Fn(Handle, *mut T, usize, *mut usize) -> u32,
+    ) -> Result<bool, Error> {
+        // A pointer to room isn't null, not even where there is none.
+        part.resize(length, blank);
+        let mut total = 0;
+        // The room is as long as it says, and it and the count are lent for the call.
+        self.look(|handle| call(handle, part.as_mut_ptr(), length, &mut total))
+    }
+
+    /// The list that a call tells, which is given its room and where its length goes; `None` where it tells none.
+    pub(crate) fn list<T: Copy>(
+        &self,
+        blank: T,
+        call: impl Fn(Handle, *mut T, usize, *mut usize) -> u32,
+    ) -> Result<Option<Vec<T>>, Error> {
+        let mut items = vec![blank; ROOM];
+        let mut length = 0;
+        // The room is as long as it says, and it and the count are lent for the call.
+        let mut tell = |items: &mut Vec<T>| {
+            self.look(|handle| call(handle, items.as_mut_ptr(), items.len(), &mut length))
+                .map(|told| told.then_some(length))
+        };
+        let Some(length) = tell(&mut items)? else {
+            return Ok(None);
+        };
+        if length > items.len() {
+            items.resize(length, blank);
+            tell(&mut items)?;
+        }
+        items.truncate(length);
+        Ok(Some(items))
+    }
+
+    /// The text that a call tells byte by byte, as a list.
+    pub(crate) fn told_text(
+        &self,
+        call: impl Fn(Handle, *mut u8, usize, *mut usize) -> u32,
+    ) -> Result<Option<String>, Error> {
+        Ok(self.list(0, call)?.map(text_of))
+    }
+}
+
+/// What is told always, where there is a scene.
+pub(crate) fn told<T>(found: Option<T>) -> Result<T, Error> {
+    found.ok_or_else(|| Error::Bad(UNTOLD.to_owned()))
+}
+
+/// A text of the library.
+fn text_of(bytes: Vec<u8>) -> String {
+    String::from_utf8(bytes).expect("the library's texts are UTF-8")
+}
+
+/// What the codes say by which a call of any sort failed.
+fn failed(code: u32) -> Error {
+    match code {
+        raw::SCENE_NO_MEMORY => Error::NoMemory,
+        raw::SCENE_CLOSED => Error::Closed,
+        raw::SCENE_UNTOLD => Error::Untold,
+        raw::SCENE_LOST => Error::Lost,
+        raw::SCENE_BAD | raw::SCENE_REFUSED => Error::Bad(UNTOLD.to_owned()),
+        other => unreachable!("scene.h has no code {other}"),
+    }
+}
