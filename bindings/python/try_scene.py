@@ -19,67 +19,18 @@ import threading
 import traceback
 from contextlib import contextmanager, suppress
 from pathlib import Path
-from typing import TYPE_CHECKING, Any, Callable, Dict, Iterator, List, Optional, Tuple, Type, TypeVar
+from typing import TYPE_CHECKING, Any, Callable, Dict, Iterator, List, Optional, Tuple
 
 import scene
-from scene import BadLine, Calls, Closed, Ended, Entity, KindsDiffer, Refused, Spawned, StoreError
+import tried_calls
+from scene import BadLine, Calls, Closed, Ended, Entity, KindsDiffer, Refused, StoreError
+from trying import KINDS, TOP, UNUSUAL, Begin, error_of, is_bad, refusal, spawned, to_come, told
 
 if TYPE_CHECKING:
     from scene.library import LibraryScene
 
-TOP = Path(__file__).resolve().parents[2]
-KINDS = {"Name": "Text", "Health": "Int", "At": "Vec3", "Hidden": "Tag", "Target": "Link"}
 PROGRAM = str(TOP / "crates/scene/out/scene")
 EXAMPLES = TOP / "examples"
-# Texts that something on the way could spoil.
-UNUSUAL = ("", '"', "\\", "a=b", "@1/1", "\r", "a\r", "\t\x01\x1f\x7f", "\x85\u2028", "\u65e5\U0001f415", "\0", "+0")
-UNUSUAL += (Entity("7v9"),)
-
-# Makes a scene with KINDS, or with others.
-Begin = Callable[..., Calls]
-Raised = TypeVar("Raised", bound=BaseException)
-
-
-def error_of(kind: Type[Raised], call: Callable[..., Any], /, *words: Any, **cells: Any) -> Raised:
-    """The error of a call, which has to be of this kind."""
-    try:
-        call(*words, **cells)
-    except kind as error:
-        return error
-    raise AssertionError("the call was accepted")
-
-
-def refusal(call: Callable[..., Any], /, *words: Any, **cells: Any) -> Refused:
-    """The refusal of a call, which has to be refused."""
-    return error_of(Refused, call, *words, **cells)
-
-
-def is_bad(call: Callable[..., Any], /, *words: Any, **cells: Any) -> bool:
-    """Whether a call makes no good line."""
-    try:
-        call(*words, **cells)
-    except BadLine:
-        return True
-    return False
-
-
-def told(refused: Refused) -> Tuple[int, str, List[str], Optional[Tuple[int, ...]]]:
-    """All that a refusal tells."""
-    return refused.number, refused.name, refused.fields, refused.place
-
-
-def spawned(world: Calls, **cells: Any) -> Entity:
-    """An entity that is spawned outside a frame."""
-    entity = world.spawn(**cells)
-    assert isinstance(entity, Entity)
-    return entity
-
-
-def to_come(world: Calls, **cells: Any) -> Spawned:
-    """An entity that an open frame is to spawn."""
-    entity = world.spawn(**cells)
-    assert isinstance(entity, Spawned)
-    return entity
 
 
 def commands(begin: Begin) -> None:
@@ -312,41 +263,6 @@ def texts_with_spaces(begin: Begin) -> None:
         with begin({}) as other:
             other.load(world.save())
             assert other.rows() == world.rows()
-
-
-def requests(begin: Begin) -> None:
-    """What a request asks for is answered as its line, and a bad one says where."""
-    with begin() as world:
-        assert isinstance(world, scene.Scene)
-        assert is_bad(world.line, "show\nshow") and is_bad(world.line, '{"do":"spawn","cells":{}}') and not world.rows()
-        assert world.request("spawn", cells={"Name": "two words"}) == {"answer": "done", "entities": ["0v1"]}
-        assert world.request("put", name="title", shape="Text", value="a \u044f\n")["answer"] == "done"
-        assert "resource title Text=\"a \u044f\\n\"@2/2" in world.show()
-        assert world.request("get", entity="0v1")["cells"] == {"Name": ["two words", 1, 1]}
-        assert told(refusal(world.request, "despawn", entity="7v9")) == (1, "NoSuchEntity", [], (0, 0, 0))
-        before = world.show()
-        for path, bad in {
-            "do": {"do": "jump"},
-            "entity": {"do": "despawn"},
-            "cells.Nam": {"do": "spawn", "cells": {"Nam": 1}},
-            "value[2]": {"do": "insert", "entity": "0v1", "kind": "At", "value": [1, 2, 0.5]},
-        }.items():
-            error = error_of(BadLine, world.request, **bad)
-            assert error.path == path and f'"{path}"' in str(error), error
-        assert error_of(BadLine, world.request, "show", more="\ud800").path is None
-        error_of(TypeError, world.request, "despawn", entity=b"0v1")
-        assert world.show() == before
-
-
-def requests_of_setups(begin: Begin) -> None:
-    """A request too loads a scene text, whose kinds then are all there are, and tells its faults as a line does."""
-    with begin({"A": "Int"}) as world:
-        text = world.save()
-    with begin({"A": "Text"}) as world:
-        assert isinstance(world, scene.Scene) and world.shape_of("A") == "Text"
-        unknown = error_of(Refused, world.request, "load", text='{"scene":1,"\u044f \\"":0}')
-        assert told(unknown) == (51, "UnknownKey", ['"\u044f \\""'], None)
-        assert world.request("load", text=text) == {"answer": "ok"} and world.shape_of("A") == "Int"
 
 
 def undo_and_redo(begin: Begin) -> None:
@@ -691,12 +607,25 @@ def examples_twice(program: str) -> None:
 
 
 def library_example(library: str) -> None:
-    """The example of docs/BINDINGS.md for a library runs without a word on standard error."""
+    """The examples of docs/BINDINGS.md and of the module for a library run without a word on standard error."""
+    from scene import library as module
+
     codes = [code for code in fenced() if "library=" in code]
-    assert len(codes) == 1
+    shown = re.search(r"\n((?:    .*\n)+)", str(module.__doc__))
+    assert len(codes) == 1 and shown is not None
     with tempfile.TemporaryDirectory() as room:
         os.symlink(Path(library).parent, f"{room}/FOLDER")
-        run_example(codes[0], room)
+        assert run_example(codes[0], room) == ""
+        said = run_example("from scene.library import LibraryScene\n" + textwrap.dedent(shown[1]), room)
+        assert said == "[('0v1', 'At')]\n1 15\n", said
+
+
+def frames_example(library: str) -> None:
+    """The example of an engine's loop finds that all is the same."""
+    words = [sys.executable, "-B", "-W", "error", str(Path(__file__).with_name("examples") / "frames.py"), library]
+    done = subprocess.run(words, stdout=subprocess.PIPE, stderr=subprocess.PIPE, check=False)
+    assert (done.returncode, done.stderr) == (0, b""), (done.stdout + done.stderr).decode()
+    assert len(done.stdout.splitlines()) == 4 and b"checksum 533421186486051598\n" in done.stdout, done.stdout.decode()
 
 
 def all_files() -> None:
@@ -714,8 +643,8 @@ def fenced() -> List[str]:
     return re.findall(r"```python\n(.*?)```", text, re.DOTALL)
 
 
-def run_example(code: str, room: str) -> None:
-    """Runs an example in a folder, which has to end well and silently."""
+def run_example(code: str, room: str) -> str:
+    """Runs an example in a folder, which has to end well, without a word on standard error; and what it prints."""
     paths = {"PYTHONPATH": str(Path(__file__).parent), "PATH": f"{room}:{os.environ['PATH']}"}
     done = subprocess.run(
         [sys.executable, "-B", "-W", "error", "-c", code],
@@ -726,6 +655,7 @@ def run_example(code: str, room: str) -> None:
         check=False,
     )
     assert done.returncode == 0 and done.stderr == b"", done.stderr.decode()
+    return done.stdout.decode()
 
 
 def plays(library: str, name: str) -> None:
@@ -788,8 +718,8 @@ BOTH = (
     closes,
     reasons,
     refused_lines,
+    *tried_calls.BOTH,
 )
-SHELL = (requests, requests_of_setups)
 LIBRARY = (dropped_frames,)
 PROGRAMS = (
     stores,
@@ -800,6 +730,20 @@ PROGRAMS = (
     notes,
     examples_twice,
 )
+
+
+def of_library(path: str, library: Begin) -> List[Tuple[str, Callable[..., None], Tuple[Any, ...]]]:
+    """What is tried over the library at a path."""
+    # (a Python without ctypes has the shell)
+    import tried_library  # pylint: disable=import-outside-toplevel
+
+    of_path = (library_example, names_of_faults, tried_library.header_is_whole, frames_example)
+    names = sorted(found.stem for found in EXAMPLES.glob("*.scene") if is_run(found.stem))
+    return [
+        *(("the library", one, (library,)) for one in (*BOTH, *LIBRARY, *tried_library.LIBRARY)),
+        *(("the library", one, (path,)) for one in of_path),
+        *(("lines.py", plays, (path, name)) for name in names),
+    ]
 
 
 def main() -> int:
@@ -814,17 +758,16 @@ def main() -> int:
 
     tried: List[Tuple[str, Callable[..., None], Tuple[Any, ...]]] = [("the version", all_files, ())]
     if Path(program).exists():
-        tried += [("the shell", one, (shell,)) for one in (*BOTH, *SHELL)]
+        tried += [("the shell", one, (shell,)) for one in BOTH]
         tried += [("the shell", one, (program,)) for one in PROGRAMS]
     else:
         tried += [("the shell", missing, (program,))]
     if folder is None:
         print("Python: the library isn't tried, as SCENE_LIB_DIR names no folder; `./scene library FOLDER` makes one")
     else:
-        tried += [("the library", one, (library,)) for one in (*BOTH, *LIBRARY)]
-        tried += [("the library", one, (f"{folder}/libscene.so",)) for one in (library_example, names_of_faults)]
-        names = sorted(path.stem for path in EXAMPLES.glob("*.scene") if is_run(path.stem))
-        tried += [("lines.py", plays, (f"{folder}/libscene.so", name)) for name in names]
+        tried += of_library(f"{folder}/libscene.so", library)
+        if Path(program).exists():
+            tried += [("both", tried_calls.both_alike, (shell, library))]
     failed = 0
     for over, one, words in tried:
         with quiet() as said:
@@ -835,7 +778,7 @@ def main() -> int:
                 wrong = traceback.format_exc(limit=-3)
         if wrong or said != [""]:
             failed += 1
-            what = " ".join([one.__name__, *words[1:]])
+            what = " ".join([one.__name__, *(word for word in words[1:] if isinstance(word, str))])
             print(f"Python, {over}, {what}: {wrong or 'standard error has '}{''.join(said)}", file=sys.stderr)
     print(f"Python: {len(tried) - failed} are as they have to be, {failed} aren't")
     return 1 if failed else 0

@@ -5,8 +5,12 @@
         with level.frame():
             kitten = level.spawn(Name="kitten", Health=3)
             level.set_parent(kitten, cat)
-        level.undo()
-        print(level.get(cat, "Health"))
+        level.put("title", "Big House")
+        level.undo(2)
+        print(level.get(cat, "Health"), level.children_of(cat), level.status().redo)
+        level.clear_systems()
+        level.add_system("age", scene.AddInt("Health", -1), need=["Health"])
+        level.advance()
 
 - `Scene` runs the program `scene shell`: each call is a line, and waits for its answer (docs/SHELL.md). With a store
   each change is kept in a file before the call returns, and the next scene on the file goes on there.
@@ -18,13 +22,13 @@ package is installed.
 A `spawn` gives an entity, and in a frame a `Spawned`, which stands for the one that is to come.
 
 Values are True for a Tag, int, three ints, str, and an entity for a Link; numbers may be given as a line writes them. A
-text has any characters. Over the shell `Scene.request` says what a line can't, as a resource whose text has a space.
+text has any characters. `request` says what has no call of its own, as `despawnifalive`.
 
 What goes wrong is a `SceneError`. `Refused` and `BadLine`, a ValueError, leave the scene as it was, and so does the
 TypeError of a value whose type its kind doesn't take. `KindsDiffer` tells of a store with other kinds, `Closed`, a
 ValueError, of a call that comes too late. `Ended` and `StoreError` end the scene; a store has all that was answered.
-`NoMemory`, a MemoryError, with `Lost` and `Untold`, and `OtherVersion` are the library's. What else the program says on
-standard error goes to the log `scene`.
+`NoMemory`, a MemoryError, with `Lost` and `Untold`, `OtherThread` and `OtherVersion` are the library's. What else the
+program says on standard error goes to the log `scene`.
 """
 from __future__ import annotations
 
@@ -33,30 +37,39 @@ from pathlib import Path
 from typing import Mapping, Optional, Sequence, Union
 
 from scene.calls import Calls
-from scene.errors import BadLine, Closed, Ended, KindsDiffer, Lost, NoMemory, OtherVersion, Refused, SceneError
-from scene.errors import StoreError, Untold
+from scene.errors import BadLine, Closed, Ended, KindsDiffer, Lost, NoMemory, OtherThread, OtherVersion, Refused
+from scene.errors import SceneError, StoreError, Untold
 from scene.shell import Scene
-from scene.values import Cell, Entity, Given, Row, Spawned, Value
+from scene.systems import AddInt, AddVec, CountInto, DespawnAtZero, SpawnChild, Step
+from scene.values import Cell, Entity, Given, Row, Spawned, Status, Value
 from scene.version import __version__
 
 __license__ = "MIT"
 __all__ = [
+    "AddInt",
+    "AddVec",
     "BadLine",
     "Calls",
     "Cell",
     "Closed",
+    "CountInto",
+    "DespawnAtZero",
     "Ended",
     "Entity",
     "Given",
     "KindsDiffer",
     "Lost",
     "NoMemory",
+    "OtherThread",
     "OtherVersion",
     "Refused",
     "Row",
     "Scene",
     "SceneError",
+    "SpawnChild",
     "Spawned",
+    "Status",
+    "Step",
     "StoreError",
     "Untold",
     "Value",

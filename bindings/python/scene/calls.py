@@ -5,65 +5,54 @@ import reprlib
 from abc import ABC, abstractmethod
 from contextlib import contextmanager
 from types import TracebackType
-from typing import Dict, Iterator, List, Mapping, Optional, Tuple, Type, TypeVar, Union, overload
+from typing import Any, Dict, Iterator, List, Mapping, Optional, Sequence, Tuple, Type, TypeVar, Union, overload
 
 from scene.errors import BadLine, KindsDiffer, Refused, SceneError
-from scene.values import SHAPES, Entity, Given, Named, Row, Spawned, Spawns, Value, entity_named, fitting, kind_named
-from scene.values import row_of, shape_named, target_named
+from scene.systems import Step, step_asked
+from scene.values import SHAPES, Cell, Entity, Given, Named, Row, Spawned, Spawns, Status, Value, fitting, kind_named
+from scene.values import resource_value, shape_named, target_named, text_named
 
 Own = TypeVar("Own", bound="Calls")
-
-# An entity that is never alive: a command about it is refused.
-NOBODY = "4294967295v4294967295"
 
 
 class Calls(ABC):
     """What a scene can do. A command is a frame by itself, or goes into the open one. `with` closes the scene.
 
     Each call can raise `Refused`, where the rules of docs/MODEL.md refuse it; `BadLine`, where it is out of place or
-    names no kind; TypeError, where a value is of a type that can't be; `Closed`; `NoMemory` over the library, and
-    `Ended` over the shell. But for the last two the scene is then as it was.
+    names no kind; TypeError, where a value is of a type that can't be; `Closed`; `NoMemory` and `OtherThread` over the
+    library, and `Ended` over the shell. But for `NoMemory` and `Ended` the scene is then as it was.
 
-    An entity may be given as the text of one, as what a `spawn` in a frame gave, and, in an open frame, as `+K`: the K-th
-    that it spawns, from 0.
+    An entity may be given as the text of one, as what a `spawn` in a frame gave, and, in an open frame, as `+K`: the
+    K-th that it spawns, from 0.
+
+    What only reads is out of place in an open frame, and ends the setup. Over the shell `row`, `rows`, `parent_of`,
+    `children_of`, `roots` and the resources ask for the whole world, and `status` for all of a `save`; over the library
+    each costs what it gives.
     """
 
     # What the open frame of a `with` spawns.
     _spawns: Optional[Spawns] = None
 
+    # ---- lines and requests
+
     @abstractmethod
     def line(self, text: str) -> List[str]:
         """Plays a line of a script (docs/SCRIPTS.md), given without its break, and gives the lines of its answer.
 
-        So what has no call of its own can be had: systems, resources, queries.
+        So what has no call of its own can be had, as sessions.
+        """
+
+    @abstractmethod
+    def request(self, do: str, **keys: Any) -> Dict[str, Any]:
+        """Plays a request (docs/SHELL.md, "Requests"), and gives its answer, as `request("get", entity="0v1")`.
+
+        `do` is the first word of the line that it stands for. Its texts have any characters. A bad request is a
+        `BadLine`, with the path of the part that is bad; a value that JSON doesn't have, a TypeError.
         """
 
     @abstractmethod
     def close(self) -> None:
         """Ends the scene. Once more is fine; any other call is `Closed` then."""
-
-    @abstractmethod
-    def shape_of(self, kind: str) -> Optional[str]:
-        """The shape of a kind; None where no kind has the name."""
-
-    @abstractmethod
-    def spawn(self, /, **cells: Given) -> Union[Entity, Spawned, None]:
-        """Spawns an entity with components, given by the names of their kinds, as `spawn(Health=9)`.
-
-        In the `with` of a `frame` it gives a `Spawned`, which later commands take for the entity; in a frame that a line
-        began, None.
-        """
-
-    @abstractmethod
-    def insert(self, entity: Named, /, **cells: Given) -> None:
-        """Gives an entity components, or other values to those that it has, as `insert(cat, Health=5)`.
-
-        Each is a frame of its own where none is open. All values are read before the first one is given.
-        """
-
-    @abstractmethod
-    def load(self, text: str) -> None:
-        """Loads the text of a `save`, or of a world alone, in the setup. The kinds are then those of the text."""
 
     def __enter__(self: Own) -> Own:
         return self
@@ -87,10 +76,18 @@ class Calls(ABC):
         """The entity that the frame of a `with` spawns by its newest command."""
         return None if self._spawns is None or self._spawns.is_over else self._spawns.newest()
 
-    def _made(self, text: str) -> List[Entity]:
-        """The entities that a frame spawned; none where the command only joined an open frame."""
-        word, *entities = self.line(text)[0].split(" ")
-        return [Entity(entity) for entity in entities] if word == "done" else []
+    # ---- kinds
+
+    @abstractmethod
+    def shape_of(self, kind: str) -> Optional[str]:
+        """The shape of a kind; None where no kind has the name."""
+
+    def declare(self, name: str, shape: str) -> None:
+        """Declares a kind by its name and its shape, Tag, Int, Vec3, Text or Link.
+
+        That goes in the setup alone, which the first call of any other kind ends.
+        """
+        self.line(f"kind {kind_named(name)} {shape_named(name, shape)}")
 
     def _declare_all(self, kinds: Optional[Mapping[str, str]]) -> None:
         """Declares those of the kinds that aren't there. All are looked at before the first one is declared."""
@@ -126,29 +123,48 @@ class Calls(ABC):
             raise BadLine(f"no kind is named {kind}")
         return shape
 
+    def _known(self, kind: str) -> str:
+        """The name of a kind that has to be there."""
+        self._known_shape(kind)
+        return kind
+
+    def _all_known(self, kinds: Sequence[str]) -> List[str]:
+        """The names of kinds that have to be there; a text alone is one name."""
+        return [self._known(kind) for kind in ((kinds,) if isinstance(kinds, str) else kinds)]
+
     def _fitting(self, cells: Mapping[str, Given]) -> Dict[str, Value]:
         """The values of cells. All are read before one is given, so that none is left where one is bad."""
         return {name: fitting(name, *SHAPES[self._known_shape(name)], value) for name, value in cells.items()}
 
-    def declare(self, name: str, shape: str) -> None:
-        """Declares a kind by its name and its shape, Tag, Int, Vec3, Text or Link.
+    # ---- commands
 
-        That goes in the setup alone, which the first call of any other kind ends.
+    @abstractmethod
+    def spawn(self, /, **cells: Given) -> Union[Entity, Spawned, None]:
+        """Spawns an entity with components, given by the names of their kinds, as `spawn(Health=9)`.
+
+        In the `with` of a `frame` it gives a `Spawned`, which later commands take for the entity; in a frame that a
+        line began, None.
         """
-        self.line(f"kind {kind_named(name)} {shape_named(name, shape)}")
+
+    @abstractmethod
+    def insert(self, entity: Named, /, **cells: Given) -> None:
+        """Gives an entity components, or other values to those that it has, as `insert(cat, Health=5)`.
+
+        Each is a frame of its own where none is open. All values are read before the first one is given.
+        """
 
     def remove(self, entity: Named, kind: str) -> None:
         """Takes the component of a kind from an entity. Where it has none, that is refused."""
-        self._known_shape(kind)
-        self._made(f"remove {target_named(entity)} {kind}")
+        self._known(kind)
+        self.request("remove", entity=target_named(entity), kind=kind)
 
     def despawn(self, entity: Named) -> None:
         """Despawns an entity. One with children is refused."""
-        self._made(f"despawn {target_named(entity)}")
+        self.request("despawn", entity=target_named(entity))
 
     def despawn_all(self, entity: Named) -> None:
         """Despawns an entity and all below it."""
-        self._made(f"despawnall {target_named(entity)}")
+        self.request("despawnall", entity=target_named(entity))
 
     def set_parent(self, child: Named, parent: Optional[Named]) -> None:
         """Makes an entity the last child of another; with None, takes it from its parent.
@@ -156,67 +172,29 @@ class Calls(ABC):
         An entity below itself is refused.
         """
         below = target_named(child)
-        self._made(f"unparent {below}" if parent is None else f"parent {below} {target_named(parent)}")
+        if parent is None:
+            self.request("unparent", child=below)
+        else:
+            self.request("parent", child=below, parent=target_named(parent))
 
     def parent(self, child: Named, parent: Optional[Named]) -> None:
         """The same as `set_parent`."""
         self.set_parent(child, parent)
 
-    def undo(self) -> None:
-        """Takes the newest frame back. Refused, where none is left."""
-        self.line("undo")
+    def put(self, name: str, value: Given, shape: Optional[str] = None) -> None:
+        """Puts a resource, as `put("title", "Level 1")`, in place of the one of that name, if there is one.
 
-    def redo(self) -> None:
-        """Does the last frame that was taken back again. Refused, where none is left, as behind a new frame."""
-        self.line("redo")
-
-    @overload
-    def get(self, entity: Named) -> str: ...
-
-    @overload
-    def get(self, entity: Named, kind: str) -> Value: ...
-
-    def get(self, entity: Named, kind: Optional[str] = None) -> Value:
-        """The value of a component; without a kind, the row of an entity as a line writes it.
-
-        Refused, where the entity isn't alive, or has no component of the kind.
+        Its shape is that of the value: an `Entity`, or what a `spawn` in a frame gave, is a Link, and another text a
+        Text. A name that isn't good is refused.
         """
-        row = self.line(f"get {entity_named(entity)}")[0]
-        if kind is None:
-            return row
-        cells = row_of(row).cells
-        if kind not in cells:
-            self._known_shape(kind)
-            raise Refused("refused 3 NotPresent")
-        return cells[kind].value
+        asked, read = resource_value(name, value, shape)
+        self.request("put", name=name, shape=asked, value=read)
 
-    def row(self, entity: Named) -> Row:
-        """The row of an entity: its components by the names of their kinds, each with its ticks."""
-        return row_of(self.get(entity))
+    def drop(self, name: str) -> None:
+        """Takes a resource away. Where none has the name, that is refused."""
+        self.request("drop", name=text_named("the name of a resource", name))
 
-    def rows(self) -> List[Row]:
-        """The rows of all entities, by table and then by place."""
-        return [row_of(line) for line in self.line("show") if line.startswith("row ")]
-
-    def show(self) -> str:
-        """The text of the world: all that the line `show` answers."""
-        return "\n".join(self.line("show"))
-
-    def mark(self) -> None:
-        """Notes this moment, from which `changed` looks."""
-        self.line("mark")
-
-    def changed(self) -> List[Tuple[Entity, str]]:
-        """The components that were changed since the mark, or the beginning, by their entity and their kind's name.
-
-        Refused as Rewound, where a frame was taken back since then: all has to be looked at again.
-        """
-        cells = (line.split(" ") for line in self.line("changed")[1:])
-        return [(Entity(entity), kind) for entity, kind in cells]
-
-    def save(self) -> str:
-        """The scene, with all that can be undone and redone, as a text of one line."""
-        return self.line("dumpall")[0]
+    # ---- frames
 
     @contextmanager
     def frame(self) -> Iterator[List[Entity]]:
@@ -226,7 +204,7 @@ class Calls(ABC):
         `with` leaves the scene as it was. Where a command is refused, so is the frame, at its end, and nothing of it is
         done.
         """
-        self.line("begin")
+        self._begin()
         spawns = self._spawns = Spawns()
         made: List[Entity] = []
         try:
@@ -240,20 +218,148 @@ class Calls(ABC):
             self._spawns = None
             spawns.end(made)
 
+    @abstractmethod
+    def _begin(self) -> None:
+        """Opens a frame."""
+
+    @abstractmethod
     def _committed(self) -> List[Entity]:
         """Ends the open frame by doing it, and gives what it spawned."""
-        try:
-            return self._made("commit")
-        except MemoryError:
-            # But for this, the frame is over whatever the answer is.
-            self._drop_frame()
-            raise
 
+    @abstractmethod
     def _drop_frame(self) -> None:
-        """Ends the open frame without doing it. No line drops one, so it gets a command that is always refused."""
-        try:
-            self.line(f"despawn {NOBODY}")
-            self.line("commit")
-        except (SceneError, ValueError, MemoryError):
-            # It is gone: refused, or with the shell, or the `with` has committed it by a line.
-            pass
+        """Ends the open frame, if one is open, without doing it."""
+
+    def undo(self, count: int = 1) -> None:
+        """Takes the newest frames back, so many. Refused, where there are fewer, and none is taken back.
+
+        Where a limit of calls is reached on the way, that is refused, and those before are taken back.
+        """
+        self._steps("undo", count)
+
+    def redo(self, count: int = 1) -> None:
+        """Does the last frames that were taken back again. Refused, where there are fewer, as behind a new frame."""
+        self._steps("redo", count)
+
+    @abstractmethod
+    def _steps(self, do: str, count: int) -> None:
+        """Goes so many frames back, or forth again."""
+
+    # ---- reading
+
+    @overload
+    def get(self, entity: Named) -> str: ...
+
+    @overload
+    def get(self, entity: Named, kind: str) -> Value: ...
+
+    @abstractmethod
+    def get(self, entity: Named, kind: Optional[str] = None) -> Value:
+        """The value of a component; without a kind, the row of an entity as a line writes it.
+
+        Refused, where the entity isn't alive, or has no component of the kind.
+        """
+
+    @abstractmethod
+    def cells(self, entity: Named) -> Dict[str, Cell]:
+        """The components of an entity by the names of their kinds, each with its ticks. Refused as `get` is."""
+
+    @abstractmethod
+    def row(self, entity: Named) -> Row:
+        """The row of an entity: its components, its parent and its children. Refused, where it isn't alive."""
+
+    @abstractmethod
+    def rows(self) -> List[Row]:
+        """The rows of all entities, by table and then by place."""
+
+    @abstractmethod
+    def is_alive(self, entity: Named) -> bool:
+        """Whether an entity is alive."""
+
+    @abstractmethod
+    def parent_of(self, entity: Named) -> Optional[Entity]:
+        """The parent of an entity; None where it has none, as where it isn't alive."""
+
+    @abstractmethod
+    def children_of(self, entity: Named) -> List[Entity]:
+        """The children of an entity, in their order; none where it isn't alive."""
+
+    @abstractmethod
+    def roots(self) -> List[Entity]:
+        """The entities that have no parent, by their index."""
+
+    @abstractmethod
+    def resources(self) -> Dict[str, Cell]:
+        """The resources by their names, in the order of the names' bytes, each with its ticks."""
+
+    @abstractmethod
+    def resource(self, name: str) -> Value:
+        """The value of a resource. Refused as NoSuchResource, where none has the name."""
+
+    @abstractmethod
+    def status(self) -> Status:
+        """The numbers of the scene."""
+
+    def show(self) -> str:
+        """The text of the world: all that the line `show` answers."""
+        return "\n".join(self.line("show"))
+
+    # ---- following
+
+    def mark(self) -> None:
+        """Notes this moment, from which `changed` and `added` look."""
+        self.request("mark")
+
+    def changed(self) -> List[Tuple[Entity, str]]:
+        """The components that were changed since the mark, or the beginning, by their entity and their kind's name.
+
+        Those that were added are among them. Refused as Rewound, where a frame was taken back since then: all has to be
+        looked at again.
+        """
+        return self._cells_named("changed")
+
+    def added(self) -> List[Tuple[Entity, str]]:
+        """The components that were added since the mark, or the beginning. Refused as `changed` is."""
+        return self._cells_named("added")
+
+    def _cells_named(self, do: str) -> List[Tuple[Entity, str]]:
+        """The components that an answer lists."""
+        return [(Entity(cell["entity"]), cell["kind"]) for cell in self.request(do)["cells"]]
+
+    # ---- systems
+
+    def add_phase(self) -> None:
+        """Adds a phase, empty as yet, behind the others."""
+        self.request("phase")
+
+    def add_system(self, name: str, *steps: Step, need: Sequence[str] = (), without: Sequence[str] = ()) -> None:
+        """Adds a system to the last phase, and makes one where there is none.
+
+        Its steps are done to each entity that has all kinds of `need` and none of `without`, as
+        `add_system("age", AddInt("Health", -1), need=["Health"])`. What breaks a rule, `advance` refuses.
+        """
+        asked = [step_asked(step, self._known, self._fitting) for step in steps]
+        text_named("the name of a system", name)
+        needed, barred = self._all_known(need), self._all_known(without)
+        self.request("system", name=name, need=needed, without=barred, steps=asked)
+
+    def clear_systems(self) -> None:
+        """Drops all phases, with their systems."""
+        self.request("clear")
+
+    def advance(self) -> List[Entity]:
+        """Lets the systems of all phases do their work, as one frame, and gives the entities that it spawned.
+
+        Refused as BadRule or Conflict, where they can't stand together, and as Overflow, where a sum is no Int.
+        """
+        return [Entity(entity) for entity in self.request("advance")["entities"]]
+
+    # ---- texts
+
+    def save(self) -> str:
+        """The scene, with all that can be undone and redone, as a text of one line."""
+        return self.line("dumpall")[0]
+
+    @abstractmethod
+    def load(self, text: str) -> None:
+        """Loads the text of a `save`, or of a world alone, in the setup. The kinds are then those of the text."""

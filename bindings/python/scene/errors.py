@@ -74,6 +74,10 @@ class Closed(SceneError, ValueError):
     """A call of a scene that is closed."""
 
 
+class OtherThread(SceneError, RuntimeError):
+    """A scene of the library is called from another thread than its own. Nothing was called, and all is as it was."""
+
+
 class NoMemory(SceneError, MemoryError):
     """Memory was wanting, and the call wasn't done. Where it would have ended the setup, the setup may be over."""
 

@@ -2,22 +2,19 @@
 from __future__ import annotations
 
 import json
-import logging
 import os
-import re
-import select
-import subprocess
 from contextlib import suppress
 from pathlib import Path
-from typing import IO, Any, Dict, List, Mapping, Optional, Sequence, Set, Union
+from typing import Any, Dict, List, Mapping, Optional, Sequence, Union, overload
 
 from scene.calls import Calls
-from scene.errors import BadLine, Closed, Ended, Refused, SceneError, ended, told_in_json
-from scene.values import KIND, Entity, Given, Named, Spawned, kind_named, target_named
+from scene.errors import BadLine, Refused, SceneError, told_in_json
+from scene.program import Program
+from scene.values import KIND, Cell, Entity, Given, Named, Row, Spawned, Status, Value, count_named, entity_named
+from scene.values import kind_named, target_named, text_named
 
-# For how many milliseconds an answer is awaited before what the program says beside it is passed on.
-PATIENCE = 1000
-REASON = re.compile(r"scene: line \d+: (.*)")
+# An entity that is never alive: a command about it is refused.
+NOBODY = "4294967295v4294967295"
 # In which words a line is bad whose value is `?` for a kind of each shape.
 BAD_VALUES = {
     "Tag": "is a Tag, and so has no =",
@@ -26,129 +23,41 @@ BAD_VALUES = {
     "Text": "`?` is no part of the text before it",
     "Link": "`?` is no entity",
 }
-LOG = logging.getLogger("scene")
-
-
-class Program:
-    """A program that answers line by line. What it says on standard error is heard too, so that errors can tell it."""
-
-    def __init__(self, words: Sequence[str]) -> None:
-        pipe = subprocess.PIPE
-        self._process = subprocess.Popen(words, stdin=pipe, stdout=pipe, stderr=pipe)
-        assert self._process.stdin and self._process.stdout and self._process.stderr
-        self._to: IO[bytes] = self._process.stdin
-        self._answers, self._errors = self._process.stdout.fileno(), self._process.stderr.fileno()
-        # What was heard from either, and wasn't used; and from where nothing more comes.
-        self._heard = {self._answers: bytearray(), self._errors: bytearray()}
-        self._silent: Set[int] = set()
-        self._poll = select.poll()
-        for place in self._heard:
-            self._poll.register(place, select.POLLIN)
-        self._reason = ""
-        self._is_closed = False
-        self._end: Optional[Ended] = None
-
-    def ask(self, line: bytes) -> List[str]:
-        """The lines of the answer to a line, which is given with its line break."""
-        if self._is_closed:
-            raise Closed("the scene is closed")
-        if self._end:
-            raise ended(str(self._end), self._end.status)
-        self._reason = ""
-        try:
-            self._to.write(line)
-            self._to.flush()
-            answer = self._answer()
-        except (BrokenPipeError, EOFError):
-            self._end = self._ended()
-            raise self._end from None
-        except BaseException:
-            # Else the next line would get this one's answer.
-            self._process.kill()
-            raise
-        self._pass_on()
-        if answer == ["bad line"]:
-            raise BadLine(self._reason or line.decode().strip())
-        return answer
-
-    def _answer(self) -> List[str]:
-        """The lines of the next answer, behind which an empty one stands."""
-        heard = self._heard[self._answers]
-        while heard != b"\n" and not heard.endswith(b"\n\n"):
-            if self._answers in self._silent:
-                raise EOFError
-            if not self._hear(PATIENCE):
-                self._pass_on()
-        # Why a line is bad is said before its answer.
-        while self._hear(0):
-            pass
-        answer = heard.decode().split("\n")[:-2]
-        heard.clear()
-        return answer
-
-    def _hear(self, patience: int) -> bool:
-        """Takes what the program says within so many milliseconds. Whether it said anything."""
-        told = self._poll.poll(patience)
-        for place, _ in told:
-            said = os.read(place, 1 << 16)
-            self._heard[place] += said
-            if not said:
-                self._silent.add(place)
-                self._poll.unregister(place)
-        return bool(told)
-
-    def _errors_heard(self) -> List[str]:
-        """The lines of standard error that weren't used, each whole: the last one comes when its end is there."""
-        heard = self._heard[self._errors]
-        end = len(heard) if self._errors in self._silent else heard.rfind(b"\n") + 1
-        lines = heard[:end].decode(errors="replace").rstrip("\n").split("\n")
-        del heard[:end]
-        return [line for line in lines if line]
-
-    def _pass_on(self) -> None:
-        """Gives the log what was said on standard error, but for why a line is bad."""
-        for line in self._errors_heard():
-            reason = REASON.fullmatch(line)
-            if reason:
-                self._reason = reason[1]
-            else:
-                LOG.warning("%s", line)
-
-    def _stop(self) -> int:
-        """Lets the program end, and gives its status."""
-        try:
-            self._to.close()
-        except BrokenPipeError:
-            pass
-        status = self._process.wait()
-        while self._hear(0):
-            pass
-        return status
-
-    def _ended(self) -> Ended:
-        """Why the program has ended."""
-        status = self._stop()
-        how = f"by signal {-status}" if status < 0 else f"with status {status}"
-        words = "; ".join(line.removeprefix("scene: ") for line in self._errors_heard())
-        return ended(words or f"the program has ended {how}", status)
-
-    def close(self) -> None:
-        """Ends the program. Where it ended otherwise, and no call has told why, this does."""
-        if self._is_closed:
-            return
-        self._is_closed = True
-        error = None if self._stop() in (0, 1) or self._end else self._ended()
-        assert self._process.stdout and self._process.stderr
-        self._process.stdout.close()
-        self._process.stderr.close()
-        if error:
-            raise error
-        self._pass_on()
+TOO_FEW = {"undo": "refused 15 NothingToUndo", "redo": "refused 16 NothingToRedo"}
 
 
 def program_named(program: Union[str, Path, None]) -> str:
     """The program of the shell: the one given, or that of SCENE_PROGRAM, or else `scene` on the path."""
     return str(program if program is not None else os.environ.get("SCENE_PROGRAM") or "scene")
+
+
+def value_in(shape: Optional[str], value: Any) -> Value:
+    """A value of an answer in JSON, by its shape."""
+    if isinstance(value, list):
+        return (value[0], value[1], value[2])
+    known: Value = Entity(value) if shape == "Link" else value
+    return known
+
+
+class World:
+    """What an answer to `show` tells beside the rows: the tree of the entities."""
+
+    def __init__(self, answer: Mapping[str, Any]) -> None:
+        self.tables: List[Dict[str, Any]] = answer["tables"]
+        self.resources: Dict[str, List[Any]] = answer["resources"]
+        self.children: Dict[str, List[Entity]] = {
+            parent: [Entity(child) for child in children] for parent, children in answer["children"].items()
+        }
+        self.parents = {child: Entity(parent) for parent, children in self.children.items() for child in children}
+
+    def roots(self) -> List[Entity]:
+        """The entities without a parent, by their index."""
+        named = (Entity(row["entity"]) for table in self.tables for row in table["rows"])
+        return sorted((entity for entity in named if entity not in self.parents), key=lambda entity: entity.index)
+
+    def row(self, entity: Entity, cells: Dict[str, Cell]) -> Row:
+        """The row of an entity, whose components are given."""
+        return Row(entity, cells, self.parents.get(entity), tuple(self.children.get(entity, ())))
 
 
 class Scene(Calls):
@@ -157,6 +66,9 @@ class Scene(Calls):
     The arguments are those of `scene.open`. A program that isn't there is the OSError that says so, as
     FileNotFoundError; one that ends at once, an `Ended`; a store that can't be opened, a `StoreError`; other kinds than
     the store's, `KindsDiffer`.
+
+    It has no columns, no moments as values, no deltas of frames, and no frame that is dropped without a call: those are
+    `LibraryScene`'s own.
     """
 
     def __init__(
@@ -170,6 +82,8 @@ class Scene(Calls):
         self._program = Program([program_named(program), "shell", "--framed", *options, *kept])
         # The shapes of the kinds that were asked for.
         self._shapes: Dict[str, str] = {}
+        # How many frames were taken back; no request tells that of a store.
+        self._rewinds = 0
         try:
             # The answer to an empty line comes when the store is open, or else the reason why it isn't.
             self.line("")
@@ -182,6 +96,8 @@ class Scene(Calls):
     def close(self) -> None:
         """Ends the shell. An `Ended` or a `StoreError` tells why it ended otherwise, if no call has told it."""
         self._program.close()
+
+    # ---- lines and requests
 
     def line(self, text: str) -> List[str]:
         if "\n" in text:
@@ -197,11 +113,6 @@ class Scene(Calls):
         return answer
 
     def request(self, do: str, **keys: Any) -> Dict[str, Any]:
-        """Plays a request (docs/SHELL.md, "Requests"), and gives its answer, as `request("get", entity="0v1")`.
-
-        `do` is the first word of the line that it stands for. Its texts have any characters. A bad request is a
-        `BadLine`, with the path of the part that is bad; a value that JSON doesn't have, a TypeError.
-        """
         sent = json.dumps({"do": do, **keys}, separators=(",", ":"))
         answer: Dict[str, Any] = json.loads(self._program.ask(f"{sent}\n".encode())[0])
         error = told_in_json(answer)
@@ -214,6 +125,8 @@ class Scene(Calls):
         """Keeps what this side has to know of a line or a request that was answered, by its first word."""
         if word == "load":
             self._shapes.clear()
+        elif word == "undo":
+            self._rewinds += 1
         self._noted(word)
 
     def shape_of(self, kind: str) -> Optional[str]:
@@ -229,6 +142,8 @@ class Scene(Calls):
                     raise
         return self._shapes.get(kind)
 
+    # ---- commands and frames
+
     def spawn(self, /, **cells: Given) -> Union[Entity, Spawned, None]:
         answer = self.request("spawn", cells=self._fitting(cells))
         return Entity(answer["entities"][0]) if answer["answer"] == "done" else self._spawned()
@@ -237,6 +152,99 @@ class Scene(Calls):
         named = target_named(entity)
         for kind, value in self._fitting(cells).items():
             self.request("insert", entity=named, kind=kind, value=value)
+
+    def _begin(self) -> None:
+        self.request("begin")
+
+    def _committed(self) -> List[Entity]:
+        return [Entity(entity) for entity in self.request("commit")["entities"]]
+
+    def _drop_frame(self) -> None:
+        # No line drops a frame, so it gets a command that is always refused. It is gone already where the shell is, or
+        # where a line has committed it.
+        with suppress(SceneError, ValueError):
+            self.line(f"despawn {NOBODY}")
+            self.line("commit")
+
+    def _steps(self, do: str, count: int) -> None:
+        # All or none: so it is asked first whether there are so many.
+        if count_named(count) != 1 and getattr(self.status(), do) < count:
+            raise Refused(TOO_FEW[do])
+        for _ in range(count):
+            self.request(do)
+
+    # ---- reading
+
+    @overload
+    def get(self, entity: Named) -> str: ...
+
+    @overload
+    def get(self, entity: Named, kind: str) -> Value: ...
+
+    def get(self, entity: Named, kind: Optional[str] = None) -> Value:
+        named = entity_named(entity)
+        if kind is None:
+            return self.line(f"get {named}")[0]
+        shape = self._known_shape(kind)
+        cells = self.request("get", entity=named)["cells"]
+        if kind not in cells:
+            raise Refused("refused 3 NotPresent")
+        return value_in(shape, cells[kind][0])
+
+    def cells(self, entity: Named) -> Dict[str, Cell]:
+        return self._cells(self.request("get", entity=entity_named(entity))["cells"])
+
+    def _cells(self, told: Mapping[str, List[Any]]) -> Dict[str, Cell]:
+        """The components that an answer tells."""
+        return {name: Cell(value_in(self.shape_of(name), value), *ticks) for name, (value, *ticks) in told.items()}
+
+    def _world(self) -> World:
+        return World(self.request("show"))
+
+    def row(self, entity: Named) -> Row:
+        cells = self.cells(entity)
+        return self._world().row(entity_named(entity), cells)
+
+    def rows(self) -> List[Row]:
+        world = self._world()
+        told = (row for table in world.tables for row in table["rows"])
+        return [world.row(Entity(row["entity"]), self._cells(row["cells"])) for row in told]
+
+    def is_alive(self, entity: Named) -> bool:
+        try:
+            self.request("get", entity=entity_named(entity))
+        except Refused:
+            return False
+        return True
+
+    def parent_of(self, entity: Named) -> Optional[Entity]:
+        named = entity_named(entity)
+        return self._world().parents.get(named)
+
+    def children_of(self, entity: Named) -> List[Entity]:
+        named = entity_named(entity)
+        return self._world().children.get(named, [])
+
+    def roots(self) -> List[Entity]:
+        return self._world().roots()
+
+    def resources(self) -> Dict[str, Cell]:
+        told = self._world().resources
+        return {name: Cell(value_in(shape, value), *ticks) for name, (shape, value, *ticks) in told.items()}
+
+    def resource(self, name: str) -> Value:
+        text_named("the name of a resource", name)
+        found = self.resources().get(name)
+        if found is None:
+            raise Refused("refused 10 NoSuchResource")
+        return found.value
+
+    def status(self) -> Status:
+        text = self.request("dumpall")["text"]
+        counts = (len(text[part]) for part in ("undo", "redo", "generations"))
+        return Status(text["tick"], self._rewinds, *counts, text["limit"], len(text["kinds"]))
+
+    # ---- texts
 
     def load(self, text: str) -> None:
         # A line break is white space of JSON, as a tab is, and neither can stand within a string.

@@ -1,10 +1,10 @@
-"""What a scene holds, entities, values and rows, and how they are read from what a caller gives or a line answers."""
+"""What a scene holds, entities, values and rows, and how they are read from what a caller gives."""
 from __future__ import annotations
 
-import json
 import operator
 import re
 import reprlib
+from collections import abc
 from typing import Callable, Dict, List, NamedTuple, Optional, Sequence, Tuple, TypeVar, Union
 
 from scene.errors import BadLine
@@ -96,7 +96,7 @@ Named = Union[str, Spawned]
 
 
 class Cell(NamedTuple):
-    """A component of a row: its value, and the ticks at which it was added and last written."""
+    """A component of a row, or a resource: its value, and the ticks at which it was added and last written."""
 
     value: Value
     added: int
@@ -104,44 +104,35 @@ class Cell(NamedTuple):
 
 
 class Row(NamedTuple):
-    """An entity with its components by the names of their kinds."""
+    """An entity with its components by the names of their kinds, its parent, if any, and its children in order."""
 
     entity: Entity
     cells: Dict[str, Cell]
+    parent: Optional[Entity] = None
+    children: Tuple[Entity, ...] = ()
 
     def values(self) -> Dict[str, Value]:
         """The values alone."""
         return {name: cell.value for name, cell in self.cells.items()}
 
 
-CELL = re.compile(r' (\w+)(?:=("(?:[^"\\]|\\.)*"|[^ "@]+))?@(\d+)/(\d+)', re.ASCII)
+class Status(NamedTuple):
+    """The numbers of a scene."""
 
-
-def value_of(text: Optional[str]) -> Value:
-    """The value that an answer writes; each shape has its own form."""
-    if text is None:
-        return True
-    if text.startswith('"'):
-        return str(json.loads(text))
-    if "v" in text:
-        return Entity(text)
-    numbers = [int(number) for number in text.split(",")]
-    return (numbers[0], numbers[1], numbers[2]) if len(numbers) == 3 else numbers[0]
-
-
-def row_of(line: str) -> Row:
-    """The row that a line of an answer is."""
-    entity = line.split(" ")[1]
-    at = len("row ") + len(entity)
-    cells = {}
-    while at < len(line):
-        found = CELL.match(line, at)
-        if found is None:
-            raise ValueError(f"no row: {line}")
-        name, text, added, changed = found.groups()
-        cells[name] = Cell(value_of(text), int(added), int(changed))
-        at = found.end()
-    return Row(Entity(entity), cells)
+    tick: int
+    """How many frames there were, as the last one's number."""
+    rewinds: int
+    """How many frames were taken back; over the shell, since it was opened. With the tick it tells what was done."""
+    undo: int
+    """How many frames can be undone."""
+    redo: int
+    """How many frames can be redone."""
+    slots: int
+    """How many indices were used."""
+    limit: int
+    """How many indices can be used."""
+    kinds: int
+    """How many kinds there are."""
 
 
 WHOLE = re.compile(r"0|-?[1-9][0-9]{0,18}")
@@ -174,7 +165,7 @@ def read_whole(value: object) -> int:
 def read_vector(value: object) -> Tuple[int, int, int]:
     """Three whole numbers."""
     parts = value.split(",") if isinstance(value, str) else value
-    if not isinstance(parts, Sequence) or isinstance(parts, (bytes, bytearray)):
+    if not isinstance(parts, abc.Sequence) or isinstance(parts, (bytes, bytearray)):
         raise TypeError
     x, y, z = map(read_whole, parts)
     return x, y, z
@@ -236,6 +227,43 @@ def fitting(what: str, read: Callable[[object], Read], form: str, value: object)
         raise (TypeError if isinstance(error, TypeError) else BadLine)(told) from None
 
 
+def shape_of_value(what: str, value: object) -> str:
+    """The shape of a value for which no kind asks. A text is a Text: a Link is an `Entity`, or what a frame spawns."""
+    if value is True:
+        return "Tag"
+    if isinstance(value, (Entity, Spawned)):
+        return "Link"
+    if isinstance(value, str):
+        return "Text"
+    if isinstance(value, int) and not isinstance(value, bool):
+        return "Int"
+    if isinstance(value, abc.Sequence) and not isinstance(value, (bytes, bytearray)):
+        return "Vec3"
+    raise TypeError(f"{what} is True, a number, three of them, a text or an entity, and {reprlib.repr(value)} isn't")
+
+
+def resource_value(name: object, value: object, shape: Optional[str]) -> Tuple[str, Value]:
+    """The shape and the value of a resource that a caller gives, whose shape is told by the value where it is None."""
+    what = f"the resource {text_named('the name of a resource', name)}"
+    asked = shape_of_value(what, value) if shape is None else shape_named(what, shape)
+    return asked, fitting(what, *SHAPES[asked], value)
+
+
+def read_count(value: object) -> int:
+    """How many frames."""
+    if isinstance(value, bool):
+        raise TypeError
+    number = operator.index(value)  # type: ignore[arg-type]
+    if number < 0:
+        raise ValueError
+    return number
+
+
+def count_named(value: object) -> int:
+    """The count of frames that a caller gives."""
+    return fitting("the count of frames", read_count, "a whole number from 0", value)
+
+
 def entity_named(value: object) -> Entity:
     """The entity that a caller gives."""
     return fitting("an entity", read_entity, "its text, as 0v1", value)
@@ -246,11 +274,16 @@ def target_named(value: object) -> str:
     return fitting("an entity", read_target, "its text, as 0v1, or +0 in a frame", value)
 
 
+def text_named(what: str, name: object) -> str:
+    """A name that a caller gives."""
+    if not isinstance(name, str):
+        raise TypeError(f"{what} is a text, and {reprlib.repr(name)} isn't")
+    return name
+
+
 def kind_named(name: object) -> str:
     """The name of a kind that a caller gives."""
-    if not isinstance(name, str):
-        raise TypeError(f"the name of a kind is a text, and {reprlib.repr(name)} isn't")
-    return name
+    return text_named("the name of a kind", name)
 
 
 def shape_named(name: str, shape: object) -> str:

@@ -1,0 +1,83 @@
+"""Answers to requests over the library, as the shell writes them in JSON (docs/SHELL.md, "JSON")."""
+from __future__ import annotations
+
+import json
+from typing import Any, Dict, List, Mapping
+
+from scene.errors import BadLine
+from scene.reads import Reads, shown
+from scene.values import Cell, Entity, Value
+
+# What a request that is done says by its first word; commands say `done`, or in a frame `queued`.
+SAID = {"undo": "undone", "redo": "redone"}
+SAID.update(dict.fromkeys("kind slots calls depth load begin queue phase clear system as".split(), "ok"))
+BAD_LINE = "bad line\n"
+
+
+def bad_request(text: str) -> BadLine:
+    """Why a request is bad: its reason begins with the path of the part that is bad, unless it is the whole."""
+    bad = BadLine(text)
+    if text.startswith('"'):
+        bad.path = json.JSONDecoder().raw_decode(text)[0]
+    return bad
+
+
+def in_json(value: Value) -> Any:
+    """A value in an answer."""
+    if isinstance(value, tuple):
+        return list(value)
+    return str(value) if isinstance(value, str) else value
+
+
+def cells_in_json(cells: Mapping[str, Cell]) -> Dict[str, List[Any]]:
+    """The components of a row."""
+    return {name: [in_json(cell.value), cell.added, cell.changed] for name, cell in cells.items()}
+
+
+def row_in_json(entity: Entity, cells: Mapping[str, Cell]) -> Dict[str, Any]:
+    """A row."""
+    return {"entity": str(entity), "cells": cells_in_json(cells)}
+
+
+def world_in_json(level: Reads, text: str) -> Dict[str, Any]:
+    """The whole world. The generations and the free list stand in lines of their own, and no call tells them."""
+    _, generations, free = (line.split(" ")[1:] for line in text.split("\n")[:3])
+    rows = {row.entity: row for row in level.rows()}
+    tables = []
+    for mask, _ in level.tables():
+        told = [row_in_json(row.entity, row.cells) for row in map(rows.__getitem__, map(shown, level.entities(mask)))]
+        tables.append({"kinds": level.kinds_of(mask), "rows": told})
+    parents = sorted((row for row in rows.values() if row.children), key=lambda row: row.entity.index)
+    return {
+        "answer": "world",
+        "tick": level.status().tick,
+        "generations": list(map(int, generations)),
+        "free": list(map(int, free)),
+        "tables": tables,
+        "children": {str(row.entity): list(map(str, row.children)) for row in parents},
+        "resources": {
+            name: [shape, in_json(cell.value), cell.added, cell.changed] for name, shape, cell in level.resource_cells()
+        },
+    }
+
+
+def answer_to(level: Reads, do: str, keys: Mapping[str, Any], text: str) -> Dict[str, Any]:
+    """What a request is answered that was done: its last answer is there still, as reads leave that alone."""
+    if do in SAID:
+        return {"answer": SAID[do]}
+    if do in ("changed", "added"):
+        cells = [{"entity": str(entity), "kind": kind} for entity, kind in level.listed_last()]
+        return {"answer": do, "cells": cells}
+    if do == "show":
+        return world_in_json(level, text)
+    if do == "get":
+        return {"answer": "row", **row_in_json(Entity(keys["entity"]), level.cells(keys["entity"]))}
+    if do == "mark":
+        return {"answer": do, **level.now()._asdict()}
+    if do == "history":
+        return {"answer": do, "calls": int(text.split()[1])}
+    if do in ("dump", "dumpall"):
+        return {"answer": "scene", "text": json.loads(text)}
+    if level.in_frame:
+        return {"answer": "queued"}
+    return {"answer": "done", "entities": list(map(str, level.spawned_last()))}

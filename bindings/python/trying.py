@@ -1,0 +1,59 @@
+"""What the tests of the Python scenes share: how an error is asked for, and what is tried on the way."""
+from __future__ import annotations
+
+from pathlib import Path
+from typing import Any, Callable, List, Optional, Tuple, Type, TypeVar
+
+from scene import BadLine, Calls, Entity, Refused, Spawned
+
+TOP = Path(__file__).resolve().parents[2]
+KINDS = {"Name": "Text", "Health": "Int", "At": "Vec3", "Hidden": "Tag", "Target": "Link"}
+# Texts that something on the way could spoil.
+UNUSUAL = ("", '"', "\\", "a=b", "@1/1", "\r", "a\r", "\t\x01\x1f\x7f", "\x85\u2028", "\u65e5\U0001f415", "\0", "+0")
+UNUSUAL += (Entity("7v9"),)
+
+# Makes a scene with KINDS, or with others.
+Begin = Callable[..., Calls]
+Raised = TypeVar("Raised", bound=BaseException)
+
+
+def error_of(kind: Type[Raised], call: Callable[..., Any], /, *words: Any, **cells: Any) -> Raised:
+    """The error of a call, which has to be of this kind."""
+    try:
+        call(*words, **cells)
+    except kind as error:
+        return error
+    raise AssertionError("the call was accepted")
+
+
+def refusal(call: Callable[..., Any], /, *words: Any, **cells: Any) -> Refused:
+    """The refusal of a call, which has to be refused."""
+    return error_of(Refused, call, *words, **cells)
+
+
+def is_bad(call: Callable[..., Any], /, *words: Any, **cells: Any) -> bool:
+    """Whether a call makes no good line."""
+    try:
+        call(*words, **cells)
+    except BadLine:
+        return True
+    return False
+
+
+def told(refused: Refused) -> Tuple[int, str, List[str], Optional[Tuple[int, ...]]]:
+    """All that a refusal tells."""
+    return refused.number, refused.name, refused.fields, refused.place
+
+
+def spawned(world: Calls, **cells: Any) -> Entity:
+    """An entity that is spawned outside a frame."""
+    entity = world.spawn(**cells)
+    assert isinstance(entity, Entity)
+    return entity
+
+
+def to_come(world: Calls, **cells: Any) -> Spawned:
+    """An entity that an open frame is to spawn."""
+    entity = world.spawn(**cells)
+    assert isinstance(entity, Spawned)
+    return entity
