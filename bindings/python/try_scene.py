@@ -617,7 +617,7 @@ def library_example(library: str) -> None:
         os.symlink(Path(library).parent, f"{room}/FOLDER")
         assert run_example(codes[0], room) == ""
         said = run_example("from scene.library import LibraryScene\n" + textwrap.dedent(shown[1]), room)
-        assert said == "[('0v1', 'At')]\n1 15\n", said
+        assert said == "[('0v1', 'At')] (1, 2, 3)\n1 15\n", said
 
 
 def frames_example(library: str) -> None:

@@ -4,7 +4,7 @@
         cat = level.spawn(Name="a cat", At=(1, 2, 3))
         before = level.now()
         level.insert(cat, At=(4, 5, 6))
-        print(level.changed_since(before), level.past_step().deltas)
+        print(level.changed_since(before), level.past_step().deltas[0].before)
         for mask, count in level.tables("At"):
             print(count, sum(memoryview(level.column(mask, "At")).cast("B").cast("q")))
 
