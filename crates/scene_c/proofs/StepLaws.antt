@@ -1,6 +1,7 @@
 -- A list that is gone through one by one.
-use Rattle.std.proofs.Common.{◌≡◌, ◌≤◌, ◌<◌, ◌+◌, ℕ, zero, suc, List, [], ◌∷◌, length, drop, Some, refl, ap, ◌∙◌, arith, add-one}
+use Rattle.std.proofs.Common.{◌≡◌, ◌≤◌, ◌<◌, ◌+◌, ℕ, zero, suc, List, [], ◌∷◌, length, drop, Some, ap, ◌∙◌, arith, add-one}
 use Rattle.std.specs.Prelude.{slice_get}
+use Rattle.std.proofs.lemmas.List.{length-drop}
 
 module _ {A : Type 0} where
   -- the next one that is left stands at the place
@@ -15,12 +16,4 @@ module _ {A : Type 0} where
 
   -- where none is left, so many are gone as there are
   pub none_left : (n : ℕ) (xs : List A) → drop n xs ≡ [] → length xs ≤ n
-  none_left n [] e = omega arith
-  none_left zero (x ∷ xs) e = absurd (let g : x ∷ xs ≡ [] = e in cc)
-  none_left (suc n) (x ∷ xs) e = omega (arith, none_left n xs e)
-
-  pub all_gone : (n : ℕ) (xs : List A) → length xs ≤ n → drop n xs ≡ []
-  all_gone zero [] l = refl
-  all_gone (suc n) [] l = refl
-  all_gone zero (x ∷ xs) l = absurd (omega (arith, l))
-  all_gone (suc n) (x ∷ xs) l = all_gone n xs (omega (arith, l))
+  none_left n xs e = omega (arith, ap length e, length-drop n xs)

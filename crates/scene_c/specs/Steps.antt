@@ -43,7 +43,7 @@ delta_by change e before after parent_before parent_after = record {
   parent_after = parent_after;
 }
 
--- a delta as C sees it: the cells of a row that came or went are in the scene, and its texts and places aren't told
+-- a delta as C sees it: of a row that came or went no cells are told, and of no delta its texts and places
 abbrev pub shown_delta : Delta → SceneDelta
 shown_delta (Spawned e cells fresh) = delta_by 0 (shown_entity e) no_cell no_cell no_entity no_entity
 shown_delta (Despawned e place cells link retired) = delta_by 1 (shown_entity e) no_cell no_cell (parent_by link) no_entity

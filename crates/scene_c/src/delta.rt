@@ -4,6 +4,7 @@ ghost use Rattle.scene_c.specs.Arguments.{shown_entity};
 ghost use Rattle.scene_c.specs.Shown.{no_entity};
 ghost use Rattle.scene_c.specs.Steps.{cell_seen, delta_by, no_cell, parent_by, shown_delta};
 
+use crate::gathering::ABSENT;
 use crate::reading::Reading;
 use crate::shown::NO_ENTITY;
 use crate::value::{SceneCell, SceneEntity, shown_cell, shown_entity};
@@ -25,7 +26,7 @@ pub struct SceneDelta {
 /// A component that isn't there.
 const NO_CELL: SceneCell = SceneCell {
     kind: 0,
-    shape: 5,
+    shape: ABSENT,
     x: 0,
     y: 0,
     z: 0,

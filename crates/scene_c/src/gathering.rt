@@ -13,7 +13,7 @@ use crate::{BAD, DONE};
 use scene_world::World;
 
 /// The shape of a component that isn't there (`SCENE_ABSENT`).
-const ABSENT: u32 = 5;
+pub(crate) const ABSENT: u32 = 5;
 
 /// A component as C sees it, or that it isn't there.
 fn cell_or_absent(world: &World, kind: u8, entity: SceneEntity) -> SceneCell

@@ -1,6 +1,7 @@
 use Rattle.std.proofs.Common.{◌∙◌, ◌≤◌, length, sym, arith}
 use Rattle.scene_deltas.specs.Segments.{seen}
-use Rattle.scene_c.proofs.StepLaws.{next_at, none_left, all_gone}
+use Rattle.std.proofs.Math.ListN.{drop_of_length-le}
+use Rattle.scene_c.proofs.StepLaws.{next_at, none_left}
 use Rattle.scene_c.proofs.steps.behind.Goals as goal
 
 pub gone-preserved : goal.gone-preserved
@@ -10,4 +11,4 @@ pub returns-in_default : goal.returns-in_default
 returns-in_default c =
     let most = none_left c.gone.counter c.args.deltas (sym c.gone.invariant ∙ c.in_default.ensures.0) in
     let all : length c.args.deltas ≤ c.args.count = omega (arith, most, c.gone-test.true, c.gone.auto.counter-end) in
-    c.in_default.ensures.1 ∙ sym (all_gone c.args.count c.args.deltas all)
+    c.in_default.ensures.1 ∙ sym (drop_of_length-le c.args.deltas all)
