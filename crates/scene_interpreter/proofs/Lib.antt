@@ -7,3 +7,4 @@ pub mod LockLaws
 pub mod PhaseLaws
 pub mod InterpreterLaws
 pub mod QueryLaws
+pub mod WholeFrameLaws

@@ -13,3 +13,4 @@ pub mod Interpreter
 pub mod Questions
 pub mod Said
 pub mod Setup
+pub mod WholeFrame

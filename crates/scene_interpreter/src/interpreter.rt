@@ -8,6 +8,7 @@ ghost use Rattle.scene_interpreter.specs.Changes.{changes, frame_is_open, said_c
 ghost use Rattle.scene_interpreter.specs.Play.{first_owner, first_state, said_reply, state_by};
 ghost use Rattle.scene_interpreter.specs.Interpreter.{HaltsSetup, Interpreter as Reached, IsAnswered, IsSetting, Playing, Tells, begun, first_interpreter, halted, interpreter_kinds, interpreter_of, interpreter_reply, interpreter_said, lone_interpreter, owner_of, reached, systems_of, without_frame};
 ghost use Rattle.scene_interpreter.specs.Setup.{setup_by};
+ghost use Rattle.scene_interpreter.specs.WholeFrame.{at_depth};
 ghost use Rattle.scene_interpreter.specs.declared.halt.Halt.TheVariants.{After, Begun};
 
 use crate::answer::LineAnswer;
@@ -114,7 +115,7 @@ fn owner_of_setup<O: ScriptOwner>(alloc: Global, setup: Setup<O>) -> Result<O, A
 }
 
 /// What a line that ended the setup came to.
-fn after_begin(answered: Result<LineAnswer, AllocError>) -> Result<LineAnswer, Halt>
+pub(crate) fn after_begin(answered: Result<LineAnswer, AllocError>) -> Result<LineAnswer, Halt>
     ensures { MatchResult answered (λ answer. result ≡ Ok answer) (λ _. result ≡ Err Begun) }
 {
     match answered {
@@ -145,6 +146,18 @@ impl Interpreter<LoneOwner> {
         match &self.mode {
             Mode::Setting(_) => None,
             Mode::Playing(state) => Some(state.owner.editor()),
+        }
+    }
+
+    /// Sets of how many frames a record is kept, in the setup as the line `depth` does, and behind it at any time: then
+    /// those beyond it are dropped, the oldest first, and the calls begin anew, counted from 0 (docs/MODEL.md, "The rule
+    /// of undo"). An open frame stays. It takes no memory, and costs the records that are dropped.
+    pub fn set_depth(&mut self, depth: Limit)
+        ensures { interpreter_of self.new ≡ at_depth depth (interpreter_of self.old) }
+    {
+        match &mut self.mode {
+            Mode::Setting(setup) => setup.depth = depth,
+            Mode::Playing(state) => state.owner.set_depth(depth.get()),
         }
     }
 }

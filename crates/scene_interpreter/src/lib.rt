@@ -29,6 +29,7 @@ mod setup_line;
 mod state_line;
 mod systems_line;
 mod usual;
+mod whole_frame;
 
 pub use answer::LineAnswer;
 pub use bad_line_report::BadLineReport;

@@ -1,9 +1,9 @@
 //! A frame that a script has opened.
 ghost use Rattle.std.specs.Prelude.{◌≡◌, ◌≤◌, ◌+◌, Some, true, length, OnErr, OnOk, IfErr, IfOk};
 ghost use Rattle.scene_kinds.specs.Answers.{Answers};
-ghost use Rattle.scene_interpreter.specs.OpenFrame.{Opened, new_frame, with_command, with_queue, queues_of};
+ghost use Rattle.scene_interpreter.specs.OpenFrame.{Opened, new_frame, with_command, with_queue, with_spawn, queues_of};
 
-use scene_commands::Command;
+use scene_commands::{Command, Components, Target};
 use scene_kinds::Refusal;
 use scene_queue::Queue;
 use std::alloc::{AllocError, Global};
@@ -44,6 +44,18 @@ impl OpenFrame {
     {
         match self.last.push(command) {
             Ok(()) => Ok(()),
+            Err(returned) => Err(returned.refusal),
+        }
+    }
+
+    /// Puts a spawn last in the last queue, and gives the name that later commands of that queue have for its entity.
+    ///
+    /// Refused as `push` is.
+    pub(crate) fn spawn(&mut self, components: Components) -> Result<Target, Refusal>
+        ensures { Answers result self.old self.new (with_spawn self.old components) }
+    {
+        match self.last.spawn(components) {
+            Ok(target) => Ok(target),
             Err(returned) => Err(returned.refusal),
         }
     }

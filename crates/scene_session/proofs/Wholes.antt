@@ -1,5 +1,5 @@
 -- What an editor's call is to the whole.
-use Rattle.std.proofs.Common.{◌≡◌, List, [], ◌∷◌, take, Ok, Err, sym, ap, ◌∙◌}
+use Rattle.std.proofs.Common.{◌≡◌, ℕ, List, [], ◌∷◌, take, Ok, Err, sym, ap, ◌∙◌}
 use Rattle.scene_kinds.specs.declared.entity.Entity.{Entity}
 use Rattle.scene_kinds.specs.declared.refusal.Refusal.{Refusal}
 use Rattle.scene_model.specs.World.{World}
@@ -7,15 +7,17 @@ use Rattle.scene_machine.specs.Machine.{Machine, undo, redo}
 use Rattle.scene_machine.specs.Frame.{call, spawning_none}
 use Rattle.scene_world.specs.Stage.{act}
 use Rattle.scene_deltas.specs.Notes.{deltas_of}
-use Rattle.scene_journal.specs.Records.{Record, record_of}
+use Rattle.scene_journal.specs.Records.{Record, record_of, undone}
 use Rattle.scene_journal.specs.Frames.{frame_record}
 use Rattle.scene_queue.specs.Queue.{QueueState}
 use Rattle.scene_queue.specs.Frames.{frame_of}
 use Rattle.scene_schedule.specs.Schedule.{ScheduleState}
 use Rattle.scene_schedule.specs.Systems.{advance_of}
-use Rattle.scene_undo.specs.Editor.{EditorState, IsRecordOf, machine_of}
+use Rattle.scene_undo.specs.Editor.{EditorState, IsRecordOf, at_depth, machine_of}
 use Rattle.scene_undo.specs.Stacks.{IsRedone, IsUndone}
 use Rattle.scene_session.specs.Calls.{Asked, Submit, Advance, Undo, Redo, machine_call, Done, Undone, Redone, Refused, accepted_answer}
+use Rattle.scene_undo.proofs.Machines.{along_newest}
+use Rattle.scene_session.specs.Owner.{whole_at_depth}
 use Rattle.scene_session.specs.Whole.{Whole, whole_of, moved, accepted_whole, advance_record, notes_of, stepped, step}
 
 step_done : (w : Whole) (a : Asked) (es : List Entity) (m : Machine World) → call w.machine (machine_call a) ≡ Ok (es, m) → step w a ≡ (accepted_whole w a m, accepted_answer a es)
@@ -64,3 +66,9 @@ redone_whole old new is gone = let m = moved_is gone.0 new.future old.future old
 -- a refused call
 pub refused_whole : (old new : EditorState) (a : Asked) (r : Refusal) → call (machine_of old) (machine_call a) ≡ Err r → new ≡ old → step (whole_of old) a ≡ (whole_of new, Refused r)
 refused_whole old new a r is same = ap (stepped (whole_of old) a) is ∙ (λ i. (whole_of (sym same i), Refused r))
+
+-- an editor of another depth
+pub depth_set : (depth : ℕ) (s : EditorState) (w : Whole) → whole_of s ≡ w → whole_of (at_depth depth s) ≡ whole_at_depth depth w
+depth_set depth s w is =
+    (λ i. record (whole_of (at_depth depth s)) { machine = record (machine_of (at_depth depth s)) { past = along_newest undone depth s.past s.world i } })
+    ∙ ap (whole_at_depth depth) is

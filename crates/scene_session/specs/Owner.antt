@@ -1,6 +1,6 @@
 -- What contracts see of an owner: the machine that its state began as, with its records, and the calls since, each with
 -- its answer.
-use Rattle.std.specs.Prelude.{◌++◌, ◌∷◌, [], ℕ, List, length, map, nat_lt, if◌then◌else◌}
+use Rattle.std.specs.Prelude.{◌++◌, ◌∷◌, [], ℕ, List, length, map, nat_lt, take, if◌then◌else◌}
 use Rattle.scene_kinds.specs.declared.fault.Fault.TheVariants.{HistoryFull}
 use Rattle.scene_kinds.specs.Answers.{refusal_of}
 use Rattle.scene_model.specs.World.{World}
@@ -52,6 +52,18 @@ entered h a = record h { history = h.history ++ record { session = h.session; ca
 -- a call and its answer; where there are as many calls as may be, it isn't entered
 abbrev pub performed : OwnerState → Asked → OwnerState × Answer
 performed h a = if nat_lt (length h.history) h.limit then (entered h a, (step (whole_at h) a).1) else (h, Refused (refusal_of (HistoryFull h.limit)))
+
+-- the machine with its records, of another depth: the newest of its past are kept
+abbrev pub whole_at_depth : ℕ → Whole → Whole
+whole_at_depth depth w = record {
+  machine = record w.machine { past = take depth w.machine.past; depth = depth };
+  past = take depth w.past;
+  future = w.future;
+}
+
+-- an owner of another depth: no call says it, so the calls begin anew
+abbrev pub owner_at_depth : ℕ → OwnerState → OwnerState
+owner_at_depth depth h = record h { opening = whole_at_depth depth (whole_at h); history = [] }
 
 -- ---- the state
 

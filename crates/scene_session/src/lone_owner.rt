@@ -7,7 +7,7 @@ ghost use Rattle.scene_session.specs.Calls.{Redo, Refused, Submit, Undo, asked, 
 ghost use Rattle.scene_session.specs.Logged.{asked_in, logged};
 ghost use Rattle.scene_session.specs.State.{stopping_at};
 ghost use Rattle.scene_session.specs.Whole.{whole_of};
-ghost use Rattle.scene_session.specs.Owner.{opening_owner, performed, whole_at};
+ghost use Rattle.scene_session.specs.Owner.{opening_owner, owner_at_depth, performed, whole_at};
 
 use crate::call::{Call, Reply, Stopped};
 use crate::log::{Log, Logged, LoggedCall};
@@ -256,6 +256,19 @@ impl LoneOwner {
         ensures { Q.finds query.now (whole_at self.now) result }
     {
         query.find(alloc, &self.editor)
+    }
+
+    /// Sets of how many frames a record is kept, and drops those beyond it, the oldest first (docs/MODEL.md, "The rule
+    /// of undo"). No call says this, so the calls begin anew, and are counted from 0. It takes no memory, and costs the
+    /// records that are dropped.
+    #[tactic(auto, using(crate::proofs::Wholes::depth_set))]
+    pub fn set_depth(&mut self, depth: u32)
+        ensures { self.new ≡ owner_at_depth depth self.old }
+    {
+        self.editor.set_depth(depth);
+        self.opening = Snapshot::of(&self.editor);
+        self.log = Log::new();
+        self.room = self.limit;
     }
 
     /// The editor as it is after these calls. It takes no memory.
