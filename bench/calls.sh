@@ -5,10 +5,11 @@
 #                                      runs of each, 7 if none are given
 #
 # It prints nanoseconds of processor time of a call, by bench/calls.c with the library for C: of spawns in frames of one
-# and of ten, of undos and redos, of reads, and of writes in frames of ten. Each is the least of the runs, which take
-# turns. Where tools/bench_program has built scene_session_bench, or SCENE_SESSION_BENCH names it, two columns have the
-# same work by its editor and its state, which keeps each call in its history, and the last two how many times the
-# time of each C takes.
+# and of ten, and with their components, of undos and redos, of reads, of writes in frames of ten, of each of a thousand
+# writes by one call, and of columns of a thousand Ints and texts. Each is the least of the runs, which take turns.
+# Where tools/bench_program has built scene_session_bench, or SCENE_SESSION_BENCH names it, two columns have the same
+# work by its editor and its state, which keeps each call in its history, and the last two how many times the time of
+# each C takes.
 #
 # It needs python3, a C compiler, and what tools/library needs. bench/all.sh doesn't run it: there is no bound for it.
 set -euo pipefail
@@ -28,9 +29,10 @@ import os, subprocess, sys
 ours, beside, count, runs = sys.argv[1], sys.argv[2], int(sys.argv[3]), int(sys.argv[4])
 
 # each work: its name, what it is, and how many calls there are of it each time; and those that the other program has
-WORKS = [("spawn", "frame of one spawn", 1), ("spawn10", "spawn in a frame of ten", 1), ("swing", "undo and redo", 2),
-         ("get", "read of a component", 1), ("insert10", "write in a frame of ten", 1),
-         ("column", "column of a thousand Ints", 1)]
+WORKS = [("spawn", "frame of one spawn", 1), ("spawn10", "spawn in a frame of ten", 1),
+         ("cells", "spawn with its cells", 1), ("swing", "undo and redo", 2), ("get", "read of a component", 1),
+         ("insert10", "write in a frame of ten", 1), ("writes", "write of a thousand", 1),
+         ("column", "column of a thousand Ints", 1), ("texts", "of a thousand texts", 0.1)]
 SHARED = ("spawn", "swing")
 
 def once(words):

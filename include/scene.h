@@ -119,15 +119,20 @@ scene_code scene_line(scene **s, const uint8_t *line, size_t len);
 scene_code scene_request(scene **s, const uint8_t *request, size_t len);
 
 /* The length of the text that is kept; its first `room` bytes go to `at`, which may be NULL where `room` is 0.
- * scene_line, scene_request, scene_load, scene_save, scene_advance, scene_bad_reason and scene_get of a text keep a
- * text, and other calls that are answered an empty one. The text before stays where nothing was done for want of memory
- * or since the arguments name nothing, where a component is given to a spawn, where a frame is dropped, and where the
- * last answer is read (this call, scene_spawned, scene_named, scene_refused). */
+ * scene_line, scene_request, scene_load, scene_save, scene_advance, scene_bad_reason, scene_answer_json and scene_get
+ * of a text keep a text, and other calls that are answered an empty one. The text before stays where nothing was done
+ * for want of memory or since the arguments name nothing, where a component is given to a spawn, where a frame is
+ * dropped, where the depth is set, where systems are checked, and where the last answer is read (this call,
+ * scene_spawned, scene_named, scene_refused). */
 size_t scene_answer(scene **s, uint8_t *at, size_t room);
 
 /* Says in words why the last call that was answered was SCENE_BAD, as a bad line, or a commit without a begin: the
  * words are the text of its answer then. SCENE_BAD where it wasn't, and SCENE_NO_MEMORY: then the text before stays. */
 scene_code scene_bad_reason(scene **s);
+
+/* Puts the last answer into one line of JSON (docs/SHELL.md, "JSON"), which is the text of its answer then; a text that
+ * was asked for stands in it as a string. SCENE_NO_MEMORY: then the text before stays. */
+scene_code scene_answer_json(scene **s);
 
 /* The length of the name of a fault of docs/MODEL.md, by its number, as `NoSuchEntity` for 1; its first `room` bytes go
  * to `at`, which may be NULL where `room` is 0. It is ASCII, at most 32 bytes, without a byte 0 at the end, and empty
@@ -136,6 +141,19 @@ size_t scene_fault_name(uint32_t fault, uint8_t *at, size_t room);
 
 /* The version of the library, as SCENE_VERSION. */
 uint32_t scene_version(void);
+
+/* ---- kinds, and how far can be undone */
+
+/* Declares a kind, as the line `kind` does in the setup, and tells its number. SCENE_REFUSED for a name that isn't good
+ * (fault 30), is taken (31), or where there are 64 kinds (32); SCENE_BAD behind the setup and for a loaded scene, for
+ * another shape than the five, and for a name that is no UTF-8. */
+scene_code scene_declare(scene **s, const uint8_t *name, size_t len, uint32_t shape, uint32_t *kind);
+
+/* Sets of how many frames a record is kept, 1 to 1,048,576, at any time. Of the frames that can be undone those beyond
+ * it are forgotten, the oldest first; those that can be redone all stay. SCENE_BAD for another number. Behind the setup
+ * the line `history`, and the limit that a line `calls` has set, count from 0 again. The last answer stays, and so does
+ * an open frame. It needs no memory. */
+scene_code scene_set_depth(scene **s, uint32_t depth);
 
 /* ---- saving and loading */
 
@@ -185,6 +203,13 @@ scene_code scene_with_text(scene **s, uint32_t kind, const uint8_t *text, size_t
 /* Spawns an entity with these components. */
 scene_code scene_spawn(scene **s);
 
+/* Spawns an entity with `count` components, and tells it in *out; in an open frame *out is the SCENE_NEW(k) that it has
+ * there. On another code than SCENE_DONE *out is as it was. A cell of the shape SCENE_TEXT has its text in `bytes`: x
+ * is where it begins, y how long it is. SCENE_BAD for a cell that names no component, as one whose text is no UTF-8 or
+ * isn't in `bytes`; SCENE_NO_MEMORY may come of such a list too. What scene_with has given stays. */
+scene_code scene_spawn_cells(scene **s, const scene_cell *cells, size_t count, const uint8_t *bytes, size_t len,
+                             scene_entity *out);
+
 /* Despawns an entity that has no children; and one with all below it. */
 scene_code scene_despawn(scene **s, scene_entity entity);
 scene_code scene_despawn_all(scene **s, scene_entity entity);
@@ -192,6 +217,14 @@ scene_code scene_despawn_all(scene **s, scene_entity entity);
 /* Gives an entity a component, or writes the one of that kind that it has. */
 scene_code scene_insert(scene **s, scene_entity entity, scene_cell cell);
 scene_code scene_insert_text(scene **s, scene_entity entity, uint32_t kind, const uint8_t *text, size_t len);
+
+/* Gives `count` entities a component each, cells[i] to entities[i], or writes the one of that kind: a frame of its own,
+ * all or nothing, also where `count` is 0. Texts are as of scene_spawn_cells. SCENE_BAD for a cell that names no
+ * component, and where `cell_count` is another number or above 67,108,864. In an open frame it is answered SCENE_BAD,
+ * and scene_bad_reason says why. SCENE_REFUSED: the place of scene_refused is that of the first that can't be
+ * written. */
+scene_code scene_insert_cells(scene **s, const scene_entity *entities, size_t count, const scene_cell *cells,
+                              size_t cell_count, const uint8_t *bytes, size_t len);
 
 /* Takes the component of a kind away. */
 scene_code scene_remove(scene **s, scene_entity entity, uint32_t kind);
@@ -213,6 +246,12 @@ scene_code scene_drop(scene **s, const uint8_t *name, size_t name_len);
 scene_code scene_phase(scene **s);
 scene_code scene_clear_systems(scene **s);
 scene_code scene_advance(scene **s);
+
+/* Whether scene_advance would take the systems that there are: SCENE_REFUSED where a system breaks a rule (fault 22),
+ * or two of a phase don't go together (fault 21), and *why tells the fault. It only reads: the scene and the last
+ * answer stay. In the setup there are no systems, and it is SCENE_DONE. It copies the systems: SCENE_NO_MEMORY where
+ * there is no memory for that. */
+scene_code scene_check_systems(scene **s, scene_refusal *why);
 
 /* ---- the last answer: scene_spawned, scene_named and scene_refused tell of the last call that was answered, not of
  * one that was SCENE_BAD for its arguments, gave a component to a spawn, dropped a frame, or found no memory */
@@ -304,6 +343,12 @@ scene_code scene_vec3s(scene **s, uint64_t mask, uint32_t kind, size_t from, sce
 scene_code scene_links(scene **s, uint64_t mask, uint32_t kind, size_t from, scene_entity *at, size_t room,
                        size_t *total);
 
+/* The texts of a kind of these rows, from the row `from` on: their bytes one behind the other in `bytes`, and in
+ * ends[i] where the i-th of them ends there. As many are told as `room` has places and as fit whole into `bytes_room`:
+ * *told is how many, so that one asks on from `from` + *told. One alone that is too long is read by scene_read_text. */
+scene_code scene_texts(scene **s, uint64_t mask, uint32_t kind, size_t from, size_t *ends, size_t room, uint8_t *bytes,
+                       size_t bytes_room, size_t *told, size_t *total);
+
 /* The ticks at which these components were added, for `which` 0, or last changed, for 1. */
 scene_code scene_ticks(scene **s, uint64_t mask, uint32_t kind, uint32_t which, size_t from, uint64_t *at, size_t room,
                        size_t *total);
@@ -359,20 +404,25 @@ typedef enum scene_way {
 
 /* What a delta did (docs/JOURNAL.md, "The six deltas"). */
 typedef enum scene_change {
-    SCENE_SPAWNED = 0,   /* the entity came, with components that the scene tells */
-    SCENE_DESPAWNED = 1, /* it went, from its parent too */
+    SCENE_SPAWNED = 0,   /* the entity came, with the components that scene_delta_rows tells */
+    SCENE_DESPAWNED = 1, /* it went with these, from its parent too */
     SCENE_SHIFTED = 2,   /* a component came, of kind after.kind, or went: before.kind; the other is SCENE_ABSENT */
     SCENE_SET = 3,       /* a component was written */
     SCENE_LINKED = 4,    /* the parent is another, or the place among its children */
     SCENE_RESOURCE = 5   /* a resource came, went or was written; the entity is SCENE_NONE */
 } scene_change;
 
-/* A delta of a frame. Where there is no such component or parent, SCENE_ABSENT and SCENE_NONE; a text comes apart. */
+/* A delta of a frame. Where there is no such component or parent, SCENE_ABSENT and SCENE_NONE; the components of a row
+ * and texts come apart. A place is from 0, and 0 where there is none. */
 typedef struct scene_delta {
     uint32_t change; /* a scene_change */
     scene_entity entity;
-    scene_cell before, after;
-    scene_entity parent_before, parent_after;
+    uint32_t place;             /* of SCENE_DESPAWNED and SCENE_SHIFTED: the row's, in the table that it left */
+    scene_cell before, after;   /* of SCENE_SHIFTED and SCENE_SET, and of SCENE_RESOURCE with the kind 0 */
+    scene_entity parent_before; /* of SCENE_DESPAWNED and SCENE_LINKED, and the place among its children, */
+    uint32_t place_before;      /* counted without the entity */
+    scene_entity parent_after;  /* of SCENE_LINKED */
+    uint32_t place_after;
 } scene_delta;
 
 /* What a frame did that is kept: the one at a place, from 0, on a way; the tick of the scene before it, and its deltas
@@ -381,6 +431,26 @@ typedef struct scene_delta {
  * the first, with before and after exchanged. SCENE_REFUSED where there is no such frame, SCENE_BAD for another way. */
 scene_code scene_step(scene **s, uint32_t way, size_t place, uint64_t *tick, size_t from, scene_delta *at, size_t room,
                       size_t *total);
+
+/* The components of the rows that the deltas of a step brought or took away, from the delta `from` on: one behind the
+ * other in `cells`, by kind in each row, and in ends[i] where those of the i-th delta end there; others have none. As
+ * many deltas are told as `room` has places and as have all in `cells_room`: *told is how many, so that one asks on
+ * from `from` + *told, and *total how many the step has. SCENE_REFUSED where there is no such step, SCENE_BAD for
+ * another way. */
+scene_code scene_delta_rows(scene **s, uint32_t way, size_t place, size_t from, size_t *ends, size_t room,
+                            scene_cell *cells, size_t cells_room, size_t *told, size_t *total);
+
+/* A text of each delta, told as by scene_delta_rows: for `which` 0 the one before it, for 1 the one after it, and for 2
+ * the name of its resource; empty where it has none. Of a row it is that of the component of `kind`, which means
+ * nothing else; SCENE_BAD for one of 256 or more. */
+scene_code scene_delta_texts(scene **s, uint32_t way, size_t place, uint32_t which, uint32_t kind, size_t from,
+                             size_t *ends, size_t room, uint8_t *bytes, size_t bytes_room, size_t *told,
+                             size_t *total);
+
+/* The scene as a text that scene_load reads: for `version` 1 its world alone, for 2 all that can be undone and redone
+ * too, as scene_save keeps it. SCENE_REFUSED where it would be longer than 67,108,864 bytes, SCENE_BAD for another
+ * version. Each call makes the whole text, so have room for it: SCENE_NO_MEMORY where there is none for that. */
+scene_code scene_save_into(scene **s, uint32_t version, size_t from, uint8_t *at, size_t room, size_t *total);
 
 #ifdef __cplusplus
 }

@@ -136,6 +136,24 @@ static void put_and_advance(void)
     CHECK(scene_put(&s, name, 6, cell) == SCENE_CLOSED && scene_advance(&s) == SCENE_CLOSED);
 }
 
+/* The last answer in JSON is the text of it then, and all else of it stays. */
+static void answer_in_json(void)
+{
+    scene *s;
+    scene_entity made;
+    CHECK(scene_open(&s) == SCENE_DONE && scene_answer_json(&s) == SCENE_DONE);
+    CHECK(answers(&s, "{\"answer\":\"nothing\"}", false) && scene_spawn(&s) == SCENE_DONE);
+    CHECK(scene_answer_json(&s) == SCENE_DONE && answers(&s, "{\"answer\":\"done\",\"entities\":[\"0v1\"]}", false));
+    CHECK(scene_spawned(&s, 0, &made) == SCENE_DONE && made.index == 0 && scene_answer_json(&s) == SCENE_DONE);
+    CHECK(play(&s, "jump") == SCENE_BAD && scene_answer_json(&s) == SCENE_DONE);
+    CHECK(answers(&s, "{\"answer\":\"bad\",\"reason\":\"no command is named jump\"}", false));
+    CHECK(scene_bad_reason(&s) == SCENE_DONE && answers(&s, "no command is named jump", true));
+    CHECK(scene_redo(&s) == SCENE_REFUSED && scene_answer_json(&s) == SCENE_DONE && refused_by(&s, 16));
+    CHECK(answers(&s, "{\"answer\":\"refused\",\"number\":16,\"name\":\"NothingToRedo\"}", false));
+    scene_close(&s);
+    CHECK(scene_answer_json(&s) == SCENE_CLOSED);
+}
+
 /* A dropped frame is no call. */
 static void drop_frames(scene **s)
 {
@@ -181,6 +199,7 @@ int main(void)
     drop_frames(s);
     make_requests();
     put_and_advance();
+    answer_in_json();
     limit_calls();
     call_on_null(s);
     free(s);

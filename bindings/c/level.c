@@ -11,16 +11,17 @@
 #include <stdlib.h>
 #include <string.h>
 
-/* The kinds, by their places: `kind_names` and `kind_lines` have them in this order. */
+/* The kinds, by their places: `kind_names` and `kind_shapes` have them in this order. */
 enum { NAME, AT, HEALTH, HIDDEN, AIM, KINDS };
 
 static const char *const kind_names[KINDS] = {"Name", "At", "Health", "Hidden", "Aim"};
-static const char *const kind_lines[KINDS] = {
-    "kind Name Text", "kind At Vec3", "kind Health Int", "kind Hidden Tag", "kind Aim Link",
-};
+static const uint32_t kind_shapes[KINDS] = {SCENE_TEXT, SCENE_VEC3, SCENE_INT, SCENE_TAG, SCENE_LINK};
 
 /* The faults that are looked for here (docs/MODEL.md, "Faults"). */
 enum { NO_SUCH_ENTITY = 1, HAS_CHILDREN = 2, NOT_PRESENT = 3, WRONG_SHAPE = 4 };
+
+/* How many frames can be undone, and rooms for what is read a part at a time. */
+enum { DEPTH = 1000, WORD = 32, ROWS = 2, DELTAS = 4 };
 
 /* The entities of the level. */
 struct level {
@@ -121,6 +122,12 @@ static scene_cell link_to(uint32_t kind, scene_entity entity)
     return (scene_cell){.kind = kind, .shape = SCENE_LINK, .x = entity.index, .y = entity.generation};
 }
 
+/* A text in a list of components: a part of the bytes that are given with them. */
+static scene_cell part(uint32_t kind, int64_t from, int64_t len)
+{
+    return (scene_cell){.kind = kind, .shape = SCENE_TEXT, .x = from, .y = len};
+}
+
 /* Gives the next spawn a name. */
 static bool with_name(scene **s, const char *name)
 {
@@ -147,11 +154,9 @@ static void print_entity(scene_entity entity)
     printf("%" PRIu32 "v%" PRIu32, entity.index, entity.generation);
 }
 
-/* Prints a component that was read just now, whose text is that of the answer. */
-static bool print_cell(scene **s, scene_cell cell)
+/* Prints the numbers of a component. */
+static void print_numbers(scene_cell cell)
 {
-    struct text text;
-    printf(" %s", kind_names[cell.kind]);
     switch (cell.shape) {
     case SCENE_INT: printf("=%" PRId64, cell.x); break;
     case SCENE_VEC3: printf("=%" PRId64 ",%" PRId64 ",%" PRId64, cell.x, cell.y, cell.z); break;
@@ -159,14 +164,21 @@ static bool print_cell(scene **s, scene_cell cell)
         putchar('=');
         print_entity((scene_entity){.index = (uint32_t)cell.x, .generation = (uint32_t)cell.y});
         break;
-    case SCENE_TEXT:
-        if (!copy_answer(s, &text)) return false;
-        putchar('=');
-        fwrite(text.at, 1, text.len, stdout);
-        free(text.at);
-        break;
     default: break;
     }
+}
+
+/* Prints a component that was read just now, whose text is that of the answer. */
+static bool print_cell(scene **s, scene_cell cell)
+{
+    struct text text;
+    printf(" %s", kind_names[cell.kind]);
+    print_numbers(cell);
+    if (cell.shape != SCENE_TEXT) return true;
+    if (!copy_answer(s, &text)) return false;
+    putchar('=');
+    fwrite(text.at, 1, text.len, stdout);
+    free(text.at);
     return true;
 }
 
@@ -201,24 +213,132 @@ static void print_changed(scene **s)
     }
 }
 
+/* Prints the names in the rows of a kind set, a part of the column at a time; too long a one is left out. */
+static bool print_column(scene **s, uint64_t mask)
+{
+    uint8_t names[WORD];
+    size_t ends[ROWS], told, total;
+    for (size_t from = 0; ; from += told > 0 ? told : 1) {
+        if (!DONE(scene_texts(s, mask, NAME, from, ends, ROWS, names, WORD, &told, &total))) return false;
+        if (from >= total) return true;
+        for (size_t at = 0, begin = 0; at < told; begin = ends[at++])
+            printf(" %.*s", (int)(ends[at] - begin), (const char *)names + begin);
+    }
+}
+
+/* Prints the names of all that have one, by kind set. */
+static bool print_names(scene **s)
+{
+    scene_table tables[KINDS];
+    size_t total;
+    if (!DONE(scene_tables(s, 1 << NAME, 0, 0, tables, KINDS, &total))) return false;
+    fputs("names:", stdout);
+    for (size_t at = 0; at < total && at < KINDS; at++)
+        if (!print_column(s, tables[at].mask)) return false;
+    putchar('\n');
+    return true;
+}
+
+/* What some deltas of a frame tell: each of them, the rows that came, and the names before and after it. The part of a
+ * delta ends where `ends` says, and begins where that of the one before it ends. There is room for all of so many
+ * deltas, whose names are shorter than a WORD. */
+struct told {
+    scene_delta deltas[DELTAS];
+    size_t row_ends[DELTAS], name_ends[2][DELTAS];
+    scene_cell cells[DELTAS * KINDS];
+    uint8_t names[2][DELTAS * WORD];
+};
+
+static size_t begin_of(const size_t *ends, size_t at)
+{
+    return at == 0 ? 0 : ends[at - 1];
+}
+
+/* Prints a component of a delta, as it was before, for `which` 0, or is after it, for 1. */
+static void print_told(const struct told *told, size_t at, uint32_t which, scene_cell cell)
+{
+    const size_t *ends = told->name_ends[which];
+    size_t begin = begin_of(ends, at);
+    printf(" %s", kind_names[cell.kind]);
+    print_numbers(cell);
+    if (cell.shape == SCENE_TEXT) printf("=%.*s", (int)(ends[at] - begin), (const char *)told->names[which] + begin);
+}
+
+/* Prints what a delta did: the row that came, or the component that is another. */
+static void print_delta(const struct told *told, size_t at)
+{
+    const scene_delta *delta = &told->deltas[at];
+    print_entity(delta->entity);
+    switch (delta->change) {
+    case SCENE_SPAWNED:
+        fputs(" came:", stdout);
+        for (size_t k = begin_of(told->row_ends, at); k < told->row_ends[at]; k++)
+            print_told(told, at, 1, told->cells[k]);
+        break;
+    case SCENE_SET:
+        fputs(" had", stdout);
+        print_told(told, at, 0, delta->before);
+        fputs(" and has", stdout);
+        print_told(told, at, 1, delta->after);
+        break;
+    case SCENE_LINKED:
+        fputs(" goes to ", stdout);
+        print_entity(delta->parent_after);
+        break;
+    default: break;
+    }
+    putchar('\n');
+}
+
+/* Reads some deltas of a frame, from one on; *count is how many, and *total how many it has. */
+static bool read_deltas(scene **s, size_t place, size_t from, struct told *told, size_t *count, size_t *total)
+{
+    uint64_t tick;
+    if (!DONE(scene_step(s, SCENE_BACK, place, &tick, from, told->deltas, DELTAS, total))) return false;
+    for (uint32_t which = 0; which < 2; which++)
+        if (!DONE(scene_delta_texts(s, SCENE_BACK, place, which, NAME, from, told->name_ends[which], DELTAS,
+                                    told->names[which], DELTAS * WORD, count, total)))
+            return false;
+    return DONE(scene_delta_rows(s, SCENE_BACK, place, from, told->row_ends, DELTAS, told->cells, DELTAS * KINDS,
+                                 count, total));
+}
+
+/* Prints what a frame did, by its place from the newest, a part at a time. */
+static bool print_frame(scene **s, size_t place)
+{
+    struct told told;
+    size_t from = 0, count, total;
+    do {
+        if (!read_deltas(s, place, from, &told, &count, &total)) return false;
+        for (size_t at = 0; at < count; at++) print_delta(&told, at);
+        from += count;
+    } while (from < total);
+    return true;
+}
+
 /* ---- the level */
 
 static bool declare_kinds(scene **s)
 {
-    for (size_t kind = 0; kind < KINDS; kind++)
-        if (!DONE(scene_line(s, bytes(kind_lines[kind]), strlen(kind_lines[kind])))) return false;
+    for (uint32_t kind = 0; kind < KINDS; kind++) {
+        const char *name = kind_names[kind];
+        uint32_t told;
+        if (!DONE(scene_declare(s, bytes(name), strlen(name), kind_shapes[kind], &told)) || told != kind) return false;
+    }
     printf("%d kinds are declared\n", KINDS);
-    return true;
+    return DONE(scene_set_depth(s, DEPTH));
 }
 
-/* A room with a lamp and a cat in it, all by one frame. In the frame they are named by the order of its spawns. */
+/* A room with a lamp and a cat in it, all by one frame. In the frame a spawn tells its name there, which is by the
+ * order of the spawns: so the cat, whose components are given one by one, is the third. */
 static bool furnish(scene **s, struct level *level)
 {
-    scene_entity room = SCENE_NEW(0), lamp = SCENE_NEW(1), cat = SCENE_NEW(2);
+    const scene_cell of_room[] = {part(NAME, 0, 4)};
+    const scene_cell of_lamp[] = {part(NAME, 4, 4), vector(AT, 1, 2, 3), number(HEALTH, 100)};
+    scene_entity room = SCENE_NONE, lamp = SCENE_NONE, cat = SCENE_NEW(2);
     if (!DONE(scene_begin(s))) return false;
-    if (!with_name(s, "room") || !DONE(scene_spawn(s))) return false;
-    if (!with_name(s, "lamp") || !DONE(scene_with(s, vector(AT, 1, 2, 3)))) return false;
-    if (!DONE(scene_with(s, number(HEALTH, 100))) || !DONE(scene_spawn(s))) return false;
+    if (!DONE(scene_spawn_cells(s, of_room, 1, bytes("roomlamp"), 8, &room))) return false;
+    if (!DONE(scene_spawn_cells(s, of_lamp, 3, bytes("roomlamp"), 8, &lamp))) return false;
     if (!with_name(s, "cat") || !DONE(scene_with(s, vector(AT, 4, 0, -5)))) return false;
     if (!DONE(scene_with(s, tag(HIDDEN))) || !DONE(scene_spawn(s))) return false;
     if (!DONE(scene_set_parent(s, lamp, room)) || !DONE(scene_set_parent(s, cat, room))) return false;
@@ -260,20 +380,22 @@ static bool make(scene **s, struct level *level)
     if (!DONE(scene_insert(s, level->cat, link_to(AIM, level->lamp)))) return false;
     if (!stands_alone(s, level->room)) return false;
     puts("a room is furnished, and the cat looks at the lamp");
-    return print_level(s, level);
+    if (!print_level(s, level) || !print_names(s)) return false;
+    puts("the frame before the last did this");
+    return print_frame(s, 1);
 }
 
 static bool change(scene **s, const struct level *level)
 {
-    static const char name[] = "old cat";
+    const scene_entity entities[] = {level->lamp, level->cat};
+    const scene_cell cells[] = {number(HEALTH, 75), part(NAME, 0, 7)};
     scene_moment before;
-    if (!DONE(scene_now(s, &before)) || !DONE(scene_mark(s)) || !DONE(scene_begin(s))) return false;
-    if (!DONE(scene_insert(s, level->lamp, number(HEALTH, 75)))) return false;
-    if (!DONE(scene_insert_text(s, level->cat, NAME, bytes(name), strlen(name)))) return false;
-    if (!DONE(scene_commit(s)) || !DONE(scene_changed(s))) return false;
+    if (!DONE(scene_now(s, &before)) || !DONE(scene_mark(s))) return false;
+    if (!DONE(scene_insert_cells(s, entities, 2, cells, 2, bytes("old cat"), 7))) return false;
+    if (!DONE(scene_changed(s))) return false;
     puts("a frame changes");
     print_changed(s);
-    if (!has_changed(s, before, 2)) return false;
+    if (!has_changed(s, before, 2) || !print_frame(s, 0)) return false;
     return print_level(s, level);
 }
 
@@ -294,6 +416,17 @@ static bool be_bad(scene **s)
     printf("a line is bad: %.*s\n", (int)text.len, (const char *)text.at);
     free(text.at);
     return true;
+}
+
+/* A system would make the lamp burn down. Whether the systems go together can be asked before they are played. */
+static bool check_systems(scene **s)
+{
+    static const char burn[] = "{\"do\":\"system\",\"name\":\"burn\",\"need\":[\"Health\"],\"without\":[\"Hidden\"],"
+                               "\"steps\":[{\"step\":\"addint\",\"to\":\"Health\",\"by\":-1}]}";
+    scene_refusal why;
+    if (!DONE(scene_request(s, bytes(burn), strlen(burn))) || !DONE(scene_check_systems(s, &why))) return false;
+    puts("the systems go together");
+    return DONE(scene_clear_systems(s));
 }
 
 /* What is refused leaves all as it was: of a frame nothing is done, also not what stands before the refused command. */
@@ -323,18 +456,31 @@ static bool save(scene **s, struct text *text)
     return DONE(scene_save(s)) && copy_answer(s, text);
 }
 
+/* A scene that is loaded is in the setup, where nothing of it can be read; a mark ends that. */
 static bool load(scene **s, const struct text *text)
 {
-    return DONE(scene_open(s)) && DONE(scene_load(s, text->at, text->len));
+    return DONE(scene_open(s)) && DONE(scene_load(s, text->at, text->len)) && DONE(scene_mark(s));
+}
+
+/* Saves to room of the program, and leaves the last answer: asks for the length first. The caller frees the text. */
+static bool save_apart(scene **s, struct text *text)
+{
+    uint8_t none;
+    if (!DONE(scene_save_into(s, 2, 0, &none, 0, &text->len))) return false;
+    text->at = malloc(text->len);
+    if (text->at != NULL) return DONE(scene_save_into(s, 2, 0, text->at, text->len, &text->len));
+    fputs("level: memory was wanting for a text\n", stderr);
+    return false;
 }
 
 /* Whether a scene saves as this text. */
 static bool saves_as(scene **s, const struct text *wanted)
 {
-    struct text text;
-    if (!save(s, &text)) return false;
-    bool is_same = text.len == wanted->len && memcmp(text.at, wanted->at, text.len) == 0;
+    struct text text = {NULL, 0};
+    bool is_saved = save_apart(s, &text);
+    bool is_same = is_saved && text.len == wanted->len && memcmp(text.at, wanted->at, text.len) == 0;
     free(text.at);
+    if (!is_saved) return false;
     if (!is_same) fputs("level: the scene that was loaded saves as another text\n", stderr);
     return is_same;
 }
@@ -360,7 +506,7 @@ static bool play(scene **first, scene **second, struct text *text)
     scene **s = first;
     if (!DONE(scene_open(s)) || !declare_kinds(s)) return false;
     if (!make(s, &level) || !change(s, &level) || !be_refused(s, &level)) return false;
-    if (!drop(s, &level) || !be_bad(s) || !undo_and_redo(s, &level)) return false;
+    if (!drop(s, &level) || !be_bad(s) || !check_systems(s) || !undo_and_redo(s, &level)) return false;
     if (!save(s, text) || !load(second, text) || !saves_as(second, text)) return false;
     puts("a second scene loads what the first one saves, and saves the same");
     if (!empty_room(second, &level)) return false;

@@ -18,6 +18,7 @@ typedef struct {
 } thing;
 
 static thing things[COUNT];
+static const uint8_t no_bytes[] = {0}; /* of cells that are no texts */
 static scene *level;
 
 static void fails(const char *what, size_t place)
@@ -42,25 +43,28 @@ static thing *thing_of(scene_entity id)
     return &things[id.index];
 }
 
-static void line(const char *text)
+static void declare(const char *name, uint32_t shape, uint32_t wanted)
 {
-    done(scene_line(&level, (const uint8_t *)text, strlen(text)), text);
+    uint32_t kind = wanted + 1;
+    done(scene_declare(&level, (const uint8_t *)name, strlen(name), shape, &kind), name);
+    if (kind != wanted) fails(name, kind);
 }
 
 /* A thing in three has no place; each stands below another, ten below each. */
 static void build(void)
 {
-    line("kind Health Int");
-    line("kind At Vec3");
-    line("kind Friend Link");
-    line("kind Name Text");
+    scene_entity made = SCENE_NONE;
+    declare("Health", SCENE_INT, 0);
+    declare("At", SCENE_VEC3, 1);
+    declare("Friend", SCENE_LINK, 2);
+    declare("Name", SCENE_TEXT, 3);
     done(scene_begin(&level), "begin");
     for (int i = 0; i < COUNT; i++) {
         thing *t = &things[i];
         *t = (thing){{(uint32_t)i, 1}, 3 * i, {i, -i, 7}, i == 0 ? -1 : (i - 1) / FAN, i % 3 != 0};
-        done(scene_with(&level, (scene_cell){0, SCENE_INT, t->health, 0, 0}), "with");
-        if (t->has_at) done(scene_with(&level, (scene_cell){1, SCENE_VEC3, t->at.x, t->at.y, t->at.z}), "with");
-        done(scene_spawn(&level), "spawn");
+        scene_cell cells[] = {{0, SCENE_INT, t->health, 0, 0}, {1, SCENE_VEC3, t->at.x, t->at.y, t->at.z}};
+        done(scene_spawn_cells(&level, cells, t->has_at ? 2 : 1, no_bytes, 0, &made), "spawn");
+        if (!same(made, SCENE_NEW(i))) fails("a name in a frame", (size_t)i);
     }
     for (int i = 1; i < COUNT; i++) done(scene_set_parent(&level, SCENE_NEW(i), SCENE_NEW(things[i].parent)), "parent");
     done(scene_commit(&level), "commit");
@@ -118,15 +122,18 @@ static size_t compare(void)
     return total;
 }
 
-/* Each seventh is hurt, in one frame. */
+/* Each seventh is hurt, all in one frame. */
 static void hurt(int64_t by)
 {
-    done(scene_begin(&level), "begin");
-    for (int i = 0; i < COUNT; i += 7) {
+    static scene_entity ids[COUNT];
+    static scene_cell cells[COUNT];
+    size_t count = 0;
+    for (int i = 0; i < COUNT; i += 7, count++) {
         things[i].health += by;
-        done(scene_insert(&level, things[i].id, (scene_cell){0, SCENE_INT, things[i].health, 0, 0}), "insert");
+        ids[count] = things[i].id;
+        cells[count] = (scene_cell){0, SCENE_INT, things[i].health, 0, 0};
     }
-    done(scene_commit(&level), "commit");
+    done(scene_insert_cells(&level, ids, count, cells, count, no_bytes, 0), "insert");
 }
 
 static void compare_kinds(void)

@@ -1,9 +1,11 @@
 -- What want of memory leaves of an open scene.
-use Rattle.std.proofs.Common.{◌≡◌, ◌≢◌, ℕ, arith, Result, Ok, Err, sym, ap, ◌∙◌}
+use Rattle.std.proofs.Common.{◌≡◌, ◌≢◌, ℕ, arith, Result, Ok, Err, refl, sym, ap, ◌∙◌}
 use Rattle.std.specs.Prelude.{IfErr}
-use Rattle.scene_interpreter.specs.Interpreter.{Interpreter, Setting, Playing, halted, lone_interpreter}
+use Rattle.scene_interpreter.specs.Interpreter.{Interpreter, LineReply, Setting, Playing, halted, interpreter_of, lone_interpreter}
 use Rattle.scene_interpreter.specs.declared.halt.Halt.{Halt}
-use Rattle.scene_interpreter.specs.declared.halt.Halt.TheVariants.{After}
+use Rattle.scene_interpreter.specs.declared.halt.Halt.TheVariants.{Before, Begun, After, Lost}
+use Rattle.scene_c.specs.OpenScene.{HasHalted, KeepsAnswer}
+use Rattle.scene_c.specs.declared.open_scene.OpenScene.{OpenScene}
 
 -- a setup that can't be ended isn't left behind a line: it would be each interpreter at once
 never_after : (h : Halt) (p q : Interpreter) → ((next : Interpreter) → q ≡ halted h p next) → h ≢ After
@@ -22,3 +24,11 @@ never_after h p q e is = absurd (differ (sym (at (lone_interpreter 1 1)) ∙ at 
 pub never_untold : (p q : Interpreter) (result : Result (Unit {0}) Halt) → IfErr result (λ h. (next : Interpreter) → q ≡ halted h p next) → IfErr result (λ h. h ≢ After)
 never_untold p q (Ok u) err = tt
 never_untold p q (Err h) err = never_after h p q err
+
+-- a call that was halted before it was done has left the last answer
+pub has_halted : (h : Halt) (old new : OpenScene) (r : LineReply) → h ≢ After
+    → ((next : Interpreter) → interpreter_of new.interpreter ≡ halted h (interpreter_of old.interpreter) next) → KeepsAnswer old new → HasHalted h old new r
+has_halted Before old new r early is kept = (is r.interpreter, kept)
+has_halted Begun old new r early is kept = (is r.interpreter, kept)
+has_halted After old new r early is kept = absurd (early refl)
+has_halted Lost old new r early is kept = (is r.interpreter, kept)

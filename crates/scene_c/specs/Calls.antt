@@ -15,7 +15,8 @@ use Rattle.scene_interpreter.specs.declared.halt.Halt.{Halt}
 use Rattle.scene_interpreter.specs.declared.halt.Halt.TheVariants.{Before, Begun, After, Lost}
 use Rattle.scene_interpreter.specs.Answer.{said_of}
 use Rattle.scene_interpreter.specs.Changes.{frame_is_open}
-use Rattle.scene_interpreter.specs.Interpreter.{Interpreter, LineReply, Tells, begun, halted, interpreter_of, interpreter_said, without_frame}
+use Rattle.scene_interpreter.specs.Interpreter.{Interpreter, LineReply, Tells, begun, halted, interpreter_kinds, interpreter_of, interpreter_said, without_frame}
+use Rattle.scene_interpreter.specs.JsonAnswer.{json_text}
 use Rattle.scene_interpreter.specs.Said.{Said, Nothing, Called, Fault, Bad, bad_in, refused}
 use Rattle.scene_c.specs.OpenScene.{HasHalted, KeepsAnswer, fresh_interpreter, made_in, named_in, numbers_of, refusal_in, text_in, world_of}
 use Rattle.scene_c.specs.declared.open_scene.OpenScene.{OpenScene}
@@ -150,6 +151,24 @@ Explains None None code = code ≡ 2
 Explains (Some old) (Some new) code = SaysWhy (is_some (bad_in (said_of old.answer))) old new code
     × (new.answer ≡ old.answer) × (interpreter_of new.interpreter ≡ interpreter_of old.interpreter) × (new.cells.items ≡ old.cells.items)
 Explains old new code = ⊥
+
+-- ---- the last answer as JSON
+
+-- a line of JSON of the last answer; of the words by which a line is bad nothing is said
+abbrev pub IsJsonOf : OpenScene → List ℕ → Type 0
+IsJsonOf d text = (words : List ℕ) × (text ≡ json_text (interpreter_kinds (interpreter_of d.interpreter)) words (said_of d.answer))
+
+-- it is the text of the answer then, or no memory was found for it
+abbrev pub SaysJson : OpenScene → OpenScene → ℕ → Type 0
+SaysJson old new code =
+    ((code ≡ 0) × IsJsonOf old (string_bytes new.text)) ⊎ ((code ≡ 1) × (string_bytes new.text ≡ string_bytes old.text))
+
+-- on the scene that a handle holds; but for its text it is as it was
+abbrev pub TellsJson : Option OpenScene → Option OpenScene → ℕ → Type 0
+TellsJson None None code = code ≡ 2
+TellsJson (Some old) (Some new) code = SaysJson old new code
+    × (new.answer ≡ old.answer) × (interpreter_of new.interpreter ≡ interpreter_of old.interpreter) × (new.cells.items ≡ old.cells.items)
+TellsJson old new code = ⊥
 
 -- ---- what is read
 

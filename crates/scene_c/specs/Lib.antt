@@ -1,11 +1,15 @@
 pub mod Arguments
 pub mod Calls
+pub mod Given
 pub mod Held
+pub mod Joined
 pub mod Memory
 pub mod Names
 pub mod OpenScene
 pub mod Reads
 pub mod Requests
+pub mod Saved
+pub mod Settings
 pub mod Shown
 pub mod Steps
 pub mod Times

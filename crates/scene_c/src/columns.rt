@@ -65,7 +65,7 @@ fn column_of(world: &World, mask: KindSet, kind: u32) -> Option<ColumnRef<'_>>
 
 /// The values of a kind of a shape in the rows of a kind set; `None` where there is no such kind, or the set hasn't it.
 #[tactic(auto, using(crate::proofs::ReadRows::values_told))]
-fn values_of(world: &World, mask: KindSet, kind: u32, shape: Shape) -> Option<&[Value]>
+pub(crate) fn values_of(world: &World, mask: KindSet, kind: u32, shape: Shape) -> Option<&[Value]>
     ensures { option_map (λ values. values.now) result ≡ values_in world.now.world mask (kind_of kind) shape }
 {
     if !is_of_shape(world.schema(), kind, shape) {

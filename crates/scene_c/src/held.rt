@@ -2,13 +2,15 @@
 //! its own line alone.
 ghost use Rattle.std.specs.Prelude.{◌≡◌, ℕ, List, None};
 ghost use Rattle.scene_interpreter.specs.Interpreter.{interpreter_reply};
-ghost use Rattle.scene_c.specs.Calls.{Asks, Does, DropsFrame, Explains, Gives, Plays, Spawns, says};
+ghost use Rattle.scene_c.specs.Calls.{Asks, Does, DropsFrame, Explains, Gives, Plays, Spawns, TellsJson, says};
 ghost use Rattle.scene_c.specs.Requests.{Requests};
 ghost use Rattle.scene_c.specs.Times.{Turns};
 ghost use Rattle.std.specs.Option.{option_map};
 
 use crate::handle::{Handle, into_open_scene};
-use crate::played::{drop_frame_at, explain_at, give_at, line_at, say_at, spawn_at, tell_at};
+use crate::played::{
+    drop_frame_at, explain_at, give_at, json_at, line_at, say_at, spawn_at, tell_at,
+};
 use crate::requests::request_at;
 use crate::times::Way;
 use crate::{BAD, CLOSED};
@@ -154,6 +156,20 @@ pub(crate) fn explain(alloc: Global, scene: &mut Handle) -> u32
     };
     let mut boxed = boxed;
     let code = explain_at(alloc, &mut boxed);
+    *scene = Handle::of_box(boxed);
+    code
+}
+
+/// Puts the last answer into JSON.
+pub(crate) fn answer_json(alloc: Global, scene: &mut Handle) -> u32
+    ensures { TellsJson scene.old.value scene.new.value result }
+{
+    let taken = mem::replace(scene, Handle::closed(alloc));
+    let Some(boxed) = into_open_scene(taken) else {
+        return CLOSED;
+    };
+    let mut boxed = boxed;
+    let code = json_at(alloc, &mut boxed);
     *scene = Handle::of_box(boxed);
     code
 }

@@ -15,7 +15,7 @@ ghost use Rattle.scene_commands.specs.declared.command.Command.TheVariants as co
 ghost use Rattle.scene_script.specs.declared.script_line.Line.TheVariants as line;
 ghost use Rattle.scene_interpreter.specs.Interpreter.{interpreter_reply};
 ghost use Rattle.scene_c.specs.Arguments.{component_of_cell, entity_of, insert_line, kind_of, shown_entity, shown_name, shown_refusal, target_of, text_component, text_of};
-ghost use Rattle.scene_c.specs.Calls.{Asks, AsksText, Does, DropsFrame, Explains, Gets, Gives, GivesText, Loads, Opens, Plays, Spawns, made_at, named_at, refusal_now, says, text_now};
+ghost use Rattle.scene_c.specs.Calls.{Asks, AsksText, Does, DropsFrame, Explains, Gets, Gives, GivesText, Loads, Opens, Plays, Spawns, TellsJson, made_at, named_at, refusal_now, says, text_now};
 ghost use Rattle.scene_c.specs.Memory.{bytes_at, copied};
 ghost use Rattle.scene_c.specs.Names.{name_of};
 ghost use Rattle.scene_c.specs.Requests.{Requests};
@@ -26,16 +26,21 @@ ghost use Rattle.scene_c.specs.declared.times.Way.TheVariants as way;
 
 mod columns;
 mod delta;
+mod delta_parts;
 mod filling;
 mod gathering;
+mod given;
 mod handle;
 mod held;
 mod kinds;
 mod lines;
+mod list_calls;
 mod look;
 mod look_resources;
+mod look_saved;
 mod look_since;
 mod look_steps;
+mod look_texts;
 mod loose;
 mod moments;
 mod names;
@@ -48,10 +53,14 @@ mod requests;
 mod resource_calls;
 mod resources;
 mod roots;
+mod saved;
+mod setup_calls;
 mod shown;
+mod spawning;
 mod status;
 mod steps;
 mod system_calls;
+mod text_columns;
 mod texts;
 mod times;
 mod tree;
@@ -60,7 +69,7 @@ mod value;
 pub use delta::SceneDelta;
 pub use handle::Handle;
 use handle::{into_open_scene, new_handle};
-use held::{ask, drop_frame, explain, give, line, request, say, spawn, tell, turn};
+use held::{answer_json, ask, drop_frame, explain, give, line, request, say, spawn, tell, turn};
 pub use names::each_fault_has_its_name;
 use names::{copy_name, name_len};
 pub use open_scene::OpenScene;
@@ -176,6 +185,15 @@ pub extern "C" fn scene_bad_reason(alloc: Global, scene: &mut Handle) -> u32
     ensures { Explains scene.old.value scene.new.value result }
 {
     explain(alloc, scene)
+}
+
+/// Puts the last answer into one line of JSON, as the text of its answer (docs/SHELL.md, "JSON"). `NO_MEMORY`: then the
+/// text stays.
+#[unsafe(no_mangle)]
+pub extern "C" fn scene_answer_json(alloc: Global, scene: &mut Handle) -> u32
+    ensures { TellsJson scene.old.value scene.new.value result }
+{
+    answer_json(alloc, scene)
 }
 
 /// How long the name of a fault is, by its number, and as much of it as there is room for at `at`; 0 where no fault of

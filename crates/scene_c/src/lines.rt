@@ -4,11 +4,14 @@ ghost use Rattle.scene_interpreter.specs.Answer.{said_of};
 ghost use Rattle.scene_interpreter.specs.Changes.{frame_is_open};
 ghost use Rattle.scene_interpreter.specs.Interpreter.{Interpreter as Reached, Tells, begun, halted, interpreter_kinds, interpreter_of, interpreter_reply, interpreter_said, without_frame};
 ghost use Rattle.scene_interpreter.specs.Said.{bad_in, said_text};
+ghost use Rattle.scene_interpreter.specs.WholeFrame.{queue_said};
 ghost use Rattle.scene_interpreter.specs.declared.halt.Halt.TheVariants.{After};
+ghost use Rattle.scene_c.specs.Calls.{IsJsonOf};
 ghost use Rattle.scene_c.specs.OpenScene.{HasHalted, KeepsAnswer};
 
 use crate::open_scene::OpenScene;
 use scene_interpreter::{Halt, LineAnswer};
+use scene_queue::Queue;
 use scene_script::Line;
 use scene_session::ThisThread;
 use std::alloc::{AllocError, Global};
@@ -85,6 +88,22 @@ impl OpenScene {
         Ok(())
     }
 
+    /// Does a frame of one queue, all or nothing, and keeps its answer without a text.
+    ///
+    /// Halted as `Interpreter::submit` is: then the last answer stays.
+    #[tactic(auto, using(crate::proofs::OpenSceneLaws::has_halted))]
+    pub fn submit(&mut self, queue: Queue) -> Result<(), Halt>
+        ensures answer { OnOk result (Tells self.new.answer (interpreter_of self.new.interpreter)
+            (queue_said (interpreter_of self.old.interpreter) queue)) }
+        ensures text { OnOk result (string_bytes self.new.text ≡ []) }
+        ensures halted { IfErr result (λ h. HasHalted h self.old self.new (queue_said (interpreter_of self.old.interpreter) queue)) }
+        ensures cells { self.new.cells.items ≡ self.old.cells.items }
+    {
+        self.answer = self.interpreter.submit(&ThisThread, queue)?;
+        self.text.clear();
+        Ok(())
+    }
+
     /// Drops the frame that is open, with its commands, and makes no call. It says whether there was one. The last
     /// answer stays, and so do the components of the next spawn. It takes no memory.
     pub fn drop_frame(&mut self) -> bool
@@ -114,6 +133,23 @@ impl OpenScene {
         let text = format!(in alloc; "{reason}")?;
         self.text = text;
         Ok(true)
+    }
+
+    /// Puts the last answer into one line of JSON (docs/SHELL.md, "JSON"), as the text of its answer.
+    ///
+    /// `AllocError` where no memory was found: then the text stays.
+    pub fn tell_json(&mut self, alloc: Global) -> Result<(), AllocError>
+        ensures json { OnOk result (IsJsonOf self.old (string_bytes self.new.text)) }
+        ensures same { OnErr result (string_bytes self.new.text ≡ string_bytes self.old.text) }
+        ensures answer { self.new.answer ≡ self.old.answer }
+        ensures interpreter { interpreter_of self.new.interpreter ≡ interpreter_of self.old.interpreter }
+        ensures cells { self.new.cells.items ≡ self.old.cells.items }
+    {
+        let mut text = String::new(alloc);
+        self.answer
+            .write_json(alloc, self.interpreter.schema(), &mut text)?;
+        self.text = text;
+        Ok(())
     }
 
     /// Ends the setup, where it isn't over, and keeps the last answer.

@@ -6,8 +6,9 @@ ghost use Rattle.scene_interpreter.specs.Answer.{said_of};
 ghost use Rattle.scene_interpreter.specs.Changes.{frame_is_open};
 ghost use Rattle.scene_interpreter.specs.Interpreter.{interpreter_of, interpreter_reply, without_frame};
 ghost use Rattle.scene_interpreter.specs.Said.{bad_in};
+ghost use Rattle.scene_interpreter.specs.WholeFrame.{queue_said};
 ghost use Rattle.scene_c.specs.OpenScene.{KeepsAnswer};
-ghost use Rattle.scene_c.specs.Calls.{GivesMore, Played, SaysWhy, WasRead, code_of, halt_code, said_code, says};
+ghost use Rattle.scene_c.specs.Calls.{GivesMore, Played, SaysJson, SaysWhy, WasRead, code_of, halt_code, said_code, says};
 
 use crate::open_scene::OpenScene;
 use crate::value::{SceneCell, shown_cell};
@@ -15,6 +16,7 @@ use crate::{BAD, DONE, LOST, NO_MEMORY, REFUSED, UNTOLD};
 use scene_commands::{Command, Components};
 use scene_interpreter::{Halt, LineAnswer};
 use scene_kinds::{Entity, Value};
+use scene_queue::Queue;
 use scene_script::Line;
 use scene_session::Reply;
 use std::alloc::Global;
@@ -82,6 +84,15 @@ pub(crate) fn say_at(open_scene: &mut OpenScene, line: Line) -> u32
     code_of(came, open_scene.answer())
 }
 
+/// Does a frame of one queue.
+pub(crate) fn submit_at(open_scene: &mut OpenScene, queue: Queue) -> u32
+    ensures played { Played open_scene.old open_scene.new (queue_said (interpreter_of open_scene.old.interpreter) queue) [] result }
+    ensures cells { open_scene.new.cells.items ≡ open_scene.old.cells.items }
+{
+    let came = open_scene.submit(queue);
+    code_of(came, open_scene.answer())
+}
+
 /// Spawns with the components that were given for it.
 pub(crate) fn spawn_at(alloc: Global, open_scene: &mut OpenScene) -> u32
     ensures played { Played open_scene.old open_scene.new
@@ -125,6 +136,19 @@ pub(crate) fn explain_at(alloc: Global, open_scene: &mut OpenScene) -> u32
     match open_scene.explain(alloc) {
         Ok(true) => DONE,
         Ok(false) => BAD,
+        Err(_) => NO_MEMORY,
+    }
+}
+
+/// Puts the last answer into JSON.
+pub(crate) fn json_at(alloc: Global, open_scene: &mut OpenScene) -> u32
+    ensures json { SaysJson open_scene.old open_scene.new result }
+    ensures answer { open_scene.new.answer ≡ open_scene.old.answer }
+    ensures interpreter { interpreter_of open_scene.new.interpreter ≡ interpreter_of open_scene.old.interpreter }
+    ensures cells { open_scene.new.cells.items ≡ open_scene.old.cells.items }
+{
+    match open_scene.tell_json(alloc) {
+        Ok(()) => DONE,
         Err(_) => NO_MEMORY,
     }
 }

@@ -3,10 +3,12 @@ ghost use Rattle.std.specs.Prelude.{◌≡◌, drop, map, slice_get};
 ghost use Rattle.std.specs.Option.{option_map};
 ghost use Rattle.scene_session.specs.Whole.{whole_of};
 ghost use Rattle.scene_c.specs.Memory.{copied};
+ghost use Rattle.scene_c.specs.Joined.{IsUntold, TellsParts};
 ghost use Rattle.scene_c.specs.Reads.{Tells, whole_now};
 ghost use Rattle.scene_c.specs.Steps.{TellsStep, records_on, shown_delta, way_by};
 
 use crate::delta::{SceneDelta, shown_delta};
+use crate::delta_parts::{DeltaPart, fill_parts};
 use crate::open_scene::OpenScene;
 use crate::times::Way;
 use crate::{BAD, DONE, REFUSED};
@@ -86,6 +88,33 @@ impl OpenScene {
         *tick = record.tick_before();
         *total = record.deltas().len();
         fill_deltas(behind(record.deltas().forward(), from), at);
+        DONE
+    }
+
+    /// Tells what the deltas of a step have, from one on, of as many as there is room for.
+    pub(crate) fn parts<P: DeltaPart<T>, T: Copy>(
+        &self,
+        part: &P,
+        way: Way,
+        place: usize,
+        from: usize,
+        ends: &mut [usize],
+        room: &mut [T],
+        told: &mut usize,
+        total: &mut usize,
+    ) -> u32
+        ensures { Tells (IsUntold ends.old ends.new room.old room.new told.old told.new total.old total.new)
+            (TellsParts (P.part part.now) (slice_get (records_on way (whole_now self.now)) place) from
+            ends.old ends.new room.old room.new told.old told.new total.old total.new) self.now result }
+    {
+        let Some(editor) = self.interpreter.editor() else {
+            return BAD;
+        };
+        let Some(record) = record_on(editor, way, place) else {
+            return REFUSED;
+        };
+        *total = record.deltas().len();
+        *told = fill_parts(behind(record.deltas().forward(), from), part, ends, room);
         DONE
     }
 }
