@@ -403,6 +403,8 @@ def some_call(any_of: random.Random) -> Callable[[Calls], Any]:
             lambda it: it.spawn(**cells),
             lambda it: it.insert(one, **cells),
             lambda it: it.insert(one, Name="a", At=(count, 2, 3)),
+            lambda it: it.insert_all([one, two], **{kind: [value, value]}),
+            lambda it: it.insert_all([one, two][:count], Health=(count, 2), Name=("a b", "")),
             lambda it: it.remove(one, kind),
             lambda it: it.set_parent(one, two),
             lambda it: it.set_parent(one, None),
@@ -440,4 +442,5 @@ def both_alike(shell: Begin, library: Begin) -> None:
                     came = outcome(getattr(one, read))
                     assert came == outcome(getattr(other, read)), (step, read, came)
                 assert one.request("show") == other.request("show"), step
+                assert one.save(world_alone=True) == other.save(world_alone=True), step
         assert 100 < refused < 1400 and one.status().tick > 20, (refused, one.status())

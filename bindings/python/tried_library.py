@@ -1,27 +1,18 @@
-"""What try_scene.py tries over the library alone: columns, many entities in one call, moments, what frames did, threads,
-and that the package knows all of scene.h."""
+"""What try_scene.py tries over the library alone: columns, many entities in one call, moments, frames that are
+dropped, threads, and that the package knows all of scene.h."""
 from __future__ import annotations
 
 import ctypes
 import inspect
-import random
 import re
 import threading
-from collections import Counter
 from functools import partial
-from typing import Any, Callable, Dict, List, Optional, Tuple
+from typing import Any, Callable, Dict, List, Tuple
 
-from scene import AddInt, BadLine, Calls, DespawnAtZero, Entity, OtherThread, Refused
+from scene import AddInt, BadLine, Calls, Closed, Entity, OtherThread
 from scene import handle, header
-from scene.deltas import LAYOUT
-from scene.library import Apart, Delta, KeptStep, LibraryScene, Moment
-from trying import KINDS, TOP, UNUSUAL, Begin, error_of, is_bad, refusal, spawned, told
-
-
-def over_library(world: Calls) -> LibraryScene:
-    """The scene, which has to be over the library."""
-    assert isinstance(world, LibraryScene)
-    return world
+from scene.library import LibraryScene, Moment
+from trying import KINDS, TOP, UNUSUAL, Begin, error_of, is_bad, over_library, refusal, spawned, told
 
 
 def some_rows(world: Calls) -> None:
@@ -79,6 +70,10 @@ def compare_column(world: LibraryScene, mask: int, kind: str, values: List[Any])
     """A column has these values; one that is none of numbers isn't given."""
     if kind in ("Name", "Hidden"):
         error_of(TypeError, world.column, mask, kind)
+        if kind == "Name":
+            assert world.texts(mask, kind) == values
+        else:
+            error_of(TypeError, world.texts, mask, kind)
         return
     column = world.column(mask, kind)
     if kind == "Health":
@@ -89,6 +84,31 @@ def compare_column(world: LibraryScene, mask: int, kind: str, values: List[Any])
     else:
         pairs = memoryview(column).cast("B").cast("I").tolist()
         assert pairs == [part for value in values for part in (value.index, value.generation)]
+
+
+def columns_of_texts(begin: Begin) -> None:
+    """A column of texts has any characters, of any length, in the order of the rows, also where they are many; each of
+    them is whole."""
+    with begin() as begun:
+        world = over_library(begun)
+        assert world.texts(1, "Name") == [] and is_bad(world.texts, 2, "Name") and is_bad(world.texts, 1, "Nothing")
+        error_of(TypeError, world.texts, 2, "Health")
+        texts: List[str] = list(map(str, UNUSUAL))
+        # (they are read 1,024 at once, and 65,536 bytes of them: what just fits, and what just doesn't)
+        for lengths in ((1,) * 2000, (65_536, 65_535, 1), (65_537, 0, 32_768, 32_769), (1_000_000, 3), (300,) * 500):
+            texts += ["\u00e9" * (length // 2) + "a" * (length % 2) for length in lengths]
+            with world.frame():
+                for text in texts[sum(rows for _, rows in world.tables("Name")) :]:
+                    world.spawn(Name=text)
+            assert world.texts(1, "Name") == texts, lengths
+        with world.frame():
+            for number in range(100):
+                world.spawn(Name=f"number {number}", Health=number)
+            assert world.texts(1, "Name") == texts and world.texts(3, "Name") == []
+        assert world.texts(3, "Name") == [f"number {number}" for number in range(100)]
+        assert [cell.value for cell in (row.cells["Name"] for row in world.rows())] == texts + world.texts(3, "Name")
+        world.close()
+        assert "closed" in str(error_of(Closed, world.texts, 1, "Name"))
 
 
 def buffers(begin: Begin) -> None:
@@ -192,169 +212,40 @@ def reasons_of_reads(begin: Begin) -> None:
         assert "jump" not in str(error_of(BadLine, world.column, 1 << 40, "Health"))
 
 
-def kept_steps(begin: Begin) -> None:
-    """What each frame did is told in its order, before and behind what is there, and the same backward."""
+def dropped_frames(begin: Begin) -> None:
+    """A frame that is dropped does nothing, and isn't a call."""
     with begin() as begun:
         world = over_library(begun)
-        assert ctypes.sizeof(header.RawDelta) == LAYOUT.size and world.past_step() is None is world.future_step()
-        with world.frame():
-            for number in range(2):
-                world.spawn(Health=number)
-            world.set_parent("+1", "+0")
-            world.put("left", 7)
-        cat, dog = Entity("0v1"), Entity("1v1")
-        first = KeptStep(0, [gone_or_come(cat), gone_or_come(dog), linked(dog, None, cat), resource()])
-        assert world.past_step() == first and world.future_step() is None
-        some_changes(world, cat, dog)
-        changes = [
-            delta("set", cat, "Health", 0, -(2**63)),
-            delta("shifted", cat, "At", None, (1, -2, 2**62)),
-            delta("shifted", cat, "Hidden", None, True),
-            delta("shifted", cat, "Name", None, Apart.TEXT),
-            delta("set", cat, "Name", Apart.TEXT, Apart.TEXT),
-            delta("shifted", dog, "Target", None, cat),
-            delta("shifted", dog, "Health", 1, None),
-            resource(),
-            delta("despawned", dog, None, None, None, cat, None),
-        ]
-        second = world.past_step()
-        assert second == KeptStep(1, changes) and world.past_step(1) == first and world.past_step(2) is None
+        cat = spawned(world, Health=9)
+        before = world.show(), world.line("history")
+        assert not world.drop_frame()
+        for _ in range(2):
+            world.line("begin")
+            world.insert(cat, Health=5)
+            assert world.drop_frame() and not world.drop_frame()
+        error_of(ZeroDivisionError, fail_in_frame, world)
+        assert (world.show(), world.line("history")) == before
+        # Its `with` finds no frame any more.
+        error = error_of(BadLine, drop_in_frame, world)
+        assert "no frame is open" in str(error)
         world.undo()
-        assert world.future_step() == second and world.past_step() == first and world.future_step(1) is None
-        back = KeptStep(1, changes).undone()
-        assert back[0] == delta("spawned", dog, None, None, None, None, cat)
-        assert back[2] == delta("shifted", dog, "Health", None, 1) and back[-1] == delta(*changes[0][:3], -(2**63), 0)
-        assert KeptStep(1, back).undone() == changes
-        world.undo()
-        assert (world.future_step(), world.future_step(1), world.future_step(2)) == (first, second, None)
-        bad_places(world)
+        assert not world.rows()
+        world.close()
+        assert "closed" in str(error_of(Closed, world.drop_frame))
 
 
-def some_changes(world: LibraryScene, cat: Entity, dog: Entity) -> None:
-    """A frame that does all that a delta tells, but a spawn."""
+def fail_in_frame(world: Calls) -> None:
+    """A frame that an error ends."""
     with world.frame():
-        world.insert(cat, Health=-(2**63), At=(1, -2, 2**62), Hidden=True, Name="a")
-        world.insert(cat, Name="b")
-        world.insert(dog, Target=cat)
-        world.remove(dog, "Health")
-        world.drop("left")
-        world.despawn(dog)
+        world.spawn(Health=1)
+        raise ZeroDivisionError
 
 
-def delta(change: str, entity: Optional[Entity], kind: Optional[str] = None, *told: Any) -> Delta:
-    """A delta, without the parents where they aren't told."""
-    return Delta(change, entity, kind, *told, *[None] * (4 - len(told)))
-
-
-def gone_or_come(entity: Entity) -> Delta:
-    return delta("spawned", entity)
-
-
-def linked(entity: Entity, before: Optional[Entity], after: Optional[Entity]) -> Delta:
-    return delta("linked", entity, None, None, None, before, after)
-
-
-def resource() -> Delta:
-    return delta("resource", None)
-
-
-def bad_places(world: LibraryScene) -> None:
-    """A place of a step is a whole number from 0, and may be greater than any; and an open frame hides none."""
-    for step in (world.past_step, world.future_step):
-        assert step(2**64) is step(2**32) is None and is_bad(step, -1)
-        for wrong in (None, "0", 0.5, True):
-            error_of(TypeError, step, wrong)
-    world.redo()
-    before = world.past_step()
+def drop_in_frame(world: LibraryScene) -> None:
+    """A frame that is dropped before its end."""
     with world.frame():
-        world.spawn()
-        assert world.past_step() == before is not None
-    assert world.past_step(1) == before
-
-
-class Follower:
-    """A view of a scene that knows by deltas which entities there are, their parents and components, texts too."""
-
-    def __init__(self, world: LibraryScene) -> None:
-        self.world = world
-        self.known: Dict[Entity, Tuple[Optional[Entity], Dict[str, Any]]] = {}
-
-    def follow(self, deltas: List[Delta]) -> None:
-        """Follows the deltas of all that was done; components of what came, and texts, are read behind it."""
-        unread = set()
-        for change, entity, kind, _, after, _, parent in deltas:
-            if entity is None:
-                continue
-            if change == "despawned":
-                del self.known[entity]
-            elif change == "spawned":
-                self.known[entity] = parent, {}
-                unread.add(entity)
-            elif change == "linked":
-                self.known[entity] = parent, self.known[entity][1]
-            elif kind is not None:
-                self.known[entity][1][kind] = after
-                unread |= {entity} if after is Apart.TEXT else set()
-        for entity in unread & set(self.known):
-            self.known[entity] = self.known[entity][0], self.world.row(entity).values()
-
-    def compare(self) -> None:
-        """The scene has just what this knows."""
-        found = {row.entity: (row.parent, row.values()) for row in self.world.rows()}
-        wanted = {
-            entity: (parent, {kind: value for kind, value in cells.items() if value is not None})
-            for entity, (parent, cells) in self.known.items()
-        }
-        assert found == wanted
-
-
-def random_frame(world: LibraryScene, any_of: random.Random) -> None:
-    """A frame of commands about entities that are there or were, which is refused where one of them can't be."""
-    named = [f"{any_of.randrange(20)}v{any_of.choice((1, 1, 2))}" for _ in range(6)]
-    value = {"Health": any_of.randrange(9), "Name": any_of.choice("abc"), "Hidden": True, "Target": "0v1"}
-    kind = any_of.choice(sorted(value))
-    commands: List[Callable[[], Any]] = [
-        lambda: world.spawn(**{kind: value[kind]}),
-        lambda: world.set_parent(world.spawn(Health=1), named[0]),  # type: ignore[arg-type]
-        lambda: world.insert(named[1], **{kind: value[kind]}),
-        lambda: world.remove(named[2], kind),
-        lambda: world.set_parent(named[3], named[4]),
-        lambda: world.despawn_all(named[5]),
-        lambda: world.put("left", kind),
-    ]
-    with world.frame():
-        for command in any_of.choices(commands, (4, 3, 3, 1, 3, 1, 1), k=any_of.randrange(1, 3)):
-            command()
-
-
-def steps_are_followed(begin: Begin) -> None:
-    """A view by deltas alone has what the scene has behind each of many frames, advances, undos and redos."""
-    with begin() as begun:
-        world, any_of = over_library(begun), random.Random(7)
-        world.add_system("age", AddInt("Health", -1), DespawnAtZero("Health"), need=["Health"])
-        view, done = Follower(world), Counter[str]()
-        for _ in range(1500):
-            do = any_of.choice(("frame", "frame", "frame", "frame", "advance", "undo", "redo"))
-            count = any_of.randrange(1, 5)
-            try:
-                if do == "frame":
-                    random_frame(world, any_of)
-                elif do == "advance":
-                    world.advance()
-                else:
-                    getattr(world, do)(count)
-            except Refused:
-                done["refused"] += 1
-                view.compare()
-                continue
-            steps = [world.future_step if do == "undo" else world.past_step] * (count if do in ("undo", "redo") else 1)
-            kept = [step(place) for place, step in enumerate(steps)]
-            assert None not in kept
-            told_by = [one.undone() if do == "undo" else one.deltas for one in reversed(kept) if one]
-            view.follow([each for deltas in told_by for each in deltas])
-            view.compare()
-            done[do] += 1
-        assert min(done.values()) >= 20 and len(done) == 5, done
+        world.spawn(Health=1)
+        world.drop_frame()
 
 
 def resources_by_calls(begin: Begin) -> None:
@@ -410,6 +301,9 @@ def calls_of(world: LibraryScene) -> List[Tuple[str, Callable[[], Any]]]:
         "resource": ("left",),
         "add_system": ("age",),
         "entities": (2,),
+        "texts": (1, "Name"),
+        "insert_all": (["0v1"],),
+        "set_depth": (5,),
     }
     aside = {"frame", "packed", "kinds_of", "version", "depth", "in_frame"}
     names = [name for name, _ in inspect.getmembers(LibraryScene) if not name.startswith("_") and name not in aside]
@@ -469,13 +363,13 @@ def frames_of_other_threads(begin: Begin) -> None:
 
 LIBRARY = (
     columns,
+    columns_of_texts,
     buffers,
     many_entities,
     moments,
     own_reads_in_frames,
     reasons_of_reads,
-    kept_steps,
-    steps_are_followed,
+    dropped_frames,
     resources_by_calls,
     advances_that_are_refused,
     other_threads,
@@ -487,14 +381,15 @@ LIBRARY = (
 
 
 def header_is_whole(library: str) -> None:
-    """The package has each call of scene.h with as many arguments, each structure with its fields, and each code, shape,
-    way and change with its number."""
+    """The package has each call of scene.h that it uses with as many arguments, each structure with its fields, and
+    each code, shape, way and change with its number."""
     text = re.sub(r"/\*.*?\*/", "", (TOP / "include/scene.h").read_text(), flags=re.DOTALL)
     calls = {name: taken.count(",") for name, taken in re.findall(r"scene_code scene_(\w+)\(([^)]*)\);", text)}
     assert len(calls) > 50 and calls.pop("open") == 0
     own = {name: len(takes) for name, takes in header.TAKES.items()}
     # (those that the package does without)
-    assert {name: count for name, count in calls.items() if name != "kind_named"} == own
+    unused = {"kind_named", "with", "with_text", "spawn", "save"}
+    assert {name: count for name, count in calls.items() if name not in unused} == own and unused < set(calls)
     structures = re.findall(r"typedef struct (?:\w+ )?\{(.*?)\} scene_(\w+);", text, re.DOTALL)
     names = {"tick_pair": "Ticks"}
     for body, name in structures:

@@ -19,15 +19,14 @@ import threading
 import traceback
 from contextlib import contextmanager, suppress
 from pathlib import Path
-from typing import TYPE_CHECKING, Any, Callable, Dict, Iterator, List, Optional, Tuple
+from typing import Any, Callable, Dict, Iterator, List, Optional, Tuple
 
 import scene
 import tried_calls
+import tried_settings
+import tried_writes
 from scene import BadLine, Calls, Closed, Ended, Entity, KindsDiffer, Refused, StoreError
 from trying import KINDS, TOP, UNUSUAL, Begin, error_of, is_bad, refusal, spawned, to_come, told
-
-if TYPE_CHECKING:
-    from scene.library import LibraryScene
 
 PROGRAM = str(TOP / "crates/scene/out/scene")
 EXAMPLES = TOP / "examples"
@@ -230,7 +229,7 @@ def names_of_kinds(begin: Begin) -> None:
         with world.frame():
             assert {name: world.shape_of(name) for name in names} == names
             assert world.shape_of("Entity") is None and world.shape_of("no kind") is None
-    for asked, number in (({"9": "Tag"}, 30), ({"a b": "Tag"}, 5), ({"Health": "Float"}, None)):
+    for asked, number in (({"9": "Tag"}, 30), ({"a b": "Tag"}, 30), ({"Health": "Float"}, None)):
         error = error_of(KindsDiffer, begin, asked)
         assert error.number == number and [*asked][0] in str(error), error
     for wrong in ({"Health": int}, {"Health": None}, {5: "Int"}, ["Health"], 5):
@@ -373,44 +372,6 @@ def reasons(begin: Begin) -> None:
             assert long in str(error_of(BadLine, world.line, f"{long} {long}"))
             world.spawn(Health=1)
         assert len(world.rows()) == 1
-
-
-def dropped_frames(begin: Begin) -> None:
-    """A frame that is dropped does nothing, and isn't a call."""
-    from scene.library import LibraryScene
-
-    with begin() as world:
-        assert isinstance(world, LibraryScene)
-        cat = spawned(world, Health=9)
-        before = world.show(), world.line("history")
-        assert not world.drop_frame()
-        for _ in range(2):
-            world.line("begin")
-            world.insert(cat, Health=5)
-            assert world.drop_frame() and not world.drop_frame()
-        error_of(ZeroDivisionError, fail_in_frame, world)
-        assert (world.show(), world.line("history")) == before
-        # Its `with` finds no frame any more.
-        error = error_of(BadLine, drop_in_frame, world)
-        assert "no frame is open" in str(error)
-        world.undo()
-        assert not world.rows()
-        world.close()
-        assert "closed" in str(error_of(Closed, world.drop_frame))
-
-
-def fail_in_frame(world: Calls) -> None:
-    """A frame that an error ends."""
-    with world.frame():
-        world.spawn(Health=1)
-        raise ZeroDivisionError
-
-
-def drop_in_frame(world: "LibraryScene") -> None:
-    """A frame that is dropped before its end."""
-    with world.frame():
-        world.spawn(Health=1)
-        world.drop_frame()
 
 
 def refused_lines(begin: Begin) -> None:
@@ -719,8 +680,9 @@ BOTH = (
     reasons,
     refused_lines,
     *tried_calls.BOTH,
+    *tried_settings.BOTH,
+    *tried_writes.BOTH,
 )
-LIBRARY = (dropped_frames,)
 PROGRAMS = (
     stores,
     kinds_of_stores,
@@ -729,6 +691,7 @@ PROGRAMS = (
     interrupted_calls,
     notes,
     examples_twice,
+    *tried_settings.PROGRAMS,
 )
 
 
@@ -736,11 +699,13 @@ def of_library(path: str, library: Begin) -> List[Tuple[str, Callable[..., None]
     """What is tried over the library at a path."""
     # (a Python without ctypes has the shell)
     import tried_library  # pylint: disable=import-outside-toplevel
+    import tried_steps  # pylint: disable=import-outside-toplevel
 
+    own = (*tried_library.LIBRARY, *tried_steps.LIBRARY, *tried_settings.LIBRARY, *tried_writes.LIBRARY)
     of_path = (library_example, names_of_faults, tried_library.header_is_whole, frames_example)
     names = sorted(found.stem for found in EXAMPLES.glob("*.scene") if is_run(found.stem))
     return [
-        *(("the library", one, (library,)) for one in (*BOTH, *LIBRARY, *tried_library.LIBRARY)),
+        *(("the library", one, (library,)) for one in (*BOTH, *own)),
         *(("the library", one, (path,)) for one in of_path),
         *(("lines.py", plays, (path, name)) for name in names),
     ]

@@ -2,9 +2,12 @@
 from __future__ import annotations
 
 from pathlib import Path
-from typing import Any, Callable, List, Optional, Tuple, Type, TypeVar
+from typing import TYPE_CHECKING, Any, Callable, List, Optional, Tuple, Type, TypeVar
 
 from scene import BadLine, Calls, Entity, Refused, Spawned
+
+if TYPE_CHECKING:
+    from scene.library import LibraryScene
 
 TOP = Path(__file__).resolve().parents[2]
 KINDS = {"Name": "Text", "Health": "Int", "At": "Vec3", "Hidden": "Tag", "Target": "Link"}
@@ -43,6 +46,15 @@ def is_bad(call: Callable[..., Any], /, *words: Any, **cells: Any) -> bool:
 def told(refused: Refused) -> Tuple[int, str, List[str], Optional[Tuple[int, ...]]]:
     """All that a refusal tells."""
     return refused.number, refused.name, refused.fields, refused.place
+
+
+def over_library(world: Calls) -> "LibraryScene":
+    """The scene, which has to be over the library."""
+    # (a Python without ctypes has the shell)
+    from scene.library import LibraryScene  # pylint: disable=import-outside-toplevel
+
+    assert isinstance(world, LibraryScene)
+    return world
 
 
 def spawned(world: Calls, **cells: Any) -> Entity:

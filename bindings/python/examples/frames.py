@@ -18,7 +18,7 @@ from pathlib import Path
 
 sys.path.insert(0, str(Path(__file__).resolve().parents[1]))
 
-from scene import AddInt, AddVec, CountInto, Entity, Refused  # noqa: E402
+from scene import AddInt, AddVec, CountInto, Refused  # noqa: E402
 from scene.library import LibraryScene  # noqa: E402
 
 COUNT, GROUPS, FRAMES, STEPS, DEPTH = 10_000, 100, 60, 300, 25
@@ -66,7 +66,7 @@ class Model:
 
 
 class StepView:
-    """What the scene holds, kept by the deltas of frames, undos and redos: it asks again for the resource alone."""
+    """What the scene holds, kept by the deltas of frames, undos and redos alone."""
 
     def __init__(self, level, ids):
         self.level, self.moment, self.followed = level, level.now(), 0
@@ -89,13 +89,13 @@ class StepView:
     def write(self, deltas):
         """Follows the deltas of a frame."""
         at, places = self.lists, self.places
-        for change, entity, kind, _, after, _, parent in deltas:
-            if kind in FOLLOWED:
-                at[kind][places[entity]] = after
-            elif change == "linked":
-                at["parent"][places[entity]] = places[parent]
-            elif change == "resource":
-                at["resources"] = [self.level.resource("title")]
+        for delta in deltas:
+            if delta.kind in FOLLOWED:
+                at[delta.kind][places[delta.entity]] = delta.after
+            elif delta.change == "linked":
+                at["parent"][places[delta.entity]] = places[delta.parent_after]
+            elif delta.name == "title":
+                at["resources"] = [delta.after]
         self.followed += len(deltas)
 
 
@@ -314,7 +314,7 @@ def save_and_load(level, library):
 def main():
     library = sys.argv[1] if len(sys.argv) > 1 else None
     with LibraryScene(KINDS, library) as level:
-        level.request("depth", limit=DEPTH)
+        level.set_depth(DEPTH)
         game = Game(level)
         checksum = 0
         for number in range(FRAMES):

@@ -19,7 +19,8 @@
 `scene.open` gives either. docs/MODEL.md says what the calls do, docs/SCRIPTS.md what lines do, docs/BINDINGS.md how the
 package is installed.
 
-A `spawn` gives an entity, and in a frame a `Spawned`, which stands for the one that is to come.
+A `spawn` gives an entity, and in a frame a `Spawned`, which stands for the one that is to come. `insert_all` writes to
+many entities in one frame.
 
 Values are True for a Tag, int, three ints, str, and an entity for a Link; numbers may be given as a line writes them. A
 text has any characters. `request` says what has no call of its own, as `despawnifalive`.

@@ -1,4 +1,4 @@
-"""Answers to requests over the library, as the shell writes them in JSON (docs/SHELL.md, "JSON")."""
+"""Answers over the library to requests that ask for a text, in the JSON of the shell (docs/SHELL.md, "JSON")."""
 from __future__ import annotations
 
 import json
@@ -8,9 +8,8 @@ from scene.errors import BadLine
 from scene.reads import Reads, shown
 from scene.values import Cell, Entity, Value
 
-# What a request that is done says by its first word; commands say `done`, or in a frame `queued`.
-SAID = {"undo": "undone", "redo": "redone"}
-SAID.update(dict.fromkeys("kind slots calls depth load begin queue phase clear system as".split(), "ok"))
+# The requests that ask for a text, which stands in the library's own JSON as a string.
+ASK_TEXT = ("show", "get", "dump", "dumpall")
 BAD_LINE = "bad line\n"
 
 
@@ -62,22 +61,9 @@ def world_in_json(level: Reads, text: str) -> Dict[str, Any]:
 
 
 def answer_to(level: Reads, do: str, keys: Mapping[str, Any], text: str) -> Dict[str, Any]:
-    """What a request is answered that was done: its last answer is there still, as reads leave that alone."""
-    if do in SAID:
-        return {"answer": SAID[do]}
-    if do in ("changed", "added"):
-        cells = [{"entity": str(entity), "kind": kind} for entity, kind in level.listed_last()]
-        return {"answer": do, "cells": cells}
+    """What a request is answered that has asked for a text."""
     if do == "show":
         return world_in_json(level, text)
     if do == "get":
         return {"answer": "row", **row_in_json(Entity(keys["entity"]), level.cells(keys["entity"]))}
-    if do == "mark":
-        return {"answer": do, **level.now()._asdict()}
-    if do == "history":
-        return {"answer": do, "calls": int(text.split()[1])}
-    if do in ("dump", "dumpall"):
-        return {"answer": "scene", "text": json.loads(text)}
-    if level.in_frame:
-        return {"answer": "queued"}
-    return {"answer": "done", "entities": list(map(str, level.spawned_last()))}
+    return {"answer": "scene", "text": json.loads(text)}

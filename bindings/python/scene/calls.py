@@ -5,12 +5,13 @@ import reprlib
 from abc import ABC, abstractmethod
 from contextlib import contextmanager
 from types import TracebackType
-from typing import Any, Dict, Iterator, List, Mapping, Optional, Sequence, Tuple, Type, TypeVar, Union, overload
+from typing import Any, Dict, Iterable, Iterator, List, Mapping, Optional, Sequence, Tuple, Type, TypeVar, Union
+from typing import overload
 
 from scene.errors import BadLine, KindsDiffer, Refused, SceneError
 from scene.systems import Step, step_asked
 from scene.values import SHAPES, Cell, Entity, Given, Named, Row, Spawned, Spawns, Status, Value, fitting, kind_named
-from scene.values import resource_value, shape_named, target_named, text_named
+from scene.values import entity_named, resource_value, shape_named, target_named, text_named
 
 Own = TypeVar("Own", bound="Calls")
 
@@ -85,9 +86,10 @@ class Calls(ABC):
     def declare(self, name: str, shape: str) -> None:
         """Declares a kind by its name and its shape, Tag, Int, Vec3, Text or Link.
 
-        That goes in the setup alone, which the first call of any other kind ends.
+        That goes in the setup alone, which the first call of any other kind ends. A name that isn't good, or is taken,
+        is refused.
         """
-        self.line(f"kind {kind_named(name)} {shape_named(name, shape)}")
+        self.request("kind", name=kind_named(name), shape=shape_named(name, shape))
 
     def _declare_all(self, kinds: Optional[Mapping[str, str]]) -> None:
         """Declares those of the kinds that aren't there. All are looked at before the first one is declared."""
@@ -136,6 +138,24 @@ class Calls(ABC):
         """The values of cells. All are read before one is given, so that none is left where one is bad."""
         return {name: fitting(name, *SHAPES[self._known_shape(name)], value) for name, value in cells.items()}
 
+    @abstractmethod
+    def set_depth(self, depth: int) -> None:
+        """Sets of how many frames a record is kept, 1 to 1,048,576: those beyond it can't be undone or redone any more.
+
+        Over the library that goes at any time, also in an open frame, and begins the count of the line `history` anew;
+        over the shell in the setup alone, and behind it is a BadLine.
+        """
+
+    def _fitting_column(self, kind: str, values: Iterable[Given], count: int) -> List[Value]:
+        """The values of a column, which are so many."""
+        shape = SHAPES[self._known_shape(kind)]
+        if isinstance(values, (str, bytes)) or not isinstance(values, Iterable):
+            raise TypeError(f"{kind} has a value for each entity, and {reprlib.repr(values)} has none")
+        found = [fitting(kind, *shape, value) for value in values]
+        if len(found) != count:
+            raise BadLine(f"{kind} has a value for each entity: {len(found)} values are given to {count} entities")
+        return found
+
     # ---- commands
 
     @abstractmethod
@@ -152,6 +172,21 @@ class Calls(ABC):
 
         Each is a frame of its own where none is open. All values are read before the first one is given.
         """
+
+    def insert_all(self, entities: Iterable[Named], /, **columns: Iterable[Given]) -> None:
+        """Gives many entities components, or other values to those that they have, as one frame: all, or none.
+
+        Each kind has a value for each entity, in their order, as `insert_all([cat, dog], Health=[5, 6])`; they are
+        written kind by kind. Where there is nothing to write it is a frame too. All values are read before the first
+        one is given. Another count of values, and an open frame, are a BadLine; where one is refused, its `place` tells
+        the number of the write.
+        """
+        named = [entity_named(entity) for entity in entities]
+        writes = [(kind, self._fitting_column(kind, values, len(named))) for kind, values in columns.items()]
+        with self.frame():
+            for kind, values in writes:
+                for entity, value in zip(named, values):
+                    self.request("insert", entity=entity, kind=kind, value=value)
 
     def remove(self, entity: Named, kind: str) -> None:
         """Takes the component of a kind from an entity. Where it has none, that is refused."""
@@ -356,9 +391,12 @@ class Calls(ABC):
 
     # ---- texts
 
-    def save(self) -> str:
-        """The scene, with all that can be undone and redone, as a text of one line."""
-        return self.line("dumpall")[0]
+    def save(self, world_alone: bool = False) -> str:
+        """The scene, with all that can be undone and redone, or its world alone, as a text of one line.
+
+        Refused as TooLong, where that would have more than 67,108,864 bytes.
+        """
+        return self.line("dump" if world_alone else "dumpall")[0]
 
     @abstractmethod
     def load(self, text: str) -> None:

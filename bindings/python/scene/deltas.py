@@ -1,49 +1,67 @@
-"""What a frame did that is kept, as the library tells it: deltas, by which a view follows without reading all anew."""
+"""What a frame did that is kept, as the library tells it: deltas, by which a view follows without reading the scene."""
 from __future__ import annotations
 
-from enum import Enum
+from functools import lru_cache
 from struct import Struct
-from typing import Any, List, NamedTuple, Optional, Sequence, Union
+from typing import Any, Callable, Dict, List, NamedTuple, Optional, Sequence, Tuple
 
-from scene.header import ABSENT, INT, LINK, NOBODY, SET, SHIFTED, TAG, VEC3
+from scene.cells import CELL
+from scene.header import ABSENT, DESPAWNED, INT, LINK, LINKED, NOBODY, RESOURCE, SHIFTED, SPAWNED, TAG, VEC3
 from scene.values import Entity, Value
 
 # What a delta did, by its number in scene.h.
 CHANGES = ("spawned", "despawned", "shifted", "set", "linked", "resource")
 BACKWARD = {"spawned": "despawned", "despawned": "spawned"}
-# A `RawDelta`: the change, the entity, two cells, two parents. (field by field, ctypes reads them far slower)
-LAYOUT = Struct("3I4x2I3q2I3q4I")
-
-
-class Apart(Enum):
-    """What stands in a delta for a text: it comes apart, by `get` or `values`, which tell the one that is there now."""
-
-    TEXT = "text"
+# A `RawDelta`, field by field: ctypes reads them far slower.
+LAYOUT = Struct("4I2I3q2I3q6I")
+# Which text of a delta: the one before it, the one after it, or the name of its resource.
+BEFORE, AFTER, NAME = range(3)
+# The kind by which a text is asked for that is of no row: there it means nothing.
+ANY = 0
+# An entity that is none.
+NONE = (NOBODY.index, NOBODY.generation)
 
 
 class Delta(NamedTuple):
-    """One thing that a frame did (docs/JOURNAL.md, "The six deltas"), where what isn't told is None."""
+    """One thing that a frame did (docs/JOURNAL.md, "The six deltas"). What there isn't is None.
+
+    A row stands at a place of its table, which is that of its kind set. From there it leaves by swap out: the table's
+    last row then has its place. To a place it comes by the same backward: the row that was there goes last. A child's
+    place is counted among the parent's other children. All places are from 0."""
 
     change: str
-    """In a word: an entity is `spawned`, with components that the scene tells, or `despawned`; a component is there or
-    gone, `shifted`, or has another value, `set`; an entity has another parent or place, `linked`; or a `resource`, of
-    which nothing else is told, came, went or was written."""
+    """In a word: an entity is `spawned` or `despawned`; a component came or went, `shifted`, or was written, `set`; an
+    entity has another parent or place, `linked`; or a `resource` came, went or was written."""
     entity: Optional[Entity]
-    kind: Optional[str]
-    """The name of the component's kind."""
-    before: Union[Value, Apart, None]
-    """The value of the component before; None where it wasn't there, and `Apart.TEXT` for a text."""
-    after: Union[Value, Apart, None]
+    """The entity; None of a `resource`."""
+    kind: Optional[str] = None
+    """The name of the component's kind, where it is `shifted` or `set`."""
+    before: Optional[Value] = None
+    """The value of the component, or of the resource, before; None where it wasn't there."""
+    after: Optional[Value] = None
     """The value after."""
-    parent_before: Optional[Entity]
-    """The parent of an entity that is `linked` or `despawned`; None where it had none."""
-    parent_after: Optional[Entity]
-    """Its parent after."""
+    parent_before: Optional[Entity] = None
+    """The parent before, where the entity is `linked` or `despawned`; None where it had none."""
+    parent_after: Optional[Entity] = None
+    """The parent after, where it is `linked`, or backward `spawned`."""
+    place_before: Optional[int] = None
+    """The place among the children of the parent before."""
+    place_after: Optional[int] = None
+    """The place among the children of the parent after."""
+    row_before: Optional[int] = None
+    """Where it is `despawned` or `shifted`, the place of the row in the table that it left; None for the last one."""
+    row_after: Optional[int] = None
+    """Where it is `spawned` or `shifted`, the place of the row in the table to which it came; None for the last one."""
+    cells: Optional[Dict[str, Value]] = None
+    """The row's components by the names of their kinds, where it is `spawned` or `despawned`."""
+    name: Optional[str] = None
+    """The name of the resource."""
 
     def undone(self) -> Delta:
         """The same backward: before and after exchanged, and so are `spawned` and `despawned`."""
-        change, entity, kind, before, after, parent_before, parent_after = self
-        return Delta(BACKWARD.get(change, change), entity, kind, after, before, parent_after, parent_before)
+        change, entity, kind, before, after, parent, to, place, to_place, row, to_row, cells, name = self
+        back = BACKWARD.get(change, change)
+        return Delta(back, entity, kind, after, before, to, parent, to_place, place, to_row, row, cells, name)
 
 
 class KeptStep(NamedTuple):
@@ -61,32 +79,67 @@ class KeptStep(NamedTuple):
 
 def entity_or_none(index: int, generation: int) -> Optional[Entity]:
     """An entity, where it isn't `SCENE_NONE`."""
-    return None if (index, generation) == (NOBODY.index, NOBODY.generation) else Entity(f"{index}v{generation}")
+    return None if (index, generation) == NONE else Entity(f"{index}v{generation}")
 
 
-def value_or_none(shape: int, x: int, y: int, z: int) -> Union[Value, Apart, None]:
-    """What a cell of a delta has."""
-    if shape == INT:
-        return x
-    if shape == VEC3:
-        return x, y, z
-    if shape == LINK:
-        return Entity(f"{x}v{y}")
-    if shape == TAG:
-        return True
-    return None if shape == ABSENT else Apart.TEXT
+class DeltasOfStep:
+    """The deltas of a step, where the kinds have these names. Rows and texts come apart, those of all deltas at once:
+    `runs` gives the bytes of each delta, by the name of a call, the size of its items, and what else it takes."""
 
+    def __init__(self, names: Sequence[str], runs: Callable[..., List[bytes]]) -> None:
+        self._names, self._runs = names, runs
+        # Each is asked for where a delta needs it, and then once.
+        self._rows = lru_cache(maxsize=None)(self._all_rows)
+        self._texts = lru_cache(maxsize=None)(self._all_texts)
 
-def deltas_in(raw: Any, names: Sequence[str]) -> List[Delta]:
-    """The deltas of a ctypes array of them, where the kinds have these names."""
-    found = []
-    for change, index, generation, *told in LAYOUT.iter_unpack(raw):
-        entity = entity_or_none(index, generation)
-        if change in (SHIFTED, SET):
-            before, after = value_or_none(*told[1:5]), value_or_none(*told[6:10])
-            kind = names[told[5] if before is None else told[0]]
-            found.append(Delta(CHANGES[change], entity, kind, before, after, None, None))
-        else:
-            parents = entity_or_none(*told[10:12]), entity_or_none(*told[12:])
-            found.append(Delta(CHANGES[change], entity, None, None, None, *parents))
-    return found
+    def _all_rows(self) -> List[bytes]:
+        """The cells of the row that each delta brought or took away."""
+        return self._runs("delta_rows", CELL.size)
+
+    def _all_texts(self, which: int, kind: int) -> List[str]:
+        """A text of each delta: which one, and of a row that of this kind."""
+        return [text.decode() for text in self._runs("delta_texts", 1, which, kind)]
+
+    def all_in(self, raw: Any) -> List[Delta]:
+        """The deltas of a ctypes array of all of them."""
+        return [self._delta(number, *told) for number, told in enumerate(LAYOUT.iter_unpack(raw))]
+
+    def _delta(self, number: int, change: int, index: int, generation: int, place: int, *told: int) -> Delta:
+        """A delta, of which this is told behind the place: two cells, and two parents, each with a place."""
+        word, entity = CHANGES[change], entity_or_none(index, generation)
+        if change == SPAWNED:
+            return Delta(word, entity, cells=self._cells(number, AFTER))
+        if change in (DESPAWNED, LINKED):
+            before, after = entity_or_none(*told[10:12]), entity_or_none(*told[13:15])
+            places = None if before is None else told[12], None if after is None else told[15]
+            if change == LINKED:
+                return Delta(word, entity, None, None, None, before, after, *places)
+            cells = self._cells(number, BEFORE)
+            return Delta(word, entity, None, None, None, before, None, *places, place, cells=cells)
+        values = self._value(number, BEFORE, told[:5], ANY), self._value(number, AFTER, told[5:10], ANY)
+        if change == RESOURCE:
+            return Delta(word, None, None, *values, name=self._texts(NAME, ANY)[number])
+        kind = self._names[told[5] if values[0] is None else told[0]]
+        return Delta(word, entity, kind, *values, row_before=place if change == SHIFTED else None)
+
+    def _cells(self, number: int, which: int) -> Dict[str, Value]:
+        """The components of a row that came or went."""
+        cells = {}
+        for cell in CELL.iter_unpack(self._rows()[number]):
+            value = self._value(number, which, cell, cell[0])
+            assert value is not None
+            cells[self._names[cell[0]]] = value
+        return cells
+
+    def _value(self, number: int, which: int, cell: Tuple[int, ...], kind: int) -> Optional[Value]:
+        """What a cell has; a text is looked for among those that are asked for by this kind."""
+        _, shape, x, y, z = cell
+        if shape == INT:
+            return x
+        if shape == VEC3:
+            return x, y, z
+        if shape == LINK:
+            return Entity(f"{x}v{y}")
+        if shape == TAG:
+            return True
+        return None if shape == ABSENT else self._texts(which, kind)[number]

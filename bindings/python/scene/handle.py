@@ -5,13 +5,16 @@ import ctypes
 from ctypes import byref, c_size_t, c_void_p
 from pathlib import Path
 from threading import get_ident
-from typing import Any, NamedTuple, Tuple, Union
+from typing import Any, List, NamedTuple, Tuple, Union
 
 from scene.errors import NoMemory, OtherThread
 from scene.header import BAD, DONE, REFUSED, TAKES, load_library
 
 # The longest text, in bytes, that is read at once; a longer one is asked for again.
 ROOM = 4096
+# So many texts of a column are read at once, and so many bytes of them; one that is longer is asked for again. Where
+# more are asked for at once, there is room for so many bytes of each.
+TEXTS, TEXTS_ROOM, TEXT_ROOM = 1024, 65_536, 64
 
 
 class Played(NamedTuple):
@@ -34,6 +37,7 @@ class Library:
         # What calls write into: a scene has one thread, and one call at a time.
         self._room, self._total = ctypes.create_string_buffer(ROOM), c_size_t(0)
         self._to_total = byref(self._total)
+        self._length_saved = 0
         if self._library.scene_open(self._at) != DONE:
             raise NoMemory("no memory for a scene")
 
@@ -64,6 +68,10 @@ class Library:
         code = self.call(call, line, len(line))
         return Played(code, self.answer() if code in (DONE, REFUSED, BAD) else b"")
 
+    def answer_in_json(self) -> bytes:
+        """The last answer in JSON; empty where memory was wanting for it."""
+        return self.answer() if self.call("answer_json") == DONE else b""
+
     def reason(self) -> str:
         """Why the last call was bad, in words, which are the text of its answer then; empty where that isn't known."""
         return self.answer().decode() if self.call("bad_reason") == DONE else ""
@@ -89,15 +97,43 @@ class Library:
         code = self.call(name, *arguments, 0, items, len(items), self._to_total)
         return code, self._total.value
 
-    def text(self, name: str, *arguments: Any) -> Tuple[int, str]:
-        """The code of a call that reads a text, and the text."""
+    def text(self, name: str, *arguments: Any, length: int = ROOM) -> Tuple[int, str]:
+        """The code of a call that reads a text, and the text. One that is longer than that is asked for twice."""
         total, room = self._total, self._room
+        if length > ROOM:
+            room = ctypes.create_string_buffer(length)
         total.value = 0
-        code = self.call(name, *arguments, 0, room, ROOM, self._to_total)
-        if total.value > ROOM:
+        code = self.call(name, *arguments, 0, room, len(room), self._to_total)
+        if total.value > len(room):
             room = ctypes.create_string_buffer(total.value)
             code = self.call(name, *arguments, 0, room, total.value, self._to_total)
         return code, ctypes.string_at(room, total.value).decode()
+
+    def saved(self, version: int) -> Tuple[int, str]:
+        """The code of the call that saves, and the text. Each call makes it whole, so there is room for one that is
+        somewhat longer than the last."""
+        code, text = self.text("save_into", version, length=self._length_saved)
+        self._length_saved = self._total.value * 5 // 4
+        return code, text
+
+    def runs(self, name: str, size: int, *arguments: Any, places: int = TEXTS) -> Tuple[int, List[bytes]]:
+        """The code of a call that lists texts, or other items of so many bytes, of which several belong to each place;
+        and the bytes of each place. So many places are asked for at once."""
+        ends, told = (c_size_t * places)(), c_size_t(0)
+        room = ctypes.create_string_buffer(max(TEXTS_ROOM, places * TEXT_ROOM))
+        found: List[bytes] = []
+        while True:
+            many = (ends, places, room, len(room) // size, byref(told), self._to_total)
+            code = self.call(name, *arguments, len(found), *many)
+            if code != DONE or len(found) == self._total.value:
+                return code, found
+            if told.value == 0:
+                # The next one is longer than the room.
+                room = ctypes.create_string_buffer(2 * len(room))
+                continue
+            begins = [0, *(end * size for end in ends[: told.value])]
+            data = ctypes.string_at(room, begins[-1])
+            found += [data[begin:end] for begin, end in zip(begins, begins[1:])]
 
     @property
     def version(self) -> Tuple[int, int, int]:

@@ -74,8 +74,9 @@ class RawInfo(ctypes.Structure):
 class RawDelta(ctypes.Structure):
     """`scene_delta`."""
 
-    _fields_ = [("change", c_uint32), ("entity", RawEntity), ("before", RawCell), ("after", RawCell)]
-    _fields_ += [("parent_before", RawEntity), ("parent_after", RawEntity)]
+    _fields_ = [("change", c_uint32), ("entity", RawEntity), ("place", c_uint32), ("before", RawCell)]
+    _fields_ += [("after", RawCell), ("parent_before", RawEntity), ("place_before", c_uint32)]
+    _fields_ += [("parent_after", RawEntity), ("place_after", c_uint32)]
 
 
 # What is none, and so never alive: a command about it is refused.
@@ -92,15 +93,23 @@ def listing(item: Any) -> List[Any]:
 
 CELL = [POINTER(RawCell), POINTER(RawTicks)]
 BYTES = [c_char_p, c_size_t]
+# (entities and cells that are read go as the bytes that they are)
+ITEMS = [c_void_p, c_size_t]
 # (a text is listed byte by byte)
 READS_TEXT = listing(None)
 SINCE = [RawMoment, c_uint64, c_uint64, *listing(RawName)]
-# What the calls of scene.h take behind the scene, but for those declared below; try_scene.py compares the two.
+# (items of which several belong to each place, one behind the other: with where those of each place end)
+RUNS = [c_size_t, POINTER(c_size_t), c_size_t, c_void_p, c_size_t, COUNT, COUNT]
+STEP = [c_uint32, c_size_t]
+# What the calls of scene.h take behind the scene, but for those declared below, and those for which `spawn_cells`,
+# `save_into` and `kind` stand; try_scene.py compares the two.
 TAKES: Dict[str, List[Any]] = {
     "line": BYTES,
     "request": BYTES,
     "bad_reason": [],
-    "save": [],
+    "answer_json": [],
+    "declare": [*BYTES, c_uint32, POINTER(c_uint32)],
+    "set_depth": [c_uint32],
     "load": BYTES,
     "begin": [],
     "commit": [],
@@ -110,13 +119,12 @@ TAKES: Dict[str, List[Any]] = {
     "redo": [],
     "undo_by": [c_size_t],
     "redo_by": [c_size_t],
-    "with": [RawCell],
-    "with_text": [c_uint32, *BYTES],
-    "spawn": [],
+    "spawn_cells": [*ITEMS, *BYTES, POINTER(RawEntity)],
     "despawn": [RawEntity],
     "despawn_all": [RawEntity],
     "insert": [RawEntity, RawCell],
     "insert_text": [RawEntity, c_uint32, *BYTES],
+    "insert_cells": [*ITEMS, *ITEMS, *BYTES],
     "remove": [RawEntity, c_uint32],
     "set_parent": [RawEntity, RawEntity],
     "remove_parent": [RawEntity],
@@ -126,6 +134,7 @@ TAKES: Dict[str, List[Any]] = {
     "phase": [],
     "clear_systems": [],
     "advance": [],
+    "check_systems": [POINTER(RawRefusal)],
     "get": [RawEntity, c_uint32, POINTER(RawCell)],
     "mark": [],
     "changed": [],
@@ -142,6 +151,7 @@ TAKES: Dict[str, List[Any]] = {
     "ints": [c_uint64, c_uint32, *listing(c_int64)],
     "vec3s": [c_uint64, c_uint32, *listing(RawVec3)],
     "links": [c_uint64, c_uint32, *listing(RawEntity)],
+    "texts": [c_uint64, c_uint32, *RUNS],
     "ticks": [c_uint64, c_uint32, c_uint32, *listing(c_uint64)],
     "kind": [c_uint32, POINTER(c_uint32), *READS_TEXT],
     "read": [RawEntity, c_uint32, *CELL],
@@ -153,7 +163,10 @@ TAKES: Dict[str, List[Any]] = {
     "now": [POINTER(RawMoment)],
     "changed_since": SINCE,
     "added_since": SINCE,
-    "step": [c_uint32, c_size_t, POINTER(c_uint64), *listing(RawDelta)],
+    "step": [*STEP, POINTER(c_uint64), *listing(RawDelta)],
+    "delta_rows": [*STEP, *RUNS],
+    "delta_texts": [*STEP, c_uint32, c_uint32, *RUNS],
+    "save_into": [c_uint32, *READS_TEXT],
 }
 
 

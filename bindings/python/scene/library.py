@@ -11,31 +11,33 @@
 `./scene library FOLDER` makes the library. Without a path, it is the one that the variable SCENE_LIBRARY names, or else
 libscene.so in the folder that SCENE_LIB_DIR names.
 
-Columns, many entities in one call, moments, and what each kept frame did are its own, beside those calls. A column is a
-ctypes array, which numpy takes without a copy.
+Columns, many entities read in one call, moments, what each kept frame did, and a check of systems are its own, beside
+those calls. A column is a ctypes array, which numpy takes without a copy; one of texts is a list.
 """
 from __future__ import annotations
 
 import json
 from contextlib import suppress
-from ctypes import byref
+from ctypes import byref, c_uint32
 from pathlib import Path
-from typing import Any, Dict, List, Mapping, Optional, Tuple, Union
+from typing import Any, Dict, Iterable, List, Mapping, Optional, Tuple, Union
 
-from scene.answers import BAD_LINE, answer_to, bad_request
-from scene.deltas import Apart, Delta, KeptStep
-from scene.errors import BadLine, Lost, NoMemory, Refused, Untold
+from scene.answers import ASK_TEXT, BAD_LINE, answer_to, bad_request
+from scene.cells import packed_cells, raw_component
+from scene.deltas import Delta, KeptStep
+from scene.errors import BadLine, Lost, Refused, Untold
 from scene.handle import Library, Played
-from scene.header import BAD, CLOSED, DONE, INT, LINK, LOST, NO_MEMORY, NOBODY, REFUSED, TAG, UNTOLD, VEC3
-from scene.header import RawCell, RawEntity, RawRefusal, load_library
-from scene.reads import IN_FRAME, Moment, Reads, raw_entity, shown
-from scene.values import SHAPES, Entity, Given, Named, Spawned, Value, count_named, fitting, read_text, resource_value
-from scene.values import target_named, text_named
+from scene.header import BAD, CLOSED, DONE, LOST, NO_MEMORY, REFUSED, UNTOLD, RawEntity, RawRefusal, load_library
+from scene.reads import IN_FRAME, SHAPE_NAMES, Moment, Reads, raw_entity, shown
+from scene.values import SHAPES, Entity, Given, Named, Spawned, Value, count_named, depth_named, fitting, kind_named
+from scene.values import read_text, resource_value, shape_named, target_named, text_named
 
-__all__ = ["Apart", "BAD", "CLOSED", "DONE", "Delta", "KeptStep", "LOST", "Library", "LibraryScene", "Lost", "Moment"]
+__all__ = ["BAD", "CLOSED", "DONE", "Delta", "KeptStep", "LOST", "Library", "LibraryScene", "Lost", "Moment"]
 __all__ += ["NO_MEMORY", "Played", "REFUSED", "UNTOLD", "Untold", "load_library"]
 
 HISTORY_FULL, REWOUND = 17, 18
+# What a scene text has, by its version.
+WORLD_ALONE, WITH_HISTORY = 1, 2
 # As many as a count can tell; no scene has so many frames.
 MOST = 2**64 - 1
 
@@ -48,21 +50,14 @@ def raw_target(given: Named) -> RawEntity:
     return RawEntity(int(target[1:]), 0) if target.startswith("+") else raw_entity(target)
 
 
-def raw_component(kind: int, value: Value) -> Union[RawCell, bytes]:
-    """A component as the library takes it: its kind and its numbers, or its text."""
-    if isinstance(value, Entity):
-        return RawCell(kind, LINK, value.index, value.generation)
-    if isinstance(value, str):
-        return value.encode()
-    if isinstance(value, tuple):
-        return RawCell(kind, VEC3, *value)
-    return RawCell(kind, TAG) if value is True else RawCell(kind, INT, value)
+def in_bytes(what: str, name: object) -> bytes:
+    """A name that a caller gives, as the library takes it."""
+    return fitting(what, read_text, "a text", text_named(what, name)).encode()
 
 
 def name_in_bytes(name: object) -> bytes:
     """The name of a resource as the library takes it."""
-    what = "the name of a resource"
-    return fitting(what, read_text, "a text", text_named(what, name)).encode()
+    return in_bytes("the name of a resource", name)
 
 
 class LibraryScene(Reads):
@@ -74,8 +69,9 @@ class LibraryScene(Reads):
 
     def __init__(self, kinds: Optional[Mapping[str, str]] = None, library: Union[str, Path, None] = None) -> None:
         super().__init__(Library(library))
-        # Whether want of memory left components for a spawn that didn't come.
-        self._is_stuck = False
+        # What a spawn writes into.
+        self._made = RawEntity()
+        self._to_made = byref(self._made)
         self._declare_all(kinds)
 
     def close(self) -> None:
@@ -97,7 +93,6 @@ class LibraryScene(Reads):
 
     def _played(self, asked: bytes, call: str) -> Played:
         """Plays a line or a request, and looks at what it may have changed."""
-        self._settle()
         played = self._scene.play(asked, call)
         if played.code != CLOSED:
             self._look()
@@ -123,28 +118,20 @@ class LibraryScene(Reads):
             raise bad_request(text)
         self._came(code, do)
         self._noted(do)
-        return answer_to(self, do, keys, text)
+        return answer_to(self, do, keys, text) if do in ASK_TEXT else self._answered(do)
+
+    def _answered(self, do: str) -> Dict[str, Any]:
+        """The answer to a request that was done."""
+        told = self._scene.answer_in_json()
+        if not told:
+            raise Untold(do)
+        answer: Dict[str, Any] = json.loads(told)
+        return answer
 
     # ---- what calls come to
 
-    def _settle(self) -> None:
-        """Lets go what was given for a spawn that didn't come: it goes with a spawn in a frame that isn't done."""
-        if not self._is_stuck:
-            return
-        if not self._in_frame and self._scene.call("begin") != DONE:
-            raise NoMemory("begin")
-        self._scene.call("spawn")
-        if not self._in_frame:
-            self._scene.call("drop_frame")
-        elif self._scene.call("despawn", NOBODY) != DONE:
-            # By this the open frame, which has a spawn too many now, will be refused.
-            raise NoMemory("despawn")
-        self._is_stuck = False
-
     def _call(self, name: str, *arguments: Any) -> None:
         """Makes a call, and raises why it wasn't done."""
-        if self._is_stuck:
-            self._settle()
         code = self._scene.call(name, *arguments)
         if code == REFUSED:
             raise self._refusal()
@@ -156,7 +143,7 @@ class LibraryScene(Reads):
         raw, text = RawRefusal(), self._scene.answer().decode().rstrip("\n")
         if self._scene.call("refused", byref(raw)) != DONE or text:
             return Refused(text)
-        told = f"refused {raw.fault} {self._scene.fault_name(raw.fault)}"
+        told = self._fault_told(raw)
         if raw.fault == HISTORY_FULL:
             # Its field is the length of the history, which no other call tells.
             told += f" {self.request('history')['calls']}"
@@ -166,45 +153,60 @@ class LibraryScene(Reads):
             told += f" at {raw.phase}.{raw.queue}.{raw.command}"
         return Refused(told)
 
+    def _fault_told(self, raw: RawRefusal) -> str:
+        """A fault as a line tells it, without its fields."""
+        return f"refused {raw.fault} {self._scene.fault_name(raw.fault)}"
+
+    # ---- kinds
+
+    def declare(self, name: str, shape: str) -> None:
+        asked, number = SHAPE_NAMES.index(shape_named(kind_named(name), shape)), c_uint32(0)
+        named = in_bytes("the name of a kind", name)
+        self._call("declare", named, len(named), asked, byref(number))
+        self._names.append(name)
+        self._kinds[name] = number.value, shape
+
+    def set_depth(self, depth: int) -> None:
+        self._call("set_depth", depth_named(depth))
+
     # ---- commands
 
-    def _components(self, cells: Mapping[str, Given]) -> List[Tuple[int, Union[RawCell, bytes]]]:
-        """Components as the library takes them, with the numbers of their kinds."""
+    def _components(self, cells: Mapping[str, Given]) -> List[Tuple[int, Value]]:
+        """Components by the numbers of their kinds."""
         made = []
         for name, value in cells.items():
-            found = self._kinds.get(name)
-            if found is None:
-                self._known(name)
-            else:
-                made.append((found[0], raw_component(found[0], fitting(name, *SHAPES[found[1]], value))))
+            number = self._number(name)
+            made.append((number, fitting(name, *SHAPES[self._kinds[name][1]], value)))
         return made
 
     def spawn(self, /, **cells: Given) -> Union[Entity, Spawned, None]:
-        components = self._components(cells)
-        try:
-            for kind, value in components:
-                if isinstance(value, bytes):
-                    self._call("with_text", kind, value, len(value))
-                else:
-                    self._call("with", value)
-        except MemoryError:
-            self._is_stuck = True
-            raise
-        self._call("spawn")
+        packed, texts = packed_cells(self._components(cells))
+        self._call("spawn_cells", packed, len(cells), texts, len(texts), self._to_made)
         if self._in_frame:
             self._noted("spawn")
             return self._spawned()
-        made = self._few[0]
-        self._came(self._scene.call("spawned", 0, made), "spawned")
-        return shown(made)
+        return shown(self._made)
 
     def insert(self, entity: Named, /, **cells: Given) -> None:
         target = raw_target(entity)
         for kind, value in self._components(cells):
-            if isinstance(value, bytes):
-                self._call("insert_text", target, kind, value, len(value))
+            component = raw_component(kind, value)
+            if isinstance(component, bytes):
+                self._call("insert_text", target, kind, component, len(component))
             else:
-                self._call("insert", target, value)
+                self._call("insert", target, component)
+
+    def insert_all(self, entities: Union[Iterable[Named], Any], /, **columns: Iterable[Given]) -> None:
+        raw = self._raw_array(entities)
+        writes = [
+            (self._number(kind), self._fitting_column(kind, values, len(raw))) for kind, values in columns.items()
+        ]
+        if self._in_frame:
+            self._scene.check_thread()
+            raise BadLine(IN_FRAME)
+        cells, texts = packed_cells((kind, value) for kind, values in writes for value in values)
+        count = len(raw) * len(writes)
+        self._call("insert_cells", bytes(raw) * len(writes), count, cells, count, texts, len(texts))
 
     def remove(self, entity: Named, kind: str) -> None:
         number = self._number(kind)
@@ -245,6 +247,16 @@ class LibraryScene(Reads):
     def advance(self) -> List[Entity]:
         self._call("advance")
         return self.spawned_last()
+
+    def check_systems(self) -> None:
+        """Raises what `advance` would refuse of the systems that there are: Refused as BadRule, where one breaks a
+        rule, or as Conflict, where two of a phase don't go together. Which ones, `advance` tells. It changes nothing,
+        and also goes in the setup and in an open frame."""
+        why = RawRefusal()
+        code = self._scene.call("check_systems", byref(why))
+        self._told(code, "check_systems")
+        if code == REFUSED:
+            raise Refused(self._fault_told(why))
 
     # ---- frames
 
@@ -296,9 +308,13 @@ class LibraryScene(Reads):
         self._call("changed")
         return self.listed_last()
 
-    def save(self) -> str:
-        self._call("save")
-        return self._scene.answer().decode().rstrip("\n")
+    def save(self, world_alone: bool = False) -> str:
+        self._asked()
+        code, text = self._scene.saved(WORLD_ALONE if world_alone else WITH_HISTORY)
+        self._told(code, "save_into")
+        if code == REFUSED:
+            raise Refused("fault 56 TooLong")
+        return text.rstrip("\n")
 
     def load(self, text: str) -> None:
         data = text.encode()

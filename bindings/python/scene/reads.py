@@ -9,7 +9,7 @@ from itertools import repeat
 from typing import Any, Dict, Iterable, List, NamedTuple, Optional, Sequence, Tuple, Union, overload
 
 from scene.calls import Calls
-from scene.deltas import KeptStep, deltas_in
+from scene.deltas import DeltasOfStep, KeptStep
 from scene.errors import BadLine, Closed, Lost, NoMemory, Refused, Untold
 from scene.handle import Library
 from scene.header import ABSENT, BACK, BAD, CLOSED, DONE, INT, LINK, LOST, NOBODY, ON, REFUSED, TEXT, UNTOLD, VEC3
@@ -271,7 +271,7 @@ class Reads(Calls):
         children: Dict[Entity, Tuple[Entity, ...]] = {}
         for mask, _ in self.tables():
             raw = self.entities(mask)
-            columns = {kind: self._column_of_cells(mask, kind, raw) for kind in self.kinds_of(mask)}
+            columns = {kind: self._column_of_cells(mask, kind) for kind in self.kinds_of(mask)}
             for place, entity in enumerate(raw):
                 named = shown(entity)
                 found.append((named, {kind: column[place] for kind, column in columns.items()}))
@@ -279,12 +279,12 @@ class Reads(Calls):
         parents = {child: parent for parent, below in children.items() for child in below}
         return [Row(entity, cells, parents.get(entity), children[entity]) for entity, cells in found]
 
-    def _column_of_cells(self, mask: int, kind: str, entities: Any) -> List[Cell]:
-        """The components of a kind in the rows of a kind set, which are those of these entities."""
-        number, shape = self._kinds[kind]
+    def _column_of_cells(self, mask: int, kind: str) -> List[Cell]:
+        """The components of a kind in the rows of a kind set."""
+        shape = self._kinds[kind][1]
         values: Iterable[Value] = repeat(True)
         if shape == "Text":
-            values = [self._text("read_text", entity, number) for entity in entities]
+            values = self.texts(mask, kind)
         elif shape != "Tag":
             values = self._numbers(self.column(mask, kind), shape)
         return list(map(Cell, values, self.added_ticks(mask, kind), self.changed_ticks(mask, kind)))
@@ -378,14 +378,25 @@ class Reads(Calls):
         them each, `x`, `y` and `z`, or for links entities.
 
         So `numpy.frombuffer(level.column(mask, "At"), "i8").reshape(-1, 3)` has the vectors, and
-        `memoryview(level.column(mask, "At")).cast("B").cast("q")` their numbers. A TypeError, where the kind is a Tag
-        or a Text; a BadLine, where it isn't in the set.
+        `memoryview(level.column(mask, "At")).cast("B").cast("q")` their numbers. A TypeError, where the kind is a Tag,
+        or a Text, of which `texts` has the column; a BadLine, where it isn't in the set.
         """
         number, shape = self._number(kind), self._kinds[kind][1]
         if shape not in COLUMNS:
             raise TypeError(f"the kind {kind} is no column of numbers")
         name, item = COLUMNS[shape]
         return self._listed(name, item, mask, number)
+
+    def texts(self, mask: int, kind: str) -> List[str]:
+        """The texts of a kind in the rows of a kind set, in the order of `entities`, without a call for each. A
+        TypeError, where the kind is no Text; a BadLine, where it isn't in the set."""
+        number, shape = self._number(kind), self._kinds[kind][1]
+        if shape != "Text":
+            raise TypeError(f"the kind {kind} is no column of texts")
+        self._ready()
+        code, found = self._scene.runs("texts", 1, mask, number)
+        self._told(code, "there is no such column of texts")
+        return [text.decode() for text in found]
 
     def added_ticks(self, mask: int, kind: str) -> Any:
         """The ticks at which the components of a column were added: integers of 64 bits without a sign."""
@@ -482,7 +493,8 @@ class Reads(Calls):
         where there are fewer. A place that is no whole number from 0 is a TypeError or a BadLine.
 
         So a view follows a frame, or a redo, by `past_step().deltas`, and a redo of several frames by those of the
-        places `count - 1` down to 0. An advance is a frame too. In an open frame it tells nothing of that.
+        places `count - 1` down to 0. An advance is a frame too. In an open frame it tells nothing of that. It costs
+        what it gives: a few calls, however many deltas there are.
         """
         return self._kept_step(BACK, place)
 
@@ -501,4 +513,13 @@ class Reads(Calls):
         self._ready()
         code, raw = self._scene.listed("step", RawDelta, way, asked, byref(tick))
         self._told(code, "step")
-        return None if code == REFUSED else KeptStep(tick.value, deltas_in(raw, self._names))
+        if code == REFUSED:
+            return None
+
+        def runs(name: str, size: int, *which: int) -> List[bytes]:
+            # (each call goes through the deltas from the first one on, so all are asked for at once)
+            came, found = self._scene.runs(name, size, way, asked, *which, places=len(raw))
+            self._told(came, name)
+            return found
+
+        return KeptStep(tick.value, DeltasOfStep(self._names, runs).all_in(raw))

@@ -2,16 +2,15 @@
 from __future__ import annotations
 
 import json
-import os
 from contextlib import suppress
 from pathlib import Path
 from typing import Any, Dict, List, Mapping, Optional, Sequence, Union, overload
 
 from scene.calls import Calls
 from scene.errors import BadLine, Refused, SceneError, told_in_json
-from scene.program import Program
-from scene.values import KIND, Cell, Entity, Given, Named, Row, Spawned, Status, Value, count_named, entity_named
-from scene.values import kind_named, target_named, text_named
+from scene.program import Program, program_named
+from scene.values import KIND, Cell, Entity, Given, Named, Row, Spawned, Status, Value, count_named, depth_named
+from scene.values import entity_named, kind_named, target_named, text_named
 
 # An entity that is never alive: a command about it is refused.
 NOBODY = "4294967295v4294967295"
@@ -24,11 +23,6 @@ BAD_VALUES = {
     "Link": "`?` is no entity",
 }
 TOO_FEW = {"undo": "refused 15 NothingToUndo", "redo": "refused 16 NothingToRedo"}
-
-
-def program_named(program: Union[str, Path, None]) -> str:
-    """The program of the shell: the one given, or that of SCENE_PROGRAM, or else `scene` on the path."""
-    return str(program if program is not None else os.environ.get("SCENE_PROGRAM") or "scene")
 
 
 def value_in(shape: Optional[str], value: Any) -> Value:
@@ -67,8 +61,8 @@ class Scene(Calls):
     FileNotFoundError; one that ends at once, an `Ended`; a store that can't be opened, a `StoreError`; other kinds than
     the store's, `KindsDiffer`.
 
-    It has no columns, no moments as values, no deltas of frames, and no frame that is dropped without a call: those are
-    `LibraryScene`'s own.
+    It has no columns, no moments as values, no deltas of frames, no check of systems, and no frame that is dropped
+    without a call: those are `LibraryScene`'s own.
     """
 
     def __init__(
@@ -141,6 +135,13 @@ class Scene(Calls):
                 elif "no kind is named" not in str(bad):
                     raise
         return self._shapes.get(kind)
+
+    def set_depth(self, depth: int) -> None:
+        limit = depth_named(depth)
+        try:
+            self.request("depth", limit=limit)
+        except BadLine:
+            raise BadLine("over the shell a depth is set in the setup alone: over the library at any time") from None
 
     # ---- commands and frames
 

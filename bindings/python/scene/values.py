@@ -135,6 +135,9 @@ class Status(NamedTuple):
     """How many kinds there are."""
 
 
+# No scene keeps a record of more frames.
+MOST_DEPTH = 2**20
+
 WHOLE = re.compile(r"0|-?[1-9][0-9]{0,18}")
 ENTITY = re.compile(r"(0|[1-9][0-9]{0,9})v(0|[1-9][0-9]{0,9})")
 NEW = re.compile(r"\+(0|[1-9][0-9]{0,9})")
@@ -262,6 +265,19 @@ def read_count(value: object) -> int:
 def count_named(value: object) -> int:
     """The count of frames that a caller gives."""
     return fitting("the count of frames", read_count, "a whole number from 0", value)
+
+
+def read_depth(value: object) -> int:
+    """Of how many frames a record is kept."""
+    number = read_count(value)
+    if not 1 <= number <= MOST_DEPTH:
+        raise ValueError
+    return number
+
+
+def depth_named(value: object) -> int:
+    """The depth that a caller gives."""
+    return fitting("a depth", read_depth, f"a whole number from 1 to {MOST_DEPTH:,}", value)
 
 
 def entity_named(value: object) -> Entity:

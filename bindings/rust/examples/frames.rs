@@ -3,7 +3,8 @@
 //!
 //! To draw is to sum here. The last lines say how many steps of each sort there were, and what was drawn. The status is
 //! 0, and 1 where the view or the loaded scene differs, which is then said.
-use scene::{Delta, DeltaValue, Entity, Error, Filter, Frame, Kind, Resource, Scene, Shape, Step};
+use scene::{Delta, Entity, Error, Filter, Frame, Kind, Scene, Shape, Step, Value};
+use std::collections::BTreeMap;
 use std::fmt;
 use std::process::ExitCode;
 
@@ -66,6 +67,18 @@ struct Thing {
     parent: Option<Entity>,
 }
 
+impl Thing {
+    /// A component is another now. A speed isn't drawn.
+    fn write(&mut self, kinds: Kinds, kind: Kind, after: Option<Value>) {
+        match after {
+            Some(Value::Int(life)) if kind == kinds.life => self.life = life,
+            Some(Value::Vec3(at)) if kind == kinds.at => self.at = Some(at),
+            None if kind == kinds.at => self.at = None,
+            _ => {}
+        }
+    }
+}
+
 /// What is drawn of a thing.
 fn drawn(entity: Entity, life: i64, at: [i64; 3]) -> i64 {
     let [x, y, z] = at;
@@ -82,77 +95,54 @@ fn draw(scene: &Scene, kinds: Kinds) -> Result<i64, Error> {
 /// A view: a copy of the scene by index, with its resources.
 struct View {
     things: Vec<Option<Thing>>,
-    resources: Vec<Resource>,
+    resources: BTreeMap<String, Value>,
     followed: usize,
 }
 
 impl View {
     /// Reads all.
     fn new(scene: &Scene, kinds: Kinds) -> Result<View, Error> {
-        let mut view = View { things: Vec::new(), resources: scene.resources()?, followed: 0 };
+        let mut view = View { things: Vec::new(), resources: resources(scene)?, followed: 0 };
         let entities = alive(scene, kinds)?;
-        for entity in &entities {
-            view.come(*entity, scene.parent_of(*entity)?);
+        let (lives, places) = (scene.gather(&entities, kinds.life)?, scene.gather(&entities, kinds.at)?);
+        for ((entity, life), at) in entities.into_iter().zip(lives).zip(places) {
+            view.come(Thing { entity, life: life.unwrap_or(0), at, parent: scene.parent_of(entity)? });
         }
-        view.read(scene, kinds, &entities)?;
         Ok(view)
     }
 
-    /// Follows deltas that led to the scene, and behind all of them reads what none tells: the components of who came,
-    /// and resources.
-    fn follow(&mut self, scene: &Scene, kinds: Kinds, deltas: &[Delta]) -> Result<(), Stop> {
-        let mut came = Vec::new();
-        for delta in deltas {
-            self.follow_one(kinds, *delta)?;
-            if let Delta::Spawned { entity, .. } = delta {
-                came.push(*entity);
-            }
-        }
-        self.read(scene, kinds, &came)?;
-        if deltas.contains(&Delta::Resource) {
-            self.resources = scene.resources()?;
-        }
+    /// Follows deltas. It reads nothing of the scene.
+    fn follow(&mut self, kinds: Kinds, deltas: Vec<Delta>) -> Result<(), Stop> {
         self.followed += deltas.len();
-        Ok(())
+        deltas.into_iter().try_for_each(|delta| self.follow_one(kinds, delta))
     }
 
     fn follow_one(&mut self, kinds: Kinds, delta: Delta) -> Result<(), Stop> {
         match delta {
-            Delta::Spawned { entity, parent } => self.come(entity, parent),
+            Delta::Spawned { entity, cells, parent, .. } => {
+                let mut thing = Thing { entity, life: 0, at: None, parent: parent.map(|parent| parent.parent) };
+                cells.into_iter().for_each(|(kind, value)| thing.write(kinds, kind, Some(value)));
+                self.come(thing);
+            }
             Delta::Despawned { entity, .. } => {
                 self.thing(entity)?;
                 self.things[entity.index as usize] = None;
             }
-            Delta::Linked { entity, after, .. } => self.thing(entity)?.parent = after,
-            Delta::Set { entity, kind, after: DeltaValue::Int(life), .. } if kind == kinds.life => {
-                self.thing(entity)?.life = life;
-            }
-            Delta::Set { entity, kind, after, .. } if kind == kinds.at => self.thing(entity)?.at = place(Some(after)),
-            Delta::Shifted { entity, kind, after, .. } if kind == kinds.at => self.thing(entity)?.at = place(after),
-            // A speed isn't drawn.
-            Delta::Set { .. } | Delta::Shifted { .. } | Delta::Resource => {}
+            Delta::Linked { entity, after, .. } => self.thing(entity)?.parent = after.map(|after| after.parent),
+            Delta::Set { entity, kind, after, .. } => self.thing(entity)?.write(kinds, kind, Some(after)),
+            Delta::Shifted { entity, kind, after, .. } => self.thing(entity)?.write(kinds, kind, after),
+            Delta::Resource { name, after: Some(value), .. } => drop(self.resources.insert(name, value)),
+            Delta::Resource { name, after: None, .. } => drop(self.resources.remove(&name)),
         }
         Ok(())
     }
 
-    /// An entity came, whose components are read later.
-    fn come(&mut self, entity: Entity, parent: Option<Entity>) {
-        let place = entity.index as usize;
+    fn come(&mut self, thing: Thing) {
+        let place = thing.entity.index as usize;
         if self.things.len() <= place {
             self.things.resize(place + 1, None);
         }
-        self.things[place] = Some(Thing { entity, life: 0, at: None, parent });
-    }
-
-    /// Reads the components of entities; some may have gone again.
-    fn read(&mut self, scene: &Scene, kinds: Kinds, entities: &[Entity]) -> Result<(), Error> {
-        let (lives, places) = (scene.gather(entities, kinds.life)?, scene.gather(entities, kinds.at)?);
-        for ((entity, life), at) in entities.iter().zip(lives).zip(places) {
-            if let (Ok(thing), Some(life)) = (self.thing(*entity), life) {
-                (thing.life, thing.at) = (life, at);
-            }
-        }
-        Ok(())
+        self.things[place] = Some(thing);
     }
 
     /// What the view has of an entity.
@@ -187,19 +177,16 @@ impl View {
         if rows != self.things.iter().flatten().count() || sum != self.draw() {
             return Err(Stop::Differs(format!("what is drawn of {rows} rows")));
         }
-        if self.resources != scene.resources()? {
+        if self.resources != resources(scene)? {
             return Err(Stop::Differs("a resource".to_owned()));
         }
         Ok(sum)
     }
 }
 
-/// What a delta tells of a place.
-fn place(value: Option<DeltaValue>) -> Option<[i64; 3]> {
-    match value {
-        Some(DeltaValue::Vec3(at)) => Some(at),
-        _ => None,
-    }
+/// The resources of a scene, by name.
+fn resources(scene: &Scene) -> Result<BTreeMap<String, Value>, Error> {
+    Ok(scene.resources()?.into_iter().map(|resource| (resource.name, resource.value)).collect())
 }
 
 /// The deltas of the newest frames, in the order in which they were made.
@@ -215,7 +202,7 @@ fn done(scene: &Scene, frames: usize) -> Result<Vec<Delta>, Error> {
 fn undone(scene: &Scene, frames: usize) -> Result<Vec<Delta>, Error> {
     let mut deltas = Vec::new();
     for place in (0..frames).rev() {
-        deltas.extend(scene.future_step(place)?.iter().flat_map(|step| step.undone()));
+        deltas.extend(scene.future_step(place)?.into_iter().flat_map(|step| step.undone()));
     }
     Ok(deltas)
 }
@@ -364,7 +351,7 @@ fn play() -> Result<(), Stop> {
     let mut checksum = view.compare(&scene, kinds)?;
     for _ in 0..STEPS {
         let deltas = step(&mut scene, kinds, &mut chance, &mut tally)?;
-        view.follow(&scene, kinds, &deltas)?;
+        view.follow(kinds, deltas)?;
         checksum = checksum.rotate_left(1) ^ view.compare(&scene, kinds)?;
     }
     scene.advance()?;

@@ -24,7 +24,48 @@ pub(crate) use call;
 const UNTOLD: &str = "there is nothing of this to read";
 
 /// How many items a list is given room for at first, so that a short one takes one call.
-const ROOM: usize = 64;
+pub(crate) const ROOM: usize = 64;
+
+/// Where a call tells lists one behind the other: where each ends, at most `count`, and their items, at most `length`,
+/// how many lists are told, and how many there are.
+pub(crate) struct ListsRoom<T> {
+    pub(crate) ends: *mut usize,
+    pub(crate) count: usize,
+    pub(crate) items: *mut T,
+    pub(crate) length: usize,
+    pub(crate) told: *mut usize,
+    pub(crate) total: *mut usize,
+}
+
+/// Lists one behind the other, and where each ends.
+pub(crate) struct Lists<T> {
+    ends: Vec<usize>,
+    items: Vec<T>,
+}
+
+impl<T> Lists<T> {
+    /// None.
+    pub(crate) fn none() -> Lists<T> {
+        Lists { ends: Vec::new(), items: Vec::new() }
+    }
+
+    /// The list of a number.
+    pub(crate) fn list(&self, number: usize) -> &[T] {
+        &self.items[self.end(number)..self.ends[number]]
+    }
+
+    /// Where the first lists, so many, end.
+    fn end(&self, count: usize) -> usize {
+        count.checked_sub(1).map_or(0, |last| self.ends[last])
+    }
+}
+
+impl Lists<u8> {
+    /// The text of a number.
+    pub(crate) fn text(&self, number: usize) -> String {
+        text_of(self.list(number).to_vec())
+    }
+}
 
 impl Scene {
     /// Where the library's pointer is. A scene isn't `Sync`, so that who has this has it alone.
@@ -40,6 +81,11 @@ impl Scene {
             raw::SCENE_BAD => Err(Error::Bad(self.reason())),
             other => Err(failed(other)),
         }
+    }
+
+    /// The same, where a call is bad for its arguments alone, of which the library keeps no words.
+    pub(crate) fn came_unless_bad(&mut self, code: u32, why: &str) -> Result<(), Error> {
+        if code == raw::SCENE_BAD { Err(Error::Bad(why.to_owned())) } else { self.came(code) }
     }
 
     /// Why the last call was refused.
@@ -133,7 +179,17 @@ impl Scene {
         blank: T,
         call: impl Fn(Handle, *mut T, usize, *mut usize) -> u32,
     ) -> Result<Option<Vec<T>>, Error> {
-        let mut items = vec![blank; ROOM];
+        self.list_in(ROOM, blank, call)
+    }
+
+    /// The same, with room for so many items at first.
+    pub(crate) fn list_in<T: Copy>(
+        &self,
+        room: usize,
+        blank: T,
+        call: impl Fn(Handle, *mut T, usize, *mut usize) -> u32,
+    ) -> Result<Option<Vec<T>>, Error> {
+        let mut items = vec![blank; room];
         let mut length = 0;
         // The room is as long as it says, and it and the count are lent for the call.
         let mut tell = |items: &mut Vec<T>| {
@@ -151,6 +207,41 @@ impl Scene {
         Ok(Some(items))
     }
 
+    /// The `count` lists that a call tells one behind the other, with room for so many items at first; `None` where it
+    /// tells none. The call is given the number of the first list, and where the lists go.
+    pub(crate) fn lists<T: Copy>(
+        &self,
+        count: usize,
+        mut room: usize,
+        blank: T,
+        call: impl Fn(Handle, usize, ListsRoom<T>) -> u32,
+    ) -> Result<Option<Lists<T>>, Error> {
+        let mut lists = Lists { ends: vec![0; count], items: Vec::new() };
+        let (mut from, mut begin) = (0, 0);
+        while from < count {
+            lists.items.resize(begin + room, blank);
+            let (ends, items) = (&mut lists.ends[from..], &mut lists.items[begin..]);
+            let (mut told, mut total) = (0, 0);
+            // Both rooms are as long as they say, and they and the counts are lent for the call.
+            let is_told = self.look(|handle| {
+                let (at, length) = (items.as_mut_ptr(), items.len());
+                let (ends, count) = (ends.as_mut_ptr(), ends.len());
+                let to = ListsRoom { ends, count, items: at, length, told: &mut told, total: &mut total };
+                call(handle, from, to)
+            })?;
+            if !is_told {
+                return Ok(None);
+            }
+            ends[..told].iter_mut().for_each(|end| *end += begin);
+            from += told;
+            begin = lists.end(from);
+            // The next lists, or one alone, are long: so the calls are few.
+            room *= 4;
+        }
+        lists.items.truncate(begin);
+        Ok(Some(lists))
+    }
+
     /// The text that a call tells byte by byte, as a list.
     pub(crate) fn told_text(
         &self,
@@ -166,7 +257,7 @@ pub(crate) fn told<T>(found: Option<T>) -> Result<T, Error> {
 }
 
 /// A text of the library.
-fn text_of(bytes: Vec<u8>) -> String {
+pub(crate) fn text_of(bytes: Vec<u8>) -> String {
     String::from_utf8(bytes).expect("the library's texts are UTF-8")
 }
 

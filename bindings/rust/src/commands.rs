@@ -5,11 +5,15 @@ use crate::error::Error;
 use crate::frame::{Command, Frame};
 use crate::kind::Kind;
 use crate::scene::Scene;
-use crate::value::{Sent, Value};
+use crate::value::{Sent, SentList, Value};
 use scene_sys as raw;
 
 /// Why a call isn't there.
 const FRAME_OPEN: &str = "a line opened a frame, and commands go by lines before its commit";
+const TOO_MANY: &str = "a frame has 67,108,864 commands at most";
+
+/// The number of no frame, for a command that is a frame by itself.
+const NO_FRAME: u64 = 0;
 
 /// Commands. Each outside a [`Frame`] is a frame by itself.
 impl Scene {
@@ -30,7 +34,7 @@ impl Scene {
         Frame::new(self)
     }
 
-    /// Spawns an entity with components, by a frame of its own.
+    /// Spawns an entity with components, in any order, by a frame of its own, and gives it.
     ///
     /// ```
     /// # use scene::{Error, Scene, Shape};
@@ -44,11 +48,12 @@ impl Scene {
     ///
     /// # Errors
     ///
-    /// [`Error::Refused`], by docs/MODEL.md; [`Error::Bad`] in a frame that a line opened.
+    /// [`Error::Refused`] with NoSuchKind for a kind of another scene, DuplicateKind for one that is given twice,
+    /// WrongShape for a value that hasn't its kind's shape, and EntitiesFull where no index is left; [`Error::Bad`] in
+    /// a frame that a line opened; [`Error::NoMemory`]. The scene is then as it was.
     pub fn spawn(&mut self, cells: &[(Kind, Value)]) -> Result<Entity, Error> {
         self.ready()?;
-        self.send_spawn(cells)?;
-        self.made(0).ok_or_else(|| Error::Bad(String::new()))
+        self.send_spawn(cells).map(Entity::of_raw)
     }
 
     /// Despawns an entity, which has to have no children, by a frame of its own.
@@ -64,7 +69,7 @@ impl Scene {
     ///
     /// # Errors
     ///
-    /// As those of [`spawn`](Scene::spawn).
+    /// [`Error::Refused`] with NoSuchEntity where it isn't alive, and HasChildren; else as of [`spawn`](Scene::spawn).
     pub fn despawn(&mut self, entity: Entity) -> Result<(), Error> {
         self.alone(&Command::Despawn(entity.into()))
     }
@@ -83,7 +88,7 @@ impl Scene {
     ///
     /// # Errors
     ///
-    /// As those of [`spawn`](Scene::spawn).
+    /// [`Error::Refused`] with NoSuchEntity where it isn't alive; else as of [`spawn`](Scene::spawn).
     pub fn despawn_all(&mut self, entity: Entity) -> Result<(), Error> {
         self.alone(&Command::DespawnAll(entity.into()))
     }
@@ -102,9 +107,55 @@ impl Scene {
     ///
     /// # Errors
     ///
-    /// As those of [`spawn`](Scene::spawn).
+    /// [`Error::Refused`] with NoSuchEntity where the entity isn't alive, NoSuchKind, and WrongShape; else as of
+    /// [`spawn`](Scene::spawn).
     pub fn insert(&mut self, entity: Entity, kind: Kind, value: impl Into<Value>) -> Result<(), Error> {
         self.alone(&Command::Insert(entity.into(), kind, value.into()))
+    }
+
+    /// Gives each entity the component beside it, or writes the one of that kind that it has: all of them or none, by
+    /// one frame and one call of the library. An entity may stand in several places; the last one of a kind stays. No
+    /// components are a frame too, as each frame is that says nothing.
+    ///
+    /// ```
+    /// # use scene::{Error, Scene, Shape};
+    /// # let mut scene = Scene::new()?;
+    /// let name = scene.declare("Name", Shape::Text)?;
+    /// let health = scene.declare("Health", Shape::Int)?;
+    /// let herd = [scene.spawn(&[])?, scene.spawn(&[])?, scene.spawn(&[])?];
+    /// scene.insert_all(herd.map(|cow| (cow, health.of(9))))?;
+    /// scene.insert_all([(herd[0], name.of("Bess")), (herd[2], health.of(8))])?;
+    /// assert_eq!(scene.gather::<i64>(&herd, health)?, [Some(9), Some(9), Some(8)]);
+    /// scene.undo()?;
+    /// assert_eq!(scene.gather::<i64>(&herd, health)?, [Some(9); 3]);
+    ///
+    /// scene.despawn(herd[1])?;
+    /// let error = scene.insert_all(herd.map(|cow| (cow, health.of(0)))).unwrap_err();
+    /// assert_eq!(error.to_string(), "refused 1 NoSuchEntity at 0.0.1");
+    /// assert_eq!(scene.get::<i64>(herd[0], health)?, 9);
+    /// # Ok::<(), Error>(())
+    /// ```
+    ///
+    /// # Errors
+    ///
+    /// [`Error::Refused`] as of [`insert`](Scene::insert): the command of its place is the number of the first
+    /// component that can't be written. [`Error::Bad`] above 67,108,864 components, and in a frame that a line opened;
+    /// [`Error::NoMemory`]. None of it is done then.
+    pub fn insert_all(&mut self, writes: impl IntoIterator<Item = (Entity, (Kind, Value))>) -> Result<(), Error> {
+        self.ready()?;
+        let mut entities = Vec::new();
+        let mut sent = SentList::default();
+        for (entity, (kind, value)) in writes {
+            entities.push(Target::from(entity).to_raw(NO_FRAME));
+            sent.push(kind, &value);
+        }
+        let SentList { cells, bytes } = sent;
+        let (targets, list, texts) = (entities.as_ptr(), cells.as_ptr(), bytes.as_ptr());
+        // SAFETY: as in `call!`; the three lists are lent for the call, each with its length behind it.
+        let code = unsafe {
+            raw::scene_insert_cells(self.handle(), targets, entities.len(), list, cells.len(), texts, bytes.len())
+        };
+        self.came_unless_bad(code, TOO_MANY)
     }
 
     /// Takes the component of a kind away, by a frame of its own.
@@ -121,7 +172,8 @@ impl Scene {
     ///
     /// # Errors
     ///
-    /// As those of [`spawn`](Scene::spawn).
+    /// [`Error::Refused`] with NoSuchEntity where the entity isn't alive, NoSuchKind, and NotPresent where it hasn't
+    /// the kind; else as of [`spawn`](Scene::spawn).
     pub fn remove(&mut self, entity: Entity, kind: Kind) -> Result<(), Error> {
         self.alone(&Command::Remove(entity.into(), kind))
     }
@@ -139,7 +191,8 @@ impl Scene {
     ///
     /// # Errors
     ///
-    /// As those of [`spawn`](Scene::spawn).
+    /// [`Error::Refused`] with NoSuchEntity where one of them isn't alive, SelfParent, and Cycle where the parent is
+    /// below the child; else as of [`spawn`](Scene::spawn).
     pub fn set_parent(&mut self, child: Entity, parent: Entity) -> Result<(), Error> {
         self.alone(&Command::SetParent(child.into(), parent.into()))
     }
@@ -158,7 +211,8 @@ impl Scene {
     ///
     /// # Errors
     ///
-    /// As those of [`spawn`](Scene::spawn).
+    /// [`Error::Refused`] with NoSuchEntity where it isn't alive, and NoParent where it has none; else as of
+    /// [`spawn`](Scene::spawn).
     pub fn remove_parent(&mut self, child: Entity) -> Result<(), Error> {
         self.alone(&Command::RemoveParent(child.into()))
     }
@@ -177,7 +231,8 @@ impl Scene {
     ///
     /// # Errors
     ///
-    /// As those of [`spawn`](Scene::spawn).
+    /// [`Error::Refused`] with BadName where the name isn't 1 to 32 ASCII letters, digits and `_`, a letter in front;
+    /// else as of [`spawn`](Scene::spawn).
     pub fn put(&mut self, name: &str, value: impl Into<Value>) -> Result<(), Error> {
         self.alone(&Command::Put(name.to_owned(), value.into()))
     }
@@ -195,7 +250,7 @@ impl Scene {
     ///
     /// # Errors
     ///
-    /// As those of [`spawn`](Scene::spawn); [`Error::Refused`] with NoSuchResource.
+    /// [`Error::Refused`] with NoSuchResource where none has the name; else as of [`spawn`](Scene::spawn).
     pub fn remove_resource(&mut self, name: &str) -> Result<(), Error> {
         self.alone(&Command::RemoveResource(name.to_owned()))
     }
@@ -203,25 +258,8 @@ impl Scene {
 
 impl Scene {
     /// Makes sure that a call goes into no frame but its own.
-    pub(crate) fn ready(&mut self) -> Result<(), Error> {
-        self.settle()?;
+    pub(crate) fn ready(&self) -> Result<(), Error> {
         if self.has_frame { Err(Error::Bad(FRAME_OPEN.to_owned())) } else { Ok(()) }
-    }
-
-    /// Clears what want of memory left: components that were given go with a spawn in a frame, and that is dropped.
-    pub(crate) fn settle(&mut self) -> Result<(), Error> {
-        if !self.is_stuck {
-            return Ok(());
-        }
-        match call!(self, scene_begin) {
-            // `Bad` where it is open already.
-            Ok(()) | Err(Error::Bad(_)) => {}
-            Err(error) => return Err(error),
-        }
-        // The components go, whatever becomes of the spawn.
-        let _ = call!(self, scene_spawn);
-        self.is_stuck = false;
-        call!(self, scene_drop_frame)
     }
 
     /// An entity that the last frame spawned, by its place.
@@ -240,8 +278,7 @@ impl Scene {
     /// Does a command as a frame by itself.
     fn alone(&mut self, command: &Command) -> Result<(), Error> {
         self.ready()?;
-        // No frame has the number 0.
-        self.send(0, command)
+        self.send(NO_FRAME, command)
     }
 
     /// Does the commands of a frame.
@@ -249,32 +286,23 @@ impl Scene {
         self.ready()?;
         call!(self, scene_begin)?;
         let sent = commands.iter().try_for_each(|command| self.send(frame, command));
-        if sent.is_err() {
-            self.is_stuck = true;
-            // Where memory is still wanting, the next call tries again.
-            let _ = self.settle();
+        let came = sent.and_then(|()| call!(self, scene_commit));
+        if came.is_err() {
+            // A refused frame is gone; one for which memory was wanting is still open, and dropping it needs none.
+            self.drop_frame();
         }
-        sent?;
-        let came = call!(self, scene_commit);
-        // A refused frame is gone; one for which memory was wanting is still open.
-        self.is_stuck = matches!(came, Err(Error::NoMemory));
-        came?;
-        Ok(self.all_made())
+        came.map(|()| self.all_made())
     }
 
-    /// Sends a spawn.
-    fn send_spawn(&mut self, cells: &[(Kind, Value)]) -> Result<(), Error> {
-        for (kind, value) in cells {
-            let given = match value.sent(*kind) {
-                Sent::Cell(cell) => call!(self, scene_with, cell),
-                Sent::Text(text) => call!(self, scene_with_text, kind.0.into(), text.as_ptr(), text.len()),
-            };
-            if given.is_err() {
-                self.is_stuck = true;
-            }
-            given?;
-        }
-        call!(self, scene_spawn)
+    /// Sends a spawn, and gives its entity: in an open frame as that frame's commands name it.
+    fn send_spawn(&mut self, cells: &[(Kind, Value)]) -> Result<raw::scene_entity, Error> {
+        let mut sent = SentList::default();
+        cells.iter().for_each(|(kind, value)| sent.push(*kind, value));
+        let SentList { cells, bytes } = sent;
+        let mut entity = raw::SCENE_NONE;
+        let (list, count) = (cells.as_ptr(), cells.len());
+        call!(self, scene_spawn_cells, list, count, bytes.as_ptr(), bytes.len(), &mut entity)?;
+        Ok(entity)
     }
 
     /// Sends a resource.
@@ -291,7 +319,7 @@ impl Scene {
     fn send(&mut self, frame: u64, command: &Command) -> Result<(), Error> {
         let named = |target: &Target| target.to_raw(frame);
         match command {
-            Command::Spawn(cells) => self.send_spawn(cells),
+            Command::Spawn(cells) => self.send_spawn(cells).map(drop),
             Command::Despawn(entity) => call!(self, scene_despawn, named(entity)),
             Command::DespawnAll(entity) => call!(self, scene_despawn_all, named(entity)),
             Command::Insert(entity, kind, value) => match value.sent(*kind) {

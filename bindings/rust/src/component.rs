@@ -1,4 +1,5 @@
 //! The types of Rust by which components are read.
+use crate::call::ListsRoom;
 use crate::columns::{Column, Part};
 use crate::entity::Entity;
 use crate::error::Error;
@@ -78,6 +79,9 @@ impl Column for () {
     fn take(&mut self) {}
 }
 
+/// How many bytes the texts of a part are given room for at first, so that short ones take one call.
+const TEXT_ROOM: usize = 16_384;
+
 impl Component for String {
     const SHAPE: Option<Shape> = Some(Shape::Text);
 }
@@ -90,20 +94,17 @@ impl Column for String {
         }
     }
 
-    /// The texts of the rows one by one, as no call tells a column of texts.
     fn fill(scene: &Scene, from: &Part, items: &mut Vec<String>) -> Result<bool, Error> {
-        let mut entities = Vec::new();
-        if !scene.fill_rows(from, &mut entities)? {
-            return Ok(false);
-        }
+        let &Part { kinds, kind, from: begin, length } = from;
+        let (mask, kind) = (kinds.bits(), u32::from(kind.0));
+        // SAFETY: as in `lists`.
+        let texts = scene.lists(length, TEXT_ROOM, 0, |handle, number, to| unsafe {
+            let ListsRoom { ends, count, items, length, told, total } = to;
+            raw::scene_texts(handle, mask, kind, begin + number, ends, count, items, length, told, total)
+        })?;
         items.clear();
-        for entity in entities {
-            let Some(text) = scene.text_at(entity, from.kind)? else {
-                return Ok(false);
-            };
-            items.push(text);
-        }
-        Ok(true)
+        items.extend(texts.iter().flat_map(|texts| (0..length).map(|number| texts.text(number))));
+        Ok(texts.is_some())
     }
 
     fn take(&mut self) -> String {

@@ -127,7 +127,7 @@ impl fmt::Display for Place {
 pub struct Refusal {
     /// The fault.
     pub fault: Fault,
-    /// What follows the name where the refusal was told as a text, which lines, requests, `load` and `save` do, and an
+    /// What follows the name where the refusal was told as a text, which lines, requests and `load` do, and an
     /// `advance` with a BadRule or a Conflict: as the path of a BadField, or the length of a HistoryFull.
     pub fields: String,
     /// The place, where the fault is one of a command.

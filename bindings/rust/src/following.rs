@@ -94,7 +94,6 @@ impl Scene {
     ///
     /// [`Error::Bad`] in a frame that a line opened.
     pub fn mark(&mut self) -> Result<(), Error> {
-        self.settle()?;
         call!(self, scene_mark)
     }
 
@@ -118,7 +117,6 @@ impl Scene {
     ///
     /// [`Error::Refused`] with Rewound where something was undone since; [`Error::Bad`] in a frame that a line opened.
     pub fn changed(&mut self) -> Result<Changed<'_>, Error> {
-        self.settle()?;
         call!(self, scene_changed)?;
         Ok(Changed { scene: self, at: 0 })
     }

@@ -230,7 +230,9 @@ impl<'a> Frame<'a> {
     ///
     /// # Errors
     ///
-    /// [`Error::Refused`] with the place of the command that was refused; [`Error::Bad`] in a frame that a line opened.
+    /// [`Error::Refused`] as of the calls of a [`Scene`] by the same names, with the place of the first command that is
+    /// refused, and with BadLocal for a [`New`] of another frame; [`Error::Bad`] in a frame that a line opened;
+    /// [`Error::NoMemory`]. The scene is then as it was, and the frame is gone.
     pub fn commit(self) -> Result<Vec<Entity>, Error> {
         self.scene.submit(self.number, &self.commands)
     }

@@ -29,10 +29,11 @@
 //! # Ok::<(), Error>(())
 //! ```
 //!
-//! A view follows by deltas, through undo and redo too: behind a frame, an advance or a redo by those of
-//! [`Scene::past_step`], and behind an undo by those of [`Scene::future_step`], [`undone`](FrameStep::undone). What no
-//! delta tells, as the components of a spawn, it then reads from the scene ([`FrameStep`] shows a whole view). Or it
-//! keeps a [`Moment`], and asks by [`Scene::changed_since`] what was written since, until an undo.
+//! A view follows by deltas alone, through undo and redo too: behind a frame, an advance or a redo by those of
+//! [`Scene::past_step`], and behind an undo by those of [`Scene::future_step`], [`undone`](FrameStep::undone). They
+//! tell all that was done but for ticks: components, texts and resources with their values, places, parents
+//! ([`FrameStep`] shows a view). Or it keeps a [`Moment`], and asks by [`Scene::changed_since`] what was written since,
+//! until an undo.
 //!
 //! A [`Scene`] may go to another thread, and is with one at a time: it is `Send`, and not `Sync`.
 //!
@@ -64,7 +65,7 @@ mod value;
 
 pub use columns::{Table, Ticks};
 pub use component::Component;
-pub use deltas::{Delta, DeltaValue};
+pub use deltas::{ChildPlace, Delta};
 pub use entity::{Entity, New, NoEntity, Target};
 pub use error::{Error, Place, Refusal};
 pub use fault::Fault;

@@ -1,4 +1,5 @@
 //! Lines of a script, and requests, which stand for lines.
+use crate::call::call;
 use crate::error::{Error, Refusal};
 use crate::scene::Scene;
 use scene_sys as raw;
@@ -83,7 +84,6 @@ impl Scene {
     ///
     /// [`Error::NoMemory`], [`Error::Untold`] and [`Error::Lost`].
     pub fn play(&mut self, line: &[u8]) -> Result<Answer, Error> {
-        self.settle()?;
         // SAFETY: as in `call!`; pointer and length are those of one slice, which is lent for the call.
         let code = unsafe { raw::scene_line(self.handle(), line.as_ptr(), line.len()) };
         self.has_frame = self.is_in_frame();
@@ -130,13 +130,32 @@ impl Scene {
     ///
     /// As those of [`play`](Scene::play).
     pub fn play_request(&mut self, request: &[u8]) -> Result<Answer, Error> {
-        self.settle()?;
         // SAFETY: as in `call!`; pointer and length are those of one slice, which is lent for the call.
         let code = unsafe { raw::scene_request(self.handle(), request.as_ptr(), request.len()) };
         self.has_frame = self.is_in_frame();
         let text = self.text();
         let outcome = outcome_of(self.came_of_request(code, &text))?;
         Ok(Answer { text, outcome })
+    }
+
+    /// The last answer as one line of JSON (docs/SHELL.md, "JSON"), without a line break; also of a call that isn't a
+    /// line, and where it was refused or bad.
+    ///
+    /// ```
+    /// use scene::{Error, Scene};
+    ///
+    /// let mut scene = Scene::new()?;
+    /// scene.line("spawn")?;
+    /// assert_eq!(scene.answer_json()?, r#"{"answer":"done","entities":["0v1"]}"#);
+    /// # Ok::<(), Error>(())
+    /// ```
+    ///
+    /// # Errors
+    ///
+    /// [`Error::NoMemory`].
+    pub fn answer_json(&mut self) -> Result<String, Error> {
+        call!(self, scene_answer_json)?;
+        Ok(without_break(self.text()))
     }
 
     /// What the code of a request says: where no bad line is behind it, its text tells why it is bad.

@@ -1,16 +1,27 @@
 //! A scene: the safe side of the library's pointer.
-use crate::call::{call, told};
-use crate::error::Error;
+use crate::call::{call, text_of, told};
+use crate::error::{Error, Refusal};
+use crate::fault::Fault;
 use crate::kind::Kind;
 use crate::lines::without_break;
 use crate::value::Shape;
 use scene_sys as raw;
-use std::cell::UnsafeCell;
+use std::cell::{Cell, UnsafeCell};
 use std::fmt;
 use std::ptr;
 
 /// How many bytes the name of a kind has at most.
 const NAME_ROOM: usize = 32;
+
+/// How many bytes a saved text is given room for, before one was made.
+const SAVE_ROOM: usize = 16_384;
+
+/// The versions of saved texts: a world alone, and with all that can be undone and redone.
+const WORLD: u32 = 1;
+const WHOLE: u32 = 2;
+
+/// Why a depth isn't set.
+const NO_DEPTH: &str = "a record is kept of 1 to 1,048,576 frames";
 
 /// The version of the library: its three numbers.
 ///
@@ -25,8 +36,8 @@ pub fn version() -> (u32, u32, u32) {
 }
 
 /// A scene: a world, and what of it can be undone and redone. It begins in its setup, in which kinds are declared; the
-/// first call that isn't a `declare`, a `kind`, a `kinds` or a setup line ends it, also one that reads. When it is let
-/// go, all of it is freed.
+/// first call that isn't a `declare`, `kind`, `kinds`, `set_depth`, `check_systems` or a setup line ends it, also one
+/// that reads. When it is let go, all of it is freed.
 ///
 /// What reads, takes `&self`: it changes neither the world nor the last answer. A scene goes to another thread with
 /// all that it has. Two threads can't have one at a time, not even to read, as it isn't `Sync`.
@@ -53,8 +64,8 @@ pub struct Scene {
     pub(crate) at: UnsafeCell<*mut raw::scene>,
     /// Whether a frame is open that a line or a request opened.
     pub(crate) has_frame: bool,
-    /// Whether want of memory left a frame open, or components for a spawn that didn't come.
-    pub(crate) is_stuck: bool,
+    /// How much room a saved text is given at first, so that the library makes it once.
+    save_room: Cell<usize>,
 }
 
 // SAFETY: what the pointer points to is on the heap and the scene's alone. The library has no state besides, neither of
@@ -128,13 +139,13 @@ impl Scene {
         let mut at = ptr::null_mut();
         // SAFETY: the declaration fits the header's, and the library only writes to `at`.
         match unsafe { raw::scene_open(&mut at) } {
-            raw::SCENE_DONE => Ok(Scene { at: UnsafeCell::new(at), has_frame: false, is_stuck: false }),
+            raw::SCENE_DONE => Ok(Scene { at: UnsafeCell::new(at), has_frame: false, save_room: Cell::new(SAVE_ROOM) }),
             _ => Err(Error::NoMemory),
         }
     }
 
-    /// A scene from the text that [`save`](Scene::save) gave, or from one of a world alone. The lines `calls` and
-    /// `depth` may follow.
+    /// A scene from the text that [`save`](Scene::save) gave, or from one of a world alone, as
+    /// [`save_world`](Scene::save_world) gives. The lines `calls` and `depth` may follow.
     ///
     /// ```
     /// use scene::{Error, Scene, Shape};
@@ -163,7 +174,8 @@ impl Scene {
         Ok(scene)
     }
 
-    /// The scene, with all that can be undone and redone, as a text of one line.
+    /// The scene, with all that can be undone and redone, as a text of one line, which [`load`](Scene::load) reads. The
+    /// last answer stays. In a frame that a line opened it is the scene before that.
     ///
     /// ```
     /// # use scene::{Error, Scene};
@@ -176,14 +188,47 @@ impl Scene {
     ///
     /// # Errors
     ///
-    /// [`Error::Refused`] with TooLong above 67,108,864 bytes; [`Error::Bad`] in a frame that a line opened.
-    pub fn save(&mut self) -> Result<String, Error> {
-        self.settle()?;
-        call!(self, scene_save)?;
-        Ok(without_break(self.text()))
+    /// [`Error::Refused`] with TooLong above 67,108,864 bytes; [`Error::NoMemory`], as the library makes the whole
+    /// text.
+    pub fn save(&self) -> Result<String, Error> {
+        self.saved_by(WHOLE)
     }
 
-    /// Declares a kind, in the setup.
+    /// The world alone, as a text of one line, which [`load`](Scene::load) reads: what is loaded has nothing to undo or
+    /// redo. The last answer stays.
+    ///
+    /// ```
+    /// # use scene::{Error, Scene};
+    /// let mut scene = Scene::new()?;
+    /// scene.spawn(&[])?;
+    /// let mut other = Scene::load(&scene.save_world()?)?;
+    /// assert_eq!(other.rows()?.len(), 1);
+    /// assert_eq!(other.undo().unwrap_err().to_string(), "refused 15 NothingToUndo");
+    /// # Ok::<(), Error>(())
+    /// ```
+    ///
+    /// # Errors
+    ///
+    /// As those of [`save`](Scene::save).
+    pub fn save_world(&self) -> Result<String, Error> {
+        self.saved_by(WORLD)
+    }
+
+    /// The text of a version.
+    fn saved_by(&self, version: u32) -> Result<String, Error> {
+        // SAFETY: as in `list`.
+        let saved = self.list_in(self.save_room.get(), 0, |handle, at, room, total| unsafe {
+            raw::scene_save_into(handle, version, 0, at, room, total)
+        })?;
+        let Some(saved) = saved else {
+            return Err(Refusal { is_of_text: true, ..Refusal::of_fault(Fault::TooLong) }.into());
+        };
+        // The next text is mostly a little longer.
+        self.save_room.set(saved.len() + saved.len() / 8);
+        Ok(without_break(text_of(saved)))
+    }
+
+    /// Declares a kind, in the setup, and gives it. Kinds are numbered in the order in which they are declared.
     ///
     /// ```
     /// use scene::{Error, Scene, Shape};
@@ -200,14 +245,37 @@ impl Scene {
     ///
     /// # Errors
     ///
-    /// [`Error::Refused`] for a name that isn't good or is taken, and for a 65th kind; [`Error::Bad`] behind the setup,
-    /// and for a name that is empty or has a space.
+    /// [`Error::Refused`] with BadName for a name that isn't 1 to 32 ASCII letters, digits and `_`, a letter in front,
+    /// with KindTaken where a kind has it, and with KindsFull for a 65th kind; [`Error::Bad`] behind the setup, as for
+    /// a loaded scene; [`Error::NoMemory`]. The kinds so far stay.
     pub fn declare(&mut self, name: &str, shape: Shape) -> Result<Kind, Error> {
-        if name.contains(' ') {
-            return Err(Error::Bad(format!("`{name}` has a space, and the name of a kind has none")));
-        }
-        self.line(&format!("kind {name} {shape}"))?;
-        self.kind(name).ok_or_else(|| Error::Bad(String::new()))
+        let mut number = 0;
+        call!(self, scene_declare, name.as_ptr(), name.len(), shape as u32, &mut number)?;
+        Ok(Kind(number as u8))
+    }
+
+    /// Sets of how many frames a record is kept, 1 to 1,048,576, so that as many can be undone: at any time, also in an
+    /// open frame. Those beyond it are forgotten at once, the oldest first. The last answer stays.
+    ///
+    /// ```
+    /// # use scene::{Error, Scene};
+    /// let mut scene = Scene::new()?;
+    /// for _ in 0..5 {
+    ///     scene.spawn(&[])?;
+    /// }
+    /// scene.set_depth(2)?;
+    /// assert_eq!((scene.status()?.undo, scene.status()?.depth), (2, 2));
+    /// assert!(scene.set_depth(0).is_err());
+    /// # Ok::<(), Error>(())
+    /// ```
+    ///
+    /// # Errors
+    ///
+    /// [`Error::Bad`] for another number, which changes nothing.
+    pub fn set_depth(&mut self, depth: u32) -> Result<(), Error> {
+        // SAFETY: as in `call!`.
+        let code = unsafe { raw::scene_set_depth(self.handle(), depth) };
+        self.came_unless_bad(code, NO_DEPTH)
     }
 
     /// The kind of a name.

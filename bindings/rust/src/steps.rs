@@ -21,7 +21,6 @@ impl Scene {
     ///
     /// [`Error::Refused`]; [`Error::Bad`] in a frame that a line opened.
     pub fn undo(&mut self) -> Result<(), Error> {
-        self.settle()?;
         call!(self, scene_undo)
     }
 
@@ -42,7 +41,6 @@ impl Scene {
     ///
     /// As those of [`undo`](Scene::undo).
     pub fn redo(&mut self) -> Result<(), Error> {
-        self.settle()?;
         call!(self, scene_redo)
     }
 
@@ -68,7 +66,6 @@ impl Scene {
     /// that a line opened. Those before are taken back where one finds a limit of calls reached, a HistoryFull, or no
     /// memory, an [`Error::NoMemory`]: [`status`](Scene::status) says how many are left.
     pub fn undo_by(&mut self, count: usize) -> Result<(), Error> {
-        self.settle()?;
         call!(self, scene_undo_by, count)
     }
 
@@ -88,7 +85,6 @@ impl Scene {
     ///
     /// As those of [`undo_by`](Scene::undo_by), with NothingToRedo.
     pub fn redo_by(&mut self, count: usize) -> Result<(), Error> {
-        self.settle()?;
         call!(self, scene_redo_by, count)
     }
 

@@ -1,12 +1,13 @@
 //! Systems: what an advance does with each row that a filter matches (docs/MODEL.md, "The rule of systems").
 use crate::call::call;
 use crate::entity::Entity;
-use crate::error::Error;
+use crate::error::{Error, Refusal};
 use crate::fault::Fault;
 use crate::json;
 use crate::kind::{Filter, Kind, KindSet};
 use crate::scene::Scene;
 use crate::value::Value;
+use scene_sys as raw;
 
 /// A step of a system, which is done for each row. A system has 1 to 16.
 ///
@@ -67,7 +68,6 @@ impl Scene {
     ///
     /// [`Error::Bad`] in a frame that a line opened; [`Error::NoMemory`].
     pub fn phase(&mut self) -> Result<(), Error> {
-        self.settle()?;
         call!(self, scene_phase)
     }
 
@@ -105,8 +105,33 @@ impl Scene {
     ///
     /// As those of [`phase`](Scene::phase).
     pub fn clear_systems(&mut self) -> Result<(), Error> {
-        self.settle()?;
         call!(self, scene_clear_systems)
+    }
+
+    /// Whether [`advance`](Scene::advance) would take the systems that there are. It is asked in the setup too, changes
+    /// nothing, and leaves the last answer.
+    ///
+    /// ```
+    /// # use scene::{Error, Filter, Scene, Shape, Step};
+    /// # let mut scene = Scene::new()?;
+    /// let health = scene.declare("Health", Shape::Int)?;
+    /// let hurt = [Step::AddInt { to: health, by: -1 }];
+    /// scene.system("hurt", Filter::need(&[health]), &hurt)?;
+    /// scene.check_systems()?;
+    /// scene.system("age", Filter::need(&[health]), &hurt)?;
+    /// assert_eq!(scene.check_systems().unwrap_err().to_string(), "refused 21 Conflict");
+    /// # Ok::<(), Error>(())
+    /// ```
+    ///
+    /// # Errors
+    ///
+    /// [`Error::Refused`] with BadRule where a system breaks a rule, or with Conflict where two of a phase don't go
+    /// together; which ones, the fields of an `advance` tell. [`Error::NoMemory`], as it copies the systems.
+    pub fn check_systems(&self) -> Result<(), Error> {
+        let mut why = raw::scene_refusal::default();
+        // SAFETY: as in `call!`; `why` is lent for the call.
+        let is_good = self.look(|handle| unsafe { raw::scene_check_systems(handle, &mut why) })?;
+        if is_good { Ok(()) } else { Err(Refusal::of_raw(why, "").into()) }
     }
 
     /// Does what the systems say, as one frame, and gives the entities that it spawned, in order.
@@ -128,10 +153,9 @@ impl Scene {
     /// # Errors
     ///
     /// [`Error::Refused`] with BadRule or Conflict, which is no call, with the phase and the systems as its fields; and
-    /// by docs/MODEL.md, as with Overflow, with the entity as its field. Nothing is done then. [`Error::Bad`] in a frame
-    /// that a line opened.
+    /// by docs/MODEL.md, as with Overflow, with the entity as its field. Nothing is done then. [`Error::Bad`] in a
+    /// frame that a line opened.
     pub fn advance(&mut self) -> Result<Vec<Entity>, Error> {
-        self.settle()?;
         call!(self, scene_advance)?;
         Ok(self.all_made())
     }

@@ -15,17 +15,18 @@ use std::str::FromStr;
 /// assert_eq!(Shape::Vec3.to_string(), "Vec3");
 /// ```
 #[derive(Clone, Copy, Debug, PartialEq, Eq, Hash)]
+#[repr(u32)]
 pub enum Shape {
     /// No value: that the component is there says all.
-    Tag,
+    Tag = raw::SCENE_TAG,
     /// A whole number.
-    Int,
+    Int = raw::SCENE_INT,
     /// Three whole numbers.
-    Vec3,
+    Vec3 = raw::SCENE_VEC3,
     /// A text.
-    Text,
+    Text = raw::SCENE_TEXT,
     /// An entity, which need not be alive.
-    Link,
+    Link = raw::SCENE_LINK,
 }
 
 impl Shape {
@@ -168,16 +169,38 @@ pub(crate) enum Sent<'a> {
     Text(&'a str),
 }
 
+/// Components as the library takes them in a list: a cell each, and the bytes of all their texts.
+#[derive(Default)]
+pub(crate) struct SentList {
+    pub(crate) cells: Vec<raw::scene_cell>,
+    pub(crate) bytes: Vec<u8>,
+}
+
+impl SentList {
+    pub(crate) fn push(&mut self, kind: Kind, value: &Value) {
+        let cell = match value.sent(kind) {
+            Sent::Cell(cell) => cell,
+            Sent::Text(text) => {
+                // What is in memory is shorter than 63 bits count.
+                let (begin, length) = (self.bytes.len() as i64, text.len() as i64);
+                self.bytes.extend_from_slice(text.as_bytes());
+                raw::scene_cell { kind: kind.0.into(), shape: raw::SCENE_TEXT, x: begin, y: length, z: 0 }
+            }
+        };
+        self.cells.push(cell);
+    }
+}
+
 impl Value {
     pub(crate) fn sent(&self, kind: Kind) -> Sent<'_> {
-        let (shape, [x, y, z]) = match self {
+        let [x, y, z] = match self {
             Value::Text(text) => return Sent::Text(text),
-            Value::Tag => (raw::SCENE_TAG, [0; 3]),
-            Value::Int(number) => (raw::SCENE_INT, [*number, 0, 0]),
-            Value::Vec3(numbers) => (raw::SCENE_VEC3, *numbers),
-            Value::Link(entity) => (raw::SCENE_LINK, [entity.index.into(), entity.generation.into(), 0]),
+            Value::Tag => [0; 3],
+            Value::Int(number) => [*number, 0, 0],
+            Value::Vec3(numbers) => *numbers,
+            Value::Link(entity) => [entity.index.into(), entity.generation.into(), 0],
         };
-        Sent::Cell(raw::scene_cell { kind: kind.0.into(), shape, x, y, z })
+        Sent::Cell(raw::scene_cell { kind: kind.0.into(), shape: self.shape() as u32, x, y, z })
     }
 
     /// The value that the library tells, whose text comes apart. The numbers of a link have 32 bits.

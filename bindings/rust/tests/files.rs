@@ -34,11 +34,11 @@ fn a_loaded_scene_is_the_saved_one() {
 
 #[test]
 fn a_text_with_white_space_is_loaded() {
-    let mut scene = edited();
+    let scene = edited();
     let saved = scene.save().unwrap();
     let spaced = saved.replacen("\"kinds\":", "\r\n\t\"k\\u0069nds\" : ", 1) + "\n";
     assert_ne!(spaced, saved);
-    let mut other = Scene::load(&spaced).unwrap();
+    let other = Scene::load(&spaced).unwrap();
     assert_eq!(other.kind("Health"), scene.kind("Health"));
     assert_eq!(other.save().unwrap(), saved);
 }
@@ -46,10 +46,66 @@ fn a_text_with_white_space_is_loaded() {
 #[test]
 fn a_text_of_a_world_alone_is_loaded() {
     let mut scene = edited();
-    let dumped = scene.line("dump").unwrap();
-    let mut other = Scene::load(&dumped).unwrap();
+    let saved = scene.save_world().unwrap();
+    assert_eq!(scene.line("dump").unwrap(), saved);
+    let mut other = Scene::load(&saved).unwrap();
     assert_eq!(other.line("show"), scene.line("show"));
     assert_eq!(other.undo().unwrap_err().refusal().unwrap().fault, Fault::NothingToUndo);
+    assert_eq!((other.save_world().unwrap(), other.status().unwrap().undo), (saved, 0));
+}
+
+#[test]
+fn a_save_leaves_the_last_answer_and_an_open_frame() {
+    let mut scene = edited();
+    let (saved, world) = (scene.save().unwrap(), scene.save_world().unwrap());
+    let status = scene.status().unwrap();
+    scene.line("begin").unwrap();
+    scene.line("spawn").unwrap();
+    // It is the scene before the frame.
+    assert_eq!((scene.save().unwrap(), scene.save_world().unwrap()), (saved.clone(), world));
+    assert!(scene.status().unwrap().in_frame && scene.drop_frame());
+    assert_eq!((scene.save().unwrap(), scene.status().unwrap()), (saved, status));
+}
+
+#[test]
+fn a_save_ends_the_setup() {
+    for save in [Scene::save, Scene::save_world] {
+        let mut scene = Scene::new().unwrap();
+        scene.declare("Name", Shape::Text).unwrap();
+        assert!(Scene::load(&save(&scene).unwrap()).unwrap().kind("Name").is_some());
+        assert!(matches!(scene.declare("Late", Shape::Tag), Err(Error::Bad(_))));
+    }
+}
+
+#[test]
+fn saves_of_any_length_are_whole() {
+    let mut scene = Scene::new().unwrap();
+    // Around the room that is given at first, then shorter ones, then longer ones again.
+    for length in [0, 16_000, 16_200, 16_300, 16_400, 10, 100_000, 110_000, 3] {
+        scene.put("Text", "x".repeat(length)).unwrap();
+        for saved in [scene.save().unwrap(), scene.save_world().unwrap()] {
+            assert!(saved.starts_with('{') && saved.ends_with('}') && saved.contains(&"x".repeat(length)));
+            assert_eq!(Scene::load(&saved).unwrap().resource("Text"), Ok("x".repeat(length)));
+        }
+    }
+}
+
+#[test]
+fn what_is_too_long_is_refused_as_a_file_fault() {
+    let mut scene = Scene::new().unwrap();
+    // Each world is short enough, and both of them aren't.
+    for text in ["x", "y"] {
+        scene.put("Text", text.repeat(34_000_000)).unwrap();
+    }
+    for _ in 0..2 {
+        let error = scene.save().unwrap_err();
+        assert_eq!(error.to_string(), "fault 56 TooLong");
+        assert_eq!((error.refusal().unwrap().fault, error.refusal().unwrap().place), (Fault::TooLong, None));
+    }
+    assert!(scene.save_world().unwrap().len() > 34_000_000);
+    scene.set_depth(1).unwrap();
+    scene.put("Text", "z").unwrap();
+    assert!(scene.save().unwrap().len() > 34_000_000);
 }
 
 #[test]

@@ -144,7 +144,6 @@ fn in_a_frame_of_lines_commands_go_by_lines() {
     assert!(matches!(scene.insert(entity("0v1"), health, 1), Err(Error::Bad(_))));
     assert!(matches!(scene.frame().commit(), Err(Error::Bad(_))));
     assert!(matches!(scene.undo(), Err(Error::Bad(_))));
-    assert!(matches!(scene.save(), Err(Error::Bad(_))));
     assert!(scene.changed().is_err() && scene.mark().is_err());
     assert!(matches!(scene.put("score", 5), Err(Error::Bad(_))));
     assert!(matches!(scene.advance(), Err(Error::Bad(_))));

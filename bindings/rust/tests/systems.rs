@@ -142,6 +142,49 @@ fn an_advance_is_refused_by_its_rules() {
 }
 
 #[test]
+fn systems_are_checked_before_they_are_played() {
+    let mut scene = Scene::new().unwrap();
+    // In the setup too, which goes on.
+    scene.check_systems().unwrap();
+    let health = scene.declare("Health", Shape::Int).unwrap();
+    let name = scene.declare("Name", Shape::Text).unwrap();
+    let add = |to| [Step::AddInt { to, by: 1 }];
+    scene.system("grow", Filter::need(&[health]), &add(health)).unwrap();
+    scene.check_systems().unwrap();
+    scene.system("shrink", Filter::need(&[health]), &add(health)).unwrap();
+    let error = scene.check_systems().unwrap_err();
+    assert_eq!((error.refusal().unwrap().fault, error.refusal().unwrap().place), (Fault::Conflict, None));
+    assert_eq!(fault(scene.advance()), Fault::Conflict);
+    // In another phase they go together.
+    scene.clear_systems().unwrap();
+    scene.system("grow", Filter::need(&[health]), &add(health)).unwrap();
+    scene.phase().unwrap();
+    scene.system("shrink", Filter::need(&[health]), &add(health)).unwrap();
+    scene.check_systems().unwrap();
+    scene.advance().unwrap();
+    scene.system("wrong", Filter::need(&[name]), &add(name)).unwrap();
+    assert_eq!((fault(scene.check_systems()), fault(scene.advance())), (Fault::BadRule, Fault::BadRule));
+    assert_eq!(fault(scene.check_systems()), Fault::BadRule);
+}
+
+#[test]
+fn a_check_changes_nothing() {
+    let (mut scene, [_, _, health, _]) = begun();
+    let cat = scene.spawn(&[health.of(i64::MAX)]).unwrap();
+    scene.system("grow", Filter::need(&[health]), &[Step::AddInt { to: health, by: 1 }]).unwrap();
+    let before = (scene.save().unwrap(), scene.status().unwrap());
+    // What a row refuses, only an advance finds.
+    scene.check_systems().unwrap();
+    assert_eq!((scene.save().unwrap(), scene.status().unwrap()), before);
+    scene.line("begin").unwrap();
+    scene.check_systems().unwrap();
+    assert!(scene.drop_frame());
+    assert_eq!(fault(scene.advance()), Fault::Overflow);
+    // The last answer stays.
+    assert_eq!(scene.changed().unwrap().collect::<Vec<_>>(), [(cat, health)]);
+}
+
+#[test]
 fn requests_do_what_their_lines_do() {
     let (mut scene, [_, _, health, name]) = begun();
     assert_eq!(scene.request(r#"{"do":"spawn","cells":{"Name":"Big House","Health":9}}"#), Ok("done 0v1".to_owned()));

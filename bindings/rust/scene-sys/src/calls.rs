@@ -14,10 +14,16 @@ unsafe extern "C" {
     pub fn scene_answer(s: *mut *mut scene, at: *mut u8, room: usize) -> usize;
     /// Keeps, as the text, why the last call that was answered was bad, in words.
     pub fn scene_bad_reason(s: *mut *mut scene) -> scene_code;
+    /// Keeps, as the text, the last answer as one line of JSON.
+    pub fn scene_answer_json(s: *mut *mut scene) -> scene_code;
     /// The length of the name of a fault; its first `room` bytes go to `at`, which may be null where `room` is 0.
     pub fn scene_fault_name(fault: u32, at: *mut u8, room: usize) -> usize;
     /// The version of the library, as [`SCENE_VERSION`].
     pub fn scene_version() -> u32;
+    /// Declares a kind in the setup, and tells its number.
+    pub fn scene_declare(s: *mut *mut scene, name: *const u8, len: usize, shape: u32, kind: *mut u32) -> scene_code;
+    /// Sets of how many frames a record is kept, at any time: those beyond it are forgotten.
+    pub fn scene_set_depth(s: *mut *mut scene, depth: u32) -> scene_code;
     /// Keeps, as the text, the scene with all that can be undone and redone.
     pub fn scene_save(s: *mut *mut scene) -> scene_code;
     /// Loads such a text, or one of a world alone, in the setup.
@@ -44,6 +50,16 @@ unsafe extern "C" {
     pub fn scene_with_text(s: *mut *mut scene, kind: u32, text: *const u8, len: usize) -> scene_code;
     /// Spawns an entity with the components that were given.
     pub fn scene_spawn(s: *mut *mut scene) -> scene_code;
+    /// Spawns an entity with `count` components, whose texts are parts of `bytes`, and tells it: in an open frame as
+    /// that frame's commands name it.
+    pub fn scene_spawn_cells(
+        s: *mut *mut scene,
+        cells: *const scene_cell,
+        count: usize,
+        bytes: *const u8,
+        len: usize,
+        out: *mut scene_entity,
+    ) -> scene_code;
     /// Despawns an entity that has no children.
     pub fn scene_despawn(s: *mut *mut scene, entity: scene_entity) -> scene_code;
     /// Despawns an entity with all below it.
@@ -56,6 +72,16 @@ unsafe extern "C" {
         entity: scene_entity,
         kind: u32,
         text: *const u8,
+        len: usize,
+    ) -> scene_code;
+    /// Gives `count` entities a component each, by a frame of its own. Texts are parts of `bytes`.
+    pub fn scene_insert_cells(
+        s: *mut *mut scene,
+        entities: *const scene_entity,
+        count: usize,
+        cells: *const scene_cell,
+        cell_count: usize,
+        bytes: *const u8,
         len: usize,
     ) -> scene_code;
     /// Takes the component of a kind away.
@@ -82,6 +108,8 @@ unsafe extern "C" {
     pub fn scene_clear_systems(s: *mut *mut scene) -> scene_code;
     /// Plays all systems once, which is a frame.
     pub fn scene_advance(s: *mut *mut scene) -> scene_code;
+    /// Whether [`scene_advance`] would take the systems that there are; else why not.
+    pub fn scene_check_systems(s: *mut *mut scene, why: *mut scene_refusal) -> scene_code;
     /// Reads a component: into `*out`, and a text as the text that is kept. It ends the setup.
     pub fn scene_get(s: *mut *mut scene, entity: scene_entity, kind: u32, out: *mut scene_cell) -> scene_code;
     /// Notes this moment.
@@ -164,6 +192,19 @@ unsafe extern "C" {
         from: usize,
         at: *mut scene_entity,
         room: usize,
+        total: *mut usize,
+    ) -> scene_code;
+    /// The texts of a kind, in the order of [`scene_rows`]: their bytes, where each ends there, and how many are told.
+    pub fn scene_texts(
+        s: *mut *mut scene,
+        mask: u64,
+        kind: u32,
+        from: usize,
+        ends: *mut usize,
+        room: usize,
+        bytes: *mut u8,
+        bytes_room: usize,
+        told: *mut usize,
         total: *mut usize,
     ) -> scene_code;
     /// The ticks at which components of a kind were added, for `which` 0, or last changed, for 1.
@@ -275,6 +316,45 @@ unsafe extern "C" {
         tick: *mut u64,
         from: usize,
         at: *mut scene_delta,
+        room: usize,
+        total: *mut usize,
+    ) -> scene_code;
+    /// The components of the rows that deltas of a step brought or took away, where those of each end, and how many
+    /// deltas are told.
+    pub fn scene_delta_rows(
+        s: *mut *mut scene,
+        way: u32,
+        place: usize,
+        from: usize,
+        ends: *mut usize,
+        room: usize,
+        cells: *mut scene_cell,
+        cells_room: usize,
+        told: *mut usize,
+        total: *mut usize,
+    ) -> scene_code;
+    /// A text of each delta of a step, as [`scene_delta_rows`] tells rows: for `which` 0 the one before it, 1 the one
+    /// after it, 2 the name of its resource.
+    pub fn scene_delta_texts(
+        s: *mut *mut scene,
+        way: u32,
+        place: usize,
+        which: u32,
+        kind: u32,
+        from: usize,
+        ends: *mut usize,
+        room: usize,
+        bytes: *mut u8,
+        bytes_room: usize,
+        told: *mut usize,
+        total: *mut usize,
+    ) -> scene_code;
+    /// The scene as a text: for `version` 1 its world alone, for 2 with all that can be undone and redone.
+    pub fn scene_save_into(
+        s: *mut *mut scene,
+        version: u32,
+        from: usize,
+        at: *mut u8,
         room: usize,
         total: *mut usize,
     ) -> scene_code;

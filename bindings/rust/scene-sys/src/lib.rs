@@ -56,9 +56,9 @@ pub const SCENE_BACK: u32 = 0;
 /// The way along those that can be redone, from the next.
 pub const SCENE_ON: u32 = 1;
 
-/// A delta by which the entity came, with components that the scene tells.
+/// A delta by which the entity came, with the components that [`scene_delta_rows`] tells.
 pub const SCENE_SPAWNED: u32 = 0;
-/// One by which it went, from its parent too.
+/// One by which it went with these, from its parent too.
 pub const SCENE_DESPAWNED: u32 = 1;
 /// One by which a component came or went.
 pub const SCENE_SHIFTED: u32 = 2;
@@ -84,7 +84,7 @@ pub const SCENE_NONE: scene_entity = scene_entity { index: u32::MAX, generation:
 
 /// A component: its kind, its shape and its numbers.
 #[repr(C)]
-#[derive(Clone, Copy, Debug, Default)]
+#[derive(Clone, Copy, Debug, Default, PartialEq, Eq)]
 pub struct scene_cell {
     /// The kind, from 0.
     pub kind: u32,
@@ -198,14 +198,20 @@ pub struct scene_delta {
     pub change: u32,
     /// The entity, or [`SCENE_NONE`] where it is about a resource.
     pub entity: scene_entity,
-    /// The component before, of the shape [`SCENE_ABSENT`] where there was none; a text comes apart.
+    /// The place of the row in the table that it left, where it left one.
+    pub place: u32,
+    /// The component or resource before, of the shape [`SCENE_ABSENT`] where there was none; a text comes apart.
     pub before: scene_cell,
-    /// The component behind it.
+    /// The component or resource behind it.
     pub after: scene_cell,
-    /// The parent before, or [`SCENE_NONE`].
+    /// The parent before, or [`SCENE_NONE`],
     pub parent_before: scene_entity,
-    /// The parent behind it.
+    /// and the place among its children, counted without the entity.
+    pub place_before: u32,
+    /// The parent behind it,
     pub parent_after: scene_entity,
+    /// and the place there.
+    pub place_after: u32,
 }
 
 mod calls;
