@@ -10,10 +10,11 @@
  *     scene_undo(&s);
  *     scene_close(&s);
  *
- * A `scene *` holds what scene_open put there, or NULL; only the library writes it. Each other call takes the address
- * of that variable. A scene belongs to one thread, and to one call at a time; two scenes know nothing of each other, so
- * two threads can have one each. No call starts a thread, waits, or reads a file or the clock. There may be as many
- * calls as a counter of 64 bits holds.
+ * A `scene *` holds what scene_open or scene_reader put there, or NULL; only the library writes it, and a copy of it is
+ * none. Each other call takes the address of that variable. Such a variable belongs to one thread, and to one call at a
+ * time. Two scenes know nothing of each other, so two threads can have one each; and what scene_share shares, several
+ * threads read at once, each by a variable of its own. No call starts a thread, waits, or reads a file or the clock.
+ * There may be as many calls as a counter of 64 bits holds.
  *
  * The caller owns all bytes that it passes, which are read during the call alone, and all that it is given, which are
  * copies. A pointer to bytes that are read isn't NULL, not even for 0 bytes; one to room for a text may be NULL where
@@ -45,7 +46,9 @@ typedef enum scene_code {
     SCENE_UNTOLD = 5,    /* answered, but memory was wanting for the text alone: scene_refused says if it was refused,
                             scene_spawned and scene_named what it made. Only of scene_line, scene_request, scene_load,
                             scene_save and scene_advance */
-    SCENE_LOST = 6       /* memory was wanting, and the kinds or the scene that the setup had are lost */
+    SCENE_LOST = 6,      /* memory was wanting, and the kinds or the scene that the setup had are lost */
+    SCENE_SHARED = 7     /* the scene is shared, and this call would change it or its last answer; but for what
+                            arguments alone say (SCENE_BAD, and SCENE_NO_MEMORY of a copy of them), which comes first */
 } scene_code;
 
 /* The shapes of components, and the numbers of a scene_cell that they use. */
@@ -141,6 +144,22 @@ size_t scene_fault_name(uint32_t fault, uint8_t *at, size_t room);
 
 /* The version of the library, as SCENE_VERSION. */
 uint32_t scene_version(void);
+
+/* ---- several readers of one scene */
+
+/* Shares a scene, which is only read then: each call that would change it, or its last answer, is SCENE_SHARED and does
+ * nothing; those that read, and of the last answer too, go on. One that is shared stays so. SCENE_NO_MEMORY: then it
+ * isn't shared. */
+scene_code scene_share(scene **s);
+
+/* Gives a shared scene one pointer more, *out, which reads what *s reads, whichever of them is closed first; what *out
+ * was before is closed, so it has to be NULL or a scene's. SCENE_BAD where the scene isn't shared, and SCENE_NO_MEMORY:
+ * then *out stays. A pointer may go to another thread by all that orders memory, as a thread's start or a lock. */
+scene_code scene_reader(scene **s, scene **out);
+
+/* Makes a scene the one pointer's alone that is left, which changes it again. SCENE_REFUSED while others have it: they
+ * have to be closed before. scene_refused says nothing. It needs no memory. */
+scene_code scene_unshare(scene **s);
 
 /* ---- kinds, and how far can be undone */
 

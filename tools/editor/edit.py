@@ -2,6 +2,7 @@
 """`scene edit`: serves the editor of a store to a browser on this machine."""
 import secrets
 import signal
+import socket
 import sys
 import threading
 from pathlib import Path
@@ -15,16 +16,24 @@ from server import Server  # noqa: E402
 from stored import StoreFault  # noqa: E402
 
 TOKEN_BYTES = 24  # which are 32 characters
-SECONDS_TO_LOOK = 1
 BUILT = TOP / "crates" / "scene" / "out" / "scene"
 UNBUILT = "the proved program isn't built, and the editor needs it; './scene build' builds it"
 
 
+def ends_told():
+    """A socket that has a byte once an interrupt, or a wish to end, has come to any thread. (A handler that sets an
+    event could wait for ever: it runs in the thread that waits for it, which may have the event's lock.)"""
+    told, tells = socket.socketpair()
+    tells.setblocking(False)
+    for number in (signal.SIGINT, signal.SIGTERM):
+        signal.signal(number, lambda *_: None)
+    signal.set_wakeup_fd(tells.detach(), warn_on_full_buffer=False)
+    return told
+
+
 def serve(words):
     """Serves until an interrupt."""
-    stop = threading.Event()
-    for number in (signal.SIGINT, signal.SIGTERM):
-        signal.signal(number, lambda *_: stop.set())
+    told = ends_told()
     hub = Hub(words.program, words.store)
     token = secrets.token_urlsafe(TOKEN_BYTES)
     try:
@@ -35,9 +44,7 @@ def serve(words):
     thread = threading.Thread(target=server.serve_forever, kwargs={"poll_interval": 0.1}, daemon=True)
     thread.start()
     print(f"http://127.0.0.1:{server.server_port}/{token}/", flush=True)
-    while not stop.wait(SECONDS_TO_LOOK):
-        # A signal that another thread got is seen only when this one wakes.
-        pass
+    told.recv(1)
     hub.close()
     server.shutdown()
     thread.join()

@@ -19,7 +19,7 @@ class EditorProcess:
     """`scene edit` over a store. `with` ends it, and holds it to a good end."""
 
     def __init__(self, program, store, script=None):
-        words = [sys.executable, "-B", str(EDIT), str(store), "--program", str(program)]
+        words = [sys.executable, "-B", "-X", "faulthandler", str(EDIT), str(store), "--program", str(program)]
         words += ["--from", str(script)] if script else []
         self.told = tempfile.TemporaryFile()
         self.process = subprocess.Popen(words, stdout=subprocess.PIPE, stderr=self.told)
@@ -34,17 +34,24 @@ class EditorProcess:
 
     def __exit__(self, kind, error, trace):
         self.process.send_signal(signal.SIGTERM)
-        try:
-            status = self.process.wait(timeout=SECONDS)
-        except subprocess.TimeoutExpired:
-            self.process.kill()
-            status = self.process.wait()
+        status = self.ended()
         self.process.stdout.close()
         if error is None:
             assert status == 0, f"the editor ended with status {status}: {self.errors()}"
         elif self.errors():
             print(f"the editor told: {self.errors()}", file=sys.stderr)
         self.told.close()
+
+    def ended(self):
+        """The status of an end that has been asked for. Seconds are counted one by one: those in which the machine
+        itself stood still are one. Where it doesn't end, SIGABRT has it tell what each of its threads is at."""
+        for _ in range(SECONDS):
+            try:
+                return self.process.wait(timeout=1)
+            except subprocess.TimeoutExpired:
+                pass
+        self.process.send_signal(signal.SIGABRT)
+        return self.process.wait()
 
     def errors(self):
         """What it told on standard error; by a seek it would write elsewhere, since both have one place in the file."""

@@ -28,7 +28,7 @@ use Rattle.std.specs.declared.option.Option.TheVariants.{None, Some}
 use Rattle.std.specs.contracts.alloc.Global as heap
 use Rattle.std.proofs.alloc.Global.TheLaws as heap_laws
 use Rattle.std.specs.contracts.impls.GlobalAllocator.TheImpl.{ghosts}
-use Rattle.scene_c.specs.contracts.open_scene.OpenScene as told
+use Rattle.scene_c.specs.contracts.held_scene.HeldScene as told
 use Rattle.scene_c.specs.Held.{held}
 use Rattle.scene_c.specs.contracts.handle.Handle as handle
 use Rattle.scene_c.proofs.Values.{both}

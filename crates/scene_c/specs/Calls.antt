@@ -18,9 +18,12 @@ use Rattle.scene_interpreter.specs.Changes.{frame_is_open}
 use Rattle.scene_interpreter.specs.Interpreter.{Interpreter, LineReply, Tells, begun, halted, interpreter_kinds, interpreter_of, interpreter_said, without_frame}
 use Rattle.scene_interpreter.specs.JsonAnswer.{json_text}
 use Rattle.scene_interpreter.specs.Said.{Said, Nothing, Called, Fault, Bad, bad_in, refused}
-use Rattle.scene_c.specs.OpenScene.{HasHalted, KeepsAnswer, fresh_interpreter, made_in, named_in, numbers_of, refusal_in, text_in, world_of}
-use Rattle.scene_c.specs.declared.open_scene.OpenScene.{OpenScene}
 use Rattle.scene_c.specs.Arguments.{shown_cell}
+use Rattle.scene_c.specs.HeldScene.{StaysShared, seen}
+use Rattle.scene_c.specs.OpenScene.{HasHalted, KeepsAnswer, fresh_interpreter, made_in, named_in, numbers_of, refusal_in, text_in, world_of}
+use Rattle.scene_c.specs.declared.held_scene.HeldScene.{HeldScene}
+use Rattle.scene_c.specs.declared.held_scene.HeldScene.TheVariants.{Alone, Shared}
+use Rattle.scene_c.specs.declared.open_scene.OpenScene.{OpenScene}
 use Rattle.scene_c.specs.declared.value.SceneCell.{SceneCell}
 
 -- a scene before its first line
@@ -30,9 +33,10 @@ IsFresh new =
     × (string_bytes new.text ≡ []) × (new.cells.items ≡ [])
 
 -- what a code says of the handle that an opening made: such a scene, or null where no memory was found
-abbrev pub Opens : Option OpenScene → ℕ → Type 0
+abbrev pub Opens : Option HeldScene → ℕ → Type 0
 Opens None code = code ≡ 1
-Opens (Some new) code = (code ≡ 0) × IsFresh new
+Opens (Some (Alone new)) code = (code ≡ 0) × IsFresh new
+Opens (Some (Shared new)) code = ⊥
 
 -- ---- codes
 
@@ -65,11 +69,12 @@ pub record Played (old new : OpenScene) (r : LineReply) (text : List ℕ) (code 
   pub halted : IfErr came (λ h. HasHalted h old new r)
 
 -- on the scene that a handle holds; on null it does nothing
-abbrev pub Plays : (Interpreter → LineReply) → (LineReply → List ℕ) → Option OpenScene → Option OpenScene → ℕ → Type 0
+abbrev pub Plays : (Interpreter → LineReply) → (LineReply → List ℕ) → Option HeldScene → Option HeldScene → ℕ → Type 0
 Plays reply text None None code = code ≡ 2
-Plays reply text (Some old) (Some new) code =
+Plays reply text (Some (Alone old)) (Some (Alone new)) code =
     Played old new (reply (interpreter_of old.interpreter)) (text (reply (interpreter_of old.interpreter))) code
     × (new.cells.items ≡ old.cells.items)
+Plays reply text (Some (Shared old)) new code = StaysShared (Shared old) new code
 Plays reply text old new code = ⊥
 
 -- a line as a value
@@ -81,19 +86,20 @@ abbrev pub untold : LineReply → List ℕ
 untold r = []
 
 -- a line without a text: so it isn't done but untold
-abbrev pub Does : Line → Option OpenScene → Option OpenScene → ℕ → Type 0
+abbrev pub Does : Line → Option HeldScene → Option HeldScene → ℕ → Type 0
 Does line old new code = Plays (says line) untold old new code × (code ≢ 5)
 
 -- the line that the arguments name; where they name none, nothing was done
-abbrev pub Asks : Option Line → Option OpenScene → Option OpenScene → ℕ → Type 0
+abbrev pub Asks : Option Line → Option HeldScene → Option HeldScene → ℕ → Type 0
 Asks None old new code = (new ≡ old) × (code ≡ 4)
 Asks (Some line) old new code = Does line old new code
 
 -- a spawn with the components that were given for it, after which none are given for the next one
-abbrev pub Spawns : Option OpenScene → Option OpenScene → ℕ → Type 0
+abbrev pub Spawns : Option HeldScene → Option HeldScene → ℕ → Type 0
 Spawns None None code = code ≡ 2
-Spawns (Some old) (Some new) code =
+Spawns (Some (Alone old)) (Some (Alone new)) code =
     Played old new (says (Do (Spawn old.cells.items)) (interpreter_of old.interpreter)) [] code × (new.cells.items ≡ []) × (code ≢ 5)
+Spawns (Some (Shared old)) new code = StaysShared (Shared old) new code
 Spawns old new code = ⊥
 
 -- a component more is given for the next spawn, or no memory was found for it
@@ -102,41 +108,43 @@ GivesMore c old new code = (KeepsAnswer old new × (interpreter_of new.interpret
     × (((code ≡ 0) × (new.cells.items ≡ old.cells.items ++ c ∷ [])) ⊎ ((code ≡ 1) × (new.cells.items ≡ old.cells.items)))
 
 -- on the scene that a handle holds; where the arguments name no component, nothing was done
-abbrev pub Gives : Option (ℕ × Value) → Option OpenScene → Option OpenScene → ℕ → Type 0
+abbrev pub Gives : Option (ℕ × Value) → Option HeldScene → Option HeldScene → ℕ → Type 0
 Gives None old new code = (new ≡ old) × (code ≡ 4)
 Gives (Some c) None None code = code ≡ 2
-Gives (Some c) (Some old) (Some new) code = GivesMore c old new code
+Gives (Some c) (Some (Alone old)) (Some (Alone new)) code = GivesMore c old new code
+Gives (Some c) (Some (Shared old)) new code = StaysShared (Shared old) new code
 Gives (Some c) old new code = ⊥
 
 -- ---- calls with a text among their arguments, of which a copy is made where they have a meaning
 
 -- no memory was found for the copy, and nothing was done
-abbrev pub HasNoRoom : Option OpenScene → Option OpenScene → ℕ → Type 0
+abbrev pub HasNoRoom : Option HeldScene → Option HeldScene → ℕ → Type 0
 HasNoRoom old new code = (code ≡ 1) × (new ≡ old)
 
 -- a scene text is loaded; bytes that are no text are not
-abbrev pub Loads : Option (List ℕ) → Option OpenScene → Option OpenScene → ℕ → Type 0
+abbrev pub Loads : Option (List ℕ) → Option HeldScene → Option HeldScene → ℕ → Type 0
 Loads None old new code = (new ≡ old) × (code ≡ 4)
 Loads (Some text) old new code = HasNoRoom old new code ⊎ Plays (says (Load text)) (λ r. r.text) old new code
 
 -- a component that is a text is given for the next spawn
-abbrev pub GivesText : Option (ℕ × Value) → Option OpenScene → Option OpenScene → ℕ → Type 0
+abbrev pub GivesText : Option (ℕ × Value) → Option HeldScene → Option HeldScene → ℕ → Type 0
 GivesText None old new code = (new ≡ old) × (code ≡ 4)
 GivesText (Some c) old new code = HasNoRoom old new code ⊎ Gives (Some c) old new code
 
 -- the line of a component that is a text
-abbrev pub AsksText : Option Line → Option OpenScene → Option OpenScene → ℕ → Type 0
+abbrev pub AsksText : Option Line → Option HeldScene → Option HeldScene → ℕ → Type 0
 AsksText None old new code = (new ≡ old) × (code ≡ 4)
 AsksText (Some line) old new code = HasNoRoom old new code ⊎ Does line old new code
 
 -- ---- a frame that is dropped, and why a line is bad
 
 -- the open frame is dropped, and nothing else changes; or none is open
-abbrev pub DropsFrame : Option OpenScene → Option OpenScene → ℕ → Type 0
+abbrev pub DropsFrame : Option HeldScene → Option HeldScene → ℕ → Type 0
 DropsFrame None None code = code ≡ 2
-DropsFrame (Some old) (Some new) code = (code ≡ (if frame_is_open (interpreter_of old.interpreter) then 0 else 4))
+DropsFrame (Some (Alone old)) (Some (Alone new)) code = (code ≡ (if frame_is_open (interpreter_of old.interpreter) then 0 else 4))
     × (interpreter_of new.interpreter ≡ without_frame (interpreter_of old.interpreter)) × KeepsAnswer old new
     × (new.cells.items ≡ old.cells.items)
+DropsFrame (Some (Shared old)) new code = StaysShared (Shared old) new code
 DropsFrame old new code = ⊥
 
 -- by whether the last line was bad: the text is why, or no memory was found for that; or else there is nothing to say,
@@ -146,10 +154,11 @@ SaysWhy true old new code = (code ≡ 0) ⊎ ((code ≡ 1) × (string_bytes new.
 SaysWhy false old new code = (code ≡ 4) × (string_bytes new.text ≡ string_bytes old.text)
 
 -- on the scene that a handle holds; but for its text it is as it was
-abbrev pub Explains : Option OpenScene → Option OpenScene → ℕ → Type 0
+abbrev pub Explains : Option HeldScene → Option HeldScene → ℕ → Type 0
 Explains None None code = code ≡ 2
-Explains (Some old) (Some new) code = SaysWhy (is_some (bad_in (said_of old.answer))) old new code
+Explains (Some (Alone old)) (Some (Alone new)) code = SaysWhy (is_some (bad_in (said_of old.answer))) old new code
     × (new.answer ≡ old.answer) × (interpreter_of new.interpreter ≡ interpreter_of old.interpreter) × (new.cells.items ≡ old.cells.items)
+Explains (Some (Shared old)) new code = StaysShared (Shared old) new code
 Explains old new code = ⊥
 
 -- ---- the last answer as JSON
@@ -164,33 +173,34 @@ SaysJson old new code =
     ((code ≡ 0) × IsJsonOf old (string_bytes new.text)) ⊎ ((code ≡ 1) × (string_bytes new.text ≡ string_bytes old.text))
 
 -- on the scene that a handle holds; but for its text it is as it was
-abbrev pub TellsJson : Option OpenScene → Option OpenScene → ℕ → Type 0
+abbrev pub TellsJson : Option HeldScene → Option HeldScene → ℕ → Type 0
 TellsJson None None code = code ≡ 2
-TellsJson (Some old) (Some new) code = SaysJson old new code
+TellsJson (Some (Alone old)) (Some (Alone new)) code = SaysJson old new code
     × (new.answer ≡ old.answer) × (interpreter_of new.interpreter ≡ interpreter_of old.interpreter) × (new.cells.items ≡ old.cells.items)
+TellsJson (Some (Shared old)) new code = StaysShared (Shared old) new code
 TellsJson old new code = ⊥
 
 -- ---- what is read
 
 -- the text of the last answer, and none where nothing is open
-abbrev pub text_now : Option OpenScene → List ℕ
+abbrev pub text_now : Option HeldScene → List ℕ
 text_now None = []
-text_now (Some d) = string_bytes d.text
+text_now (Some h) = string_bytes (seen h).text
 
 -- an entity that the last frame made, by its place
-abbrev pub made_at : Option OpenScene → ℕ → Option Entity
+abbrev pub made_at : Option HeldScene → ℕ → Option Entity
 made_at None at = None
-made_at (Some d) at = slice_get (made_in (said_of d.answer)) at
+made_at (Some h) at = slice_get (made_in (said_of (seen h).answer)) at
 
 -- a cell that the last answer lists, by its place
-abbrev pub named_at : Option OpenScene → ℕ → Option CellName
+abbrev pub named_at : Option HeldScene → ℕ → Option CellName
 named_at None at = None
-named_at (Some d) at = slice_get (named_in (said_of d.answer)) at
+named_at (Some h) at = slice_get (named_in (said_of (seen h).answer)) at
 
 -- the refusal that the last answer is
-abbrev pub refusal_now : Option OpenScene → Option Refusal
+abbrev pub refusal_now : Option HeldScene → Option Refusal
 refusal_now None = None
-refusal_now (Some d) = refusal_in (said_of d.answer)
+refusal_now (Some h) = refusal_in (said_of (seen h).answer)
 
 -- what was found of a component: it is shown, with the text that it may be; or it is refused, and nothing is shown
 abbrev pub Shows : ℕ → Result Cell Refusal → OpenScene → SceneCell → SceneCell → ℕ → Type 0
@@ -210,8 +220,9 @@ pub record WasRead (e : Entity) (kind : ℕ) (old new : OpenScene) (before after
   pub cells : new.cells.items ≡ old.cells.items
 
 -- on the scene that a handle holds; a kind that is no number of 8 bits, and null, show nothing
-abbrev pub Gets : Entity → Option ℕ → Option OpenScene → Option OpenScene → SceneCell → SceneCell → ℕ → Type 0
+abbrev pub Gets : Entity → Option ℕ → Option HeldScene → Option HeldScene → SceneCell → SceneCell → ℕ → Type 0
 Gets e None old new before after code = (new ≡ old) × (after ≡ before) × (code ≡ 4)
 Gets e (Some kind) None None before after code = (after ≡ before) × (code ≡ 2)
-Gets e (Some kind) (Some old) (Some new) before after code = WasRead e kind old new before after code
+Gets e (Some kind) (Some (Alone old)) (Some (Alone new)) before after code = WasRead e kind old new before after code
+Gets e (Some kind) (Some (Shared old)) new before after code = (after ≡ before) × StaysShared (Shared old) new code
 Gets e (Some kind) old new before after code = ⊥

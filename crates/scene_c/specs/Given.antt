@@ -1,5 +1,5 @@
 -- What lists of C name: components, whose texts stand in bytes beside them, and commands that write them.
-use Rattle.std.specs.Prelude.{◌≡◌, ◌⊎◌, ℕ, ◌+◌, ℤ, pos, negsuc, List, [], ◌∷◌, Option, Some, None, if◌then◌else◌, drop, length, nat_eq, nat_le, nat_lt, take}
+use Rattle.std.specs.Prelude.{◌≡◌, ◌⊎◌, ℕ, ◌+◌, ℤ, pos, negsuc, List, [], ◌∷◌, Option, Some, None, if◌then◌else◌, drop, length, nat_eq, nat_le, nat_lt, slice_get, take}
 use Rattle.std.specs.Option.{option_and_then, option_map}
 use Rattle.scene_kinds.specs.declared.entity.Entity.{Entity}
 use Rattle.scene_kinds.specs.declared.shape.Shape.{Shape}
@@ -12,12 +12,16 @@ use Rattle.scene_commands.specs.declared.target.Target.TheVariants.{New, Id}
 use Rattle.scene_queue.specs.Queue.{spawns, usual_limit}
 use Rattle.scene_script.specs.declared.script_line.Line.{Line}
 use Rattle.scene_script.specs.declared.script_line.Line.TheVariants.{Do, Kind}
+use Rattle.scene_interpreter.specs.Answer.{said_of}
 use Rattle.scene_interpreter.specs.Changes.{frame_is_open}
 use Rattle.scene_interpreter.specs.Interpreter.{Interpreter, Setting, Playing, interpreter_of}
 use Rattle.scene_interpreter.specs.OpenFrame.{Opened}
 use Rattle.scene_interpreter.specs.WholeFrame.{queue_said}
 use Rattle.scene_c.specs.Arguments.{component_of_cell, shown_entity, target_of, text_component}
-use Rattle.scene_c.specs.Calls.{Asks, HasNoRoom, Plays, made_at, untold}
+use Rattle.scene_c.specs.Calls.{Asks, HasNoRoom, Plays, untold}
+use Rattle.scene_c.specs.HeldScene.{seen}
+use Rattle.scene_c.specs.OpenScene.{made_in}
+use Rattle.scene_c.specs.declared.held_scene.HeldScene.{HeldScene}
 use Rattle.scene_c.specs.declared.open_scene.OpenScene.{OpenScene}
 use Rattle.scene_c.specs.declared.value.SceneCell.{SceneCell}
 use Rattle.scene_c.specs.declared.value.SceneEntity.{SceneEntity}
@@ -74,7 +78,7 @@ writes_of bytes entities cells = if nat_lt usual_limit (length cells) then None 
 -- ---- calls
 
 -- the line that lists name; no memory may be found for a copy of what they name, and then nothing was done
-abbrev pub AsksCopied : Option Line → Option OpenScene → Option OpenScene → ℕ → Type 0
+abbrev pub AsksCopied : Option Line → Option HeldScene → Option HeldScene → ℕ → Type 0
 AsksCopied line old new code = HasNoRoom old new code ⊎ Asks line old new code
 
 -- how many spawns the last queue of a frame has
@@ -98,23 +102,28 @@ next_name (Setting s) = record { index = 0; generation = 0 }
 next_name (Playing s) = record { index = spawns_in s.frame; generation = 0 }
 
 -- what a spawn that was done has spawned: in an open frame that name, and else the entity
-abbrev pub spawned_by : Option OpenScene → Option OpenScene → SceneEntity → SceneEntity
-spawned_by None new none = none
-spawned_by (Some old) new none =
-    if frame_is_open (interpreter_of old.interpreter) then next_name (interpreter_of old.interpreter) else shown_or none (made_at new 0)
+abbrev pub spawned_in : OpenScene → OpenScene → SceneEntity → SceneEntity
+spawned_in old new none =
+    if frame_is_open (interpreter_of old.interpreter) then next_name (interpreter_of old.interpreter)
+    else shown_or none (slice_get (made_in (said_of new.answer)) 0)
+
+-- the same of the scene that a handle holds
+abbrev pub spawned_by : Option HeldScene → Option HeldScene → SceneEntity → SceneEntity
+spawned_by (Some old) (Some new) none = spawned_in (seen old) (seen new) none
+spawned_by old new none = none
 
 -- it is told, where it was done
-abbrev pub TellsSpawned : ℕ → Option OpenScene → Option OpenScene → (before after : SceneEntity) → Type 0
+abbrev pub TellsSpawned : ℕ → Option HeldScene → Option HeldScene → (before after : SceneEntity) → Type 0
 TellsSpawned code old new before after = after ≡ (if nat_eq code 0 then spawned_by old new before else before)
 
 -- commands are a frame of one queue; where the arguments name none, nothing was done
-abbrev pub Submits : Option (List Command) → Option OpenScene → Option OpenScene → ℕ → Type 0
+abbrev pub Submits : Option (List Command) → Option HeldScene → Option HeldScene → ℕ → Type 0
 Submits None old new code = (new ≡ old) × (code ≡ 4)
 Submits (Some commands) old new code =
     Plays (λ p. queue_said p (record { limit = usual_limit; commands = commands })) untold old new code
 
 -- or no memory was found for their copies
-abbrev pub SubmitsCopied : Option (List Command) → Option OpenScene → Option OpenScene → ℕ → Type 0
+abbrev pub SubmitsCopied : Option (List Command) → Option HeldScene → Option HeldScene → ℕ → Type 0
 SubmitsCopied commands old new code = HasNoRoom old new code ⊎ Submits commands old new code
 
 -- ---- kinds

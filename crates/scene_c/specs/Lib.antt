@@ -2,6 +2,7 @@ pub mod Arguments
 pub mod Calls
 pub mod Given
 pub mod Held
+pub mod HeldScene
 pub mod Joined
 pub mod Memory
 pub mod Names

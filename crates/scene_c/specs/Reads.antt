@@ -24,9 +24,11 @@ use Rattle.scene_table.specs.Table.{cells_of_kind}
 use Rattle.scene_undo.specs.Cursor.{since}
 use Rattle.scene_interpreter.specs.Interpreter.{IsSetting, interpreter_kinds, interpreter_of, owner_of}
 use Rattle.scene_c.specs.Arguments.{cursor_of, entity_of, shape_number, shown_cell, shown_name, text_of}
+use Rattle.scene_c.specs.HeldScene.{seen}
 use Rattle.scene_c.specs.Memory.{copied}
 use Rattle.scene_c.specs.OpenScene.{numbers_of, world_of}
 use Rattle.scene_c.specs.Shown.{text_value}
+use Rattle.scene_c.specs.declared.held_scene.HeldScene.{HeldScene}
 use Rattle.scene_c.specs.declared.open_scene.OpenScene.{OpenScene}
 use Rattle.scene_c.specs.declared.shown.SceneMoment.{SceneMoment}
 use Rattle.scene_c.specs.declared.shown.SceneTable.{SceneTable}
@@ -50,14 +52,14 @@ abbrev pub Tells : (kept : Type 0) → (ℕ → Type 0) → OpenScene → ℕ �
 Tells kept told d code = told code ⊎ ((code ≡ 4) × (kept × IsSetting (interpreter_of d.interpreter)))
 
 -- the same of the scene that a handle holds; of null nothing is told
-abbrev pub TellsOf : (kept : Type 0) → (OpenScene → ℕ → Type 0) → Option OpenScene → ℕ → Type 0
+abbrev pub TellsOf : (kept : Type 0) → (OpenScene → ℕ → Type 0) → Option HeldScene → ℕ → Type 0
 TellsOf kept told None code = (code ≡ 2) × kept
-TellsOf kept told (Some d) code = Tells kept (told d) d code
+TellsOf kept told (Some h) code = Tells kept (told (seen h)) (seen h) code
 
 -- what is told in the setup too
-abbrev pub TellsAlways : (kept : Type 0) → (OpenScene → ℕ → Type 0) → Option OpenScene → ℕ → Type 0
+abbrev pub TellsAlways : (kept : Type 0) → (OpenScene → ℕ → Type 0) → Option HeldScene → ℕ → Type 0
 TellsAlways kept told None code = (code ≡ 2) × kept
-TellsAlways kept told (Some d) code = told d code
+TellsAlways kept told (Some h) code = told (seen h) code
 
 -- a value is told
 abbrev pub IsTold : {A : Type 0} → A → A → ℕ → Type 0
@@ -192,14 +194,14 @@ TellsText None from old new old_total total code = (code ≡ 3) × ((new ≡ old
 TellsText (Some text) from old new old_total total code = Lists text from old new total code
 
 -- of the scene that a handle holds; no component has a kind of more than 8 bits
-abbrev pub TellsCellOf : Option ℕ → Entity → Option OpenScene
+abbrev pub TellsCellOf : Option ℕ → Entity → Option HeldScene
     → (old new : SceneCell) → (old_ticks new_ticks : SceneTicks) → ℕ → Type 0
 TellsCellOf None e d old new old_ticks new_ticks code = (code ≡ 4) × ((new ≡ old) × (new_ticks ≡ old_ticks))
 TellsCellOf (Some kind) e d old new old_ticks new_ticks code =
     TellsOf ((new ≡ old) × (new_ticks ≡ old_ticks)) (λ o. TellsCell kind (component_of (world_of o) e kind) old new old_ticks new_ticks) d code
 
 -- a text of an entity is told from one of its bytes on, where the number names a kind
-abbrev pub TellsTextOf : Option ℕ → Entity → Option OpenScene → ℕ → (old new : List ℕ) → (old_total total : ℕ) → ℕ → Type 0
+abbrev pub TellsTextOf : Option ℕ → Entity → Option HeldScene → ℕ → (old new : List ℕ) → (old_total total : ℕ) → ℕ → Type 0
 TellsTextOf None e d from old new old_total total code = (code ≡ 4) × ((new ≡ old) × (total ≡ old_total))
 TellsTextOf (Some kind) e d from old new old_total total code =
     TellsOf ((new ≡ old) × (total ≡ old_total))
@@ -234,7 +236,7 @@ abbrev pub IsGathered : List SceneCell → (old new : List SceneCell) → ℕ �
 IsGathered cells old new code = (code ≡ 0) × (new ≡ copied cells old)
 
 -- of the scene that a handle holds; no component has a kind of more than 8 bits
-abbrev pub TellsGathered : Option ℕ → List SceneEntity → Option OpenScene → (old new : List SceneCell) → ℕ → Type 0
+abbrev pub TellsGathered : Option ℕ → List SceneEntity → Option HeldScene → (old new : List SceneCell) → ℕ → Type 0
 TellsGathered None entities d old new code = (code ≡ 4) × (new ≡ old)
 TellsGathered (Some kind) entities d old new code =
     TellsOf (new ≡ old) (λ o. IsGathered (map (λ e. cell_or_absent kind (component_of (world_of o) (entity_of e) kind)) entities) old new) d code

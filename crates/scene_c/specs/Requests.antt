@@ -7,7 +7,10 @@ use Rattle.scene_interpreter.specs.Answer.{said_of}
 use Rattle.scene_interpreter.specs.Interpreter.{interpreter_kinds, interpreter_of}
 use Rattle.scene_interpreter.specs.Said.{Nothing}
 use Rattle.scene_c.specs.Calls.{Played, says}
+use Rattle.scene_c.specs.HeldScene.{StaysShared}
 use Rattle.scene_c.specs.OpenScene.{KeepsAnswer}
+use Rattle.scene_c.specs.declared.held_scene.HeldScene.{HeldScene}
+use Rattle.scene_c.specs.declared.held_scene.HeldScene.TheVariants.{Alone, Shared}
 use Rattle.scene_c.specs.declared.open_scene.OpenScene.{OpenScene}
 
 -- no memory was found for what a request says, and nothing was done
@@ -27,7 +30,8 @@ IsRequested bytes old new code =
     IsLeft old new code ⊎ PlaysRequest (request_in (interpreter_kinds (interpreter_of old.interpreter)) bytes) old new code
 
 -- of the scene that a handle holds
-abbrev pub Requests : List ℕ → Option OpenScene → Option OpenScene → ℕ → Type 0
+abbrev pub Requests : List ℕ → Option HeldScene → Option HeldScene → ℕ → Type 0
 Requests bytes None None code = code ≡ 2
-Requests bytes (Some old) (Some new) code = IsRequested bytes old new code × (new.cells.items ≡ old.cells.items)
+Requests bytes (Some (Alone old)) (Some (Alone new)) code = IsRequested bytes old new code × (new.cells.items ≡ old.cells.items)
+Requests bytes (Some (Shared old)) new code = StaysShared (Shared old) new code
 Requests bytes old new code = ⊥

@@ -10,12 +10,12 @@ use Rattle.scene_deltas.specs.declared.delta.Delta.TheVariants.{Spawned, Despawn
 use Rattle.scene_journal.specs.Records.{Record}
 use Rattle.scene_session.specs.Whole.{Whole}
 use Rattle.scene_c.specs.Arguments.{shown_cell, shown_entity}
-use Rattle.scene_c.specs.OpenScene.{numbers_of}
 use Rattle.scene_c.specs.Joined.{IsUntold, TellsParts}
+use Rattle.scene_c.specs.OpenScene.{numbers_of}
 use Rattle.scene_c.specs.Reads.{Lists, TellsOf, whole_now}
 use Rattle.scene_c.specs.Shown.{no_entity, text_value}
 use Rattle.scene_c.specs.declared.delta.SceneDelta.{SceneDelta}
-use Rattle.scene_c.specs.declared.open_scene.OpenScene.{OpenScene}
+use Rattle.scene_c.specs.declared.held_scene.HeldScene.{HeldScene}
 use Rattle.scene_c.specs.declared.times.Way.{Way}
 use Rattle.scene_c.specs.declared.times.Way.TheVariants.{Back, On}
 use Rattle.scene_c.specs.declared.value.SceneCell.{SceneCell}
@@ -136,7 +136,7 @@ TellsStep (Some r) from old_tick tick old new old_total total code =
     (tick ≡ r.tick_before) × Lists (map shown_delta r.deltas) from old new total code
 
 -- of the scene that a handle holds, where the number names a way
-abbrev pub TellsStepOf : Option Way → (place from : ℕ) → Option OpenScene
+abbrev pub TellsStepOf : Option Way → (place from : ℕ) → Option HeldScene
     → (old_tick tick : ℕ) → (old new : List SceneDelta) → (old_total total : ℕ) → ℕ → Type 0
 TellsStepOf None place from d old_tick tick old new old_total total code =
     (code ≡ 4) × ((tick ≡ old_tick) × ((new ≡ old) × (total ≡ old_total)))
@@ -149,7 +149,7 @@ abbrev pub way_by : ℕ → Option Way
 way_by n = if nat_eq n 0 then Some Back else if nat_eq n 1 then Some On else None
 
 -- what each delta of a step has, of the scene that a handle holds
-abbrev pub TellsPartsOf : {A : Type 0} → (Delta → List A) → Option Way → (place from : ℕ) → Option OpenScene
+abbrev pub TellsPartsOf : {A : Type 0} → (Delta → List A) → Option Way → (place from : ℕ) → Option HeldScene
     → (old_ends ends : List ℕ) → (old new : List A) → (old_told told old_total total : ℕ) → ℕ → Type 0
 TellsPartsOf part None place from d old_ends ends old new old_told told old_total total code =
     (code ≡ 4) × IsUntold old_ends ends old new old_told told old_total total
@@ -158,7 +158,7 @@ TellsPartsOf part (Some way) place from d old_ends ends old new old_told told ol
     (λ o. TellsParts part (slice_get (records_on way (whole_now o)) place) from old_ends ends old new old_told told old_total total) d code
 
 -- where a number names a kind; else nothing is told
-abbrev pub TellsTextsOf : (which : ℕ) → Option ℕ → Option Way → (place from : ℕ) → Option OpenScene
+abbrev pub TellsTextsOf : (which : ℕ) → Option ℕ → Option Way → (place from : ℕ) → Option HeldScene
     → (old_ends ends old new : List ℕ) → (old_told told old_total total : ℕ) → ℕ → Type 0
 TellsTextsOf which None way place from d old_ends ends old new old_told told old_total total code =
     (code ≡ 4) × IsUntold old_ends ends old new old_told told old_total total

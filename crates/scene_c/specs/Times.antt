@@ -11,8 +11,11 @@ use Rattle.scene_interpreter.specs.Interpreter.{Interpreter, begun, halted, inte
 use Rattle.scene_interpreter.specs.Said.{refused}
 use Rattle.scene_interpreter.specs.declared.halt.Halt.{Halt}
 use Rattle.scene_c.specs.Calls.{Played, halt_code, said_code, says}
+use Rattle.scene_c.specs.HeldScene.{StaysShared}
 use Rattle.scene_c.specs.OpenScene.{KeepsAnswer}
 use Rattle.scene_c.specs.Reads.{whole_now}
+use Rattle.scene_c.specs.declared.held_scene.HeldScene.{HeldScene}
+use Rattle.scene_c.specs.declared.held_scene.HeldScene.TheVariants.{Alone, Shared}
 use Rattle.scene_c.specs.declared.open_scene.OpenScene.{OpenScene}
 use Rattle.scene_c.specs.declared.times.Way.{Way}
 use Rattle.scene_c.specs.declared.times.Way.TheVariants.{Back, On}
@@ -86,7 +89,8 @@ abbrev pub IsTurned : Way → ℕ → (old new : OpenScene) → ℕ → Type 0
 IsTurned way n old new code = IsHalted old new code ⊎ TurnsIf (nat_lt (frames_left way (whole_now old)) n) way n old new code
 
 -- of the scene that a handle holds
-abbrev pub Turns : Way → ℕ → Option OpenScene → Option OpenScene → ℕ → Type 0
+abbrev pub Turns : Way → ℕ → Option HeldScene → Option HeldScene → ℕ → Type 0
 Turns way n None None code = code ≡ 2
-Turns way n (Some old) (Some new) code = IsTurned way n old new code × (new.cells.items ≡ old.cells.items)
+Turns way n (Some (Alone old)) (Some (Alone new)) code = IsTurned way n old new code × (new.cells.items ≡ old.cells.items)
+Turns way n (Some (Shared old)) new code = StaysShared (Shared old) new code
 Turns way n old new code = ⊥

@@ -2,8 +2,9 @@
 ghost use Rattle.std.specs.Prelude.{◌≡◌, Option, Some, None, option_map};
 ghost use Rattle.scene_c.specs.Calls.{Opens};
 ghost use Rattle.scene_c.specs.Held.{held};
-ghost use Rattle.scene_c.specs.declared.open_scene.OpenScene.{OpenScene as Told};
+ghost use Rattle.scene_c.specs.declared.held_scene.HeldScene.{HeldScene as Told};
 
+use crate::held_scene::HeldScene;
 use crate::loose::Loose;
 use crate::open_scene::OpenScene;
 use crate::{DONE, NO_MEMORY};
@@ -23,6 +24,9 @@ impl Model for Handle {
     ghost also_owns = { λ h. held h.alloc h.at h.value };
 }
 
+// What it owns is its own, or an `Arc`'s share.
+unsafe impl Send for Handle {}
+
 impl Handle {
     /// The handle of nothing.
     pub(crate) fn closed(alloc: Global) -> Handle
@@ -35,10 +39,10 @@ impl Handle {
     }
 
     /// The handle of a scene, which it now owns.
-    pub(crate) fn of(open_scene: Loose<OpenScene, Global>) -> Handle
-        ensures { result.value ≡ Some open_scene.value }
+    pub(crate) fn of(held: Loose<HeldScene, Global>) -> Handle
+        ensures { result.value ≡ Some held.value }
     {
-        let Loose { at, alloc } = open_scene;
+        let Loose { at, alloc } = held;
         Handle {
             at: at as *mut (),
             alloc,
@@ -46,14 +50,14 @@ impl Handle {
     }
 
     /// The handle of a scene in a box.
-    pub(crate) fn of_box(open_scene: Box<OpenScene, Global>) -> Handle
-        ensures { result.value ≡ Some open_scene.value }
+    pub(crate) fn of_box(held: Box<HeldScene, Global>) -> Handle
+        ensures { result.value ≡ Some held.value }
     {
-        Handle::of(Loose::of(open_scene))
+        Handle::of(Loose::of(held))
     }
 
     /// What the handle owns.
-    pub(crate) fn into_loose(self) -> Option<Loose<OpenScene, Global>>
+    pub(crate) fn into_loose(self) -> Option<Loose<HeldScene, Global>>
         ensures { option_map (λ l. l.value) result ≡ self.value }
     {
         let Handle { at, alloc } = self;
@@ -61,7 +65,7 @@ impl Handle {
             None
         } else {
             Some(Loose {
-                at: at as *mut OpenScene,
+                at: at as *mut HeldScene,
                 alloc,
             })
         }
@@ -70,12 +74,12 @@ impl Handle {
 
 impl Drop for Handle {
     fn drop(self) {
-        let _open_scene = into_open_scene(self);
+        let _held = into_held(self);
     }
 }
 
 /// The scene that a handle owns.
-pub(crate) fn into_open_scene(handle: Handle) -> Option<Box<OpenScene, Global>>
+pub(crate) fn into_held(handle: Handle) -> Option<Box<HeldScene, Global>>
     ensures { option_map (λ b. b.value) result ≡ handle.value }
 {
     match handle.into_loose() {
@@ -88,7 +92,7 @@ pub(crate) fn into_open_scene(handle: Handle) -> Option<Box<OpenScene, Global>>
 pub(crate) fn new_handle(alloc: Global) -> (Handle, u32)
     ensures { Opens result.0.value result.1 }
 {
-    match Box::new(alloc, OpenScene::new(alloc)) {
+    match Box::new(alloc, HeldScene::Alone(OpenScene::new(alloc))) {
         Ok(boxed) => (Handle::of_box(boxed), DONE),
         Err(_) => (Handle::closed(alloc), NO_MEMORY),
     }

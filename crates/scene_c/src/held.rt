@@ -7,13 +7,14 @@ ghost use Rattle.scene_c.specs.Requests.{Requests};
 ghost use Rattle.scene_c.specs.Times.{Turns};
 ghost use Rattle.std.specs.Option.{option_map};
 
-use crate::handle::{Handle, into_open_scene};
+use crate::handle::{Handle, into_held};
+use crate::held_scene::HeldScene;
 use crate::played::{
     drop_frame_at, explain_at, give_at, json_at, line_at, say_at, spawn_at, tell_at,
 };
 use crate::requests::request_at;
 use crate::times::Way;
-use crate::{BAD, CLOSED};
+use crate::{BAD, CLOSED, SHARED};
 use scene_kinds::Value;
 use scene_script::Line;
 use std::alloc::Global;
@@ -24,12 +25,15 @@ pub(crate) fn line(alloc: Global, scene: &mut Handle, bytes: &[u8]) -> u32
     ensures { Plays (λ p. interpreter_reply p bytes.now) (λ r. r.text) scene.old.value scene.new.value result }
 {
     let taken = mem::replace(scene, Handle::closed(alloc));
-    let Some(boxed) = into_open_scene(taken) else {
+    let Some(held) = into_held(taken) else {
         return CLOSED;
     };
-    let mut boxed = boxed;
-    let code = line_at(alloc, &mut boxed, bytes);
-    *scene = Handle::of_box(boxed);
+    let mut held = held;
+    let code = match &mut *held {
+        HeldScene::Alone(open_scene) => line_at(alloc, open_scene, bytes),
+        HeldScene::Shared(_) => SHARED,
+    };
+    *scene = Handle::of_box(held);
     code
 }
 
@@ -38,12 +42,15 @@ pub(crate) fn request(alloc: Global, scene: &mut Handle, bytes: &[u8]) -> u32
     ensures { Requests bytes.now scene.old.value scene.new.value result }
 {
     let taken = mem::replace(scene, Handle::closed(alloc));
-    let Some(boxed) = into_open_scene(taken) else {
+    let Some(held) = into_held(taken) else {
         return CLOSED;
     };
-    let mut boxed = boxed;
-    let code = request_at(alloc, &mut boxed, bytes);
-    *scene = Handle::of_box(boxed);
+    let mut held = held;
+    let code = match &mut *held {
+        HeldScene::Alone(open_scene) => request_at(alloc, open_scene, bytes),
+        HeldScene::Shared(_) => SHARED,
+    };
+    *scene = Handle::of_box(held);
     code
 }
 
@@ -52,12 +59,15 @@ pub(crate) fn tell(alloc: Global, scene: &mut Handle, line: Line) -> u32
     ensures { Plays (says line) (λ r. r.text) scene.old.value scene.new.value result }
 {
     let taken = mem::replace(scene, Handle::closed(alloc));
-    let Some(boxed) = into_open_scene(taken) else {
+    let Some(held) = into_held(taken) else {
         return CLOSED;
     };
-    let mut boxed = boxed;
-    let code = tell_at(alloc, &mut boxed, line);
-    *scene = Handle::of_box(boxed);
+    let mut held = held;
+    let code = match &mut *held {
+        HeldScene::Alone(open_scene) => tell_at(alloc, open_scene, line),
+        HeldScene::Shared(_) => SHARED,
+    };
+    *scene = Handle::of_box(held);
     code
 }
 
@@ -67,12 +77,15 @@ pub(crate) fn say(alloc: Global, scene: &mut Handle, line: Line) -> u32
     ensures { Does line scene.old.value scene.new.value result }
 {
     let taken = mem::replace(scene, Handle::closed(alloc));
-    let Some(boxed) = into_open_scene(taken) else {
+    let Some(held) = into_held(taken) else {
         return CLOSED;
     };
-    let mut boxed = boxed;
-    let code = say_at(&mut boxed, line);
-    *scene = Handle::of_box(boxed);
+    let mut held = held;
+    let code = match &mut *held {
+        HeldScene::Alone(open_scene) => say_at(open_scene, line),
+        HeldScene::Shared(_) => SHARED,
+    };
+    *scene = Handle::of_box(held);
     code
 }
 
@@ -81,12 +94,15 @@ pub(crate) fn spawn(alloc: Global, scene: &mut Handle) -> u32
     ensures { Spawns scene.old.value scene.new.value result }
 {
     let taken = mem::replace(scene, Handle::closed(alloc));
-    let Some(boxed) = into_open_scene(taken) else {
+    let Some(held) = into_held(taken) else {
         return CLOSED;
     };
-    let mut boxed = boxed;
-    let code = spawn_at(alloc, &mut boxed);
-    *scene = Handle::of_box(boxed);
+    let mut held = held;
+    let code = match &mut *held {
+        HeldScene::Alone(open_scene) => spawn_at(alloc, open_scene),
+        HeldScene::Shared(_) => SHARED,
+    };
+    *scene = Handle::of_box(held);
     code
 }
 
@@ -98,12 +114,15 @@ pub(crate) fn give(alloc: Global, scene: &mut Handle, given: Option<(u8, Value)>
         return BAD;
     };
     let taken = mem::replace(scene, Handle::closed(alloc));
-    let Some(boxed) = into_open_scene(taken) else {
+    let Some(held) = into_held(taken) else {
         return CLOSED;
     };
-    let mut boxed = boxed;
-    let code = give_at(&mut boxed, kind, value);
-    *scene = Handle::of_box(boxed);
+    let mut held = held;
+    let code = match &mut *held {
+        HeldScene::Alone(open_scene) => give_at(open_scene, kind, value),
+        HeldScene::Shared(_) => SHARED,
+    };
+    *scene = Handle::of_box(held);
     code
 }
 
@@ -123,12 +142,15 @@ pub(crate) fn turn(alloc: Global, scene: &mut Handle, way: Way, count: usize) ->
     ensures { Turns way count scene.old.value scene.new.value result }
 {
     let taken = mem::replace(scene, Handle::closed(alloc));
-    let Some(boxed) = into_open_scene(taken) else {
+    let Some(held) = into_held(taken) else {
         return CLOSED;
     };
-    let mut boxed = boxed;
-    let code = boxed.turn_by(way, count);
-    *scene = Handle::of_box(boxed);
+    let mut held = held;
+    let code = match &mut *held {
+        HeldScene::Alone(open_scene) => open_scene.turn_by(way, count),
+        HeldScene::Shared(_) => SHARED,
+    };
+    *scene = Handle::of_box(held);
     code
 }
 
@@ -137,12 +159,15 @@ pub(crate) fn drop_frame(alloc: Global, scene: &mut Handle) -> u32
     ensures { DropsFrame scene.old.value scene.new.value result }
 {
     let taken = mem::replace(scene, Handle::closed(alloc));
-    let Some(boxed) = into_open_scene(taken) else {
+    let Some(held) = into_held(taken) else {
         return CLOSED;
     };
-    let mut boxed = boxed;
-    let code = drop_frame_at(&mut boxed);
-    *scene = Handle::of_box(boxed);
+    let mut held = held;
+    let code = match &mut *held {
+        HeldScene::Alone(open_scene) => drop_frame_at(open_scene),
+        HeldScene::Shared(_) => SHARED,
+    };
+    *scene = Handle::of_box(held);
     code
 }
 
@@ -151,12 +176,15 @@ pub(crate) fn explain(alloc: Global, scene: &mut Handle) -> u32
     ensures { Explains scene.old.value scene.new.value result }
 {
     let taken = mem::replace(scene, Handle::closed(alloc));
-    let Some(boxed) = into_open_scene(taken) else {
+    let Some(held) = into_held(taken) else {
         return CLOSED;
     };
-    let mut boxed = boxed;
-    let code = explain_at(alloc, &mut boxed);
-    *scene = Handle::of_box(boxed);
+    let mut held = held;
+    let code = match &mut *held {
+        HeldScene::Alone(open_scene) => explain_at(alloc, open_scene),
+        HeldScene::Shared(_) => SHARED,
+    };
+    *scene = Handle::of_box(held);
     code
 }
 
@@ -165,11 +193,14 @@ pub(crate) fn answer_json(alloc: Global, scene: &mut Handle) -> u32
     ensures { TellsJson scene.old.value scene.new.value result }
 {
     let taken = mem::replace(scene, Handle::closed(alloc));
-    let Some(boxed) = into_open_scene(taken) else {
+    let Some(held) = into_held(taken) else {
         return CLOSED;
     };
-    let mut boxed = boxed;
-    let code = json_at(alloc, &mut boxed);
-    *scene = Handle::of_box(boxed);
+    let mut held = held;
+    let code = match &mut *held {
+        HeldScene::Alone(open_scene) => json_at(alloc, open_scene),
+        HeldScene::Shared(_) => SHARED,
+    };
+    *scene = Handle::of_box(held);
     code
 }

@@ -32,6 +32,7 @@ mod gathering;
 mod given;
 mod handle;
 mod held;
+mod held_scene;
 mod kinds;
 mod lines;
 mod list_calls;
@@ -55,6 +56,7 @@ mod resources;
 mod roots;
 mod saved;
 mod setup_calls;
+mod sharing;
 mod shown;
 mod spawning;
 mod status;
@@ -68,8 +70,9 @@ mod value;
 
 pub use delta::SceneDelta;
 pub use handle::Handle;
-use handle::{into_open_scene, new_handle};
+use handle::{into_held, new_handle};
 use held::{answer_json, ask, drop_frame, explain, give, line, request, say, spawn, tell, turn};
+use held_scene::HeldScene;
 pub use names::each_fault_has_its_name;
 use names::{copy_name, name_len};
 pub use open_scene::OpenScene;
@@ -79,6 +82,7 @@ use scene_commands::Command;
 use scene_script::Line;
 pub use shown::{SceneInfo, SceneMoment, SceneTable, SceneTicks, SceneVec3};
 use std::alloc::Global;
+use std::mem;
 use texts::{copy_text, text_len};
 use times::Way;
 pub use value::{SceneCell, SceneEntity, SceneName, SceneRefusal};
@@ -107,6 +111,9 @@ pub const UNTOLD: u32 = 5;
 
 /// Memory was wanting, nothing was done, and the kinds or the scene of the setup are lost.
 pub const LOST: u32 = 6;
+
+/// The scene is shared for reading, and the call would have changed it; nothing was done.
+pub const SHARED: u32 = 7;
 
 /// The version of the library: 10,000 times its first number, 100 times its second, and its third.
 pub const VERSION: u32 = 200;
@@ -456,12 +463,12 @@ pub extern "C" fn scene_spawned(
         (λ e. (result ≡ 0) × (out.new ≡ shown_entity e)) }
     ensures kept { scene.new.value ≡ scene.old.value }
 {
-    let taken = std::mem::replace(scene, Handle::closed(alloc));
-    let Some(boxed) = into_open_scene(taken) else {
+    let taken = mem::replace(scene, Handle::closed(alloc));
+    let Some(held) = into_held(taken) else {
         return BAD;
     };
-    let found = boxed.made(at);
-    *scene = Handle::of_box(boxed);
+    let found = held.seen().made(at);
+    *scene = Handle::of_box(held);
     match found {
         Some(entity) => {
             *out = shown_entity(entity);
@@ -483,12 +490,12 @@ pub extern "C" fn scene_named(
         (λ n. (result ≡ 0) × (out.new ≡ shown_name n)) }
     ensures kept { scene.new.value ≡ scene.old.value }
 {
-    let taken = std::mem::replace(scene, Handle::closed(alloc));
-    let Some(boxed) = into_open_scene(taken) else {
+    let taken = mem::replace(scene, Handle::closed(alloc));
+    let Some(held) = into_held(taken) else {
         return BAD;
     };
-    let found = boxed.named(at);
-    *scene = Handle::of_box(boxed);
+    let found = held.seen().named(at);
+    *scene = Handle::of_box(held);
     match found {
         Some(name) => {
             *out = shown_name(name);
@@ -505,12 +512,12 @@ pub extern "C" fn scene_refused(alloc: Global, scene: &mut Handle, out: &mut Sce
         (λ r. (result ≡ 0) × (out.new ≡ shown_refusal r)) }
     ensures kept { scene.new.value ≡ scene.old.value }
 {
-    let taken = std::mem::replace(scene, Handle::closed(alloc));
-    let Some(boxed) = into_open_scene(taken) else {
+    let taken = mem::replace(scene, Handle::closed(alloc));
+    let Some(held) = into_held(taken) else {
         return BAD;
     };
-    let found = boxed.refusal();
-    *scene = Handle::of_box(boxed);
+    let found = held.seen().refusal();
+    *scene = Handle::of_box(held);
     match found {
         Some(refusal) => {
             *out = shown_refusal(refusal);
@@ -534,12 +541,15 @@ pub extern "C" fn scene_get(
     let Some(short) = kind_of(kind) else {
         return BAD;
     };
-    let taken = std::mem::replace(scene, Handle::closed(alloc));
-    let Some(boxed) = into_open_scene(taken) else {
+    let taken = mem::replace(scene, Handle::closed(alloc));
+    let Some(held) = into_held(taken) else {
         return CLOSED;
     };
-    let mut boxed = boxed;
-    let code = read_at(alloc, &mut boxed, entity_of(entity), short, out);
-    *scene = Handle::of_box(boxed);
+    let mut held = held;
+    let code = match &mut *held {
+        HeldScene::Alone(open_scene) => read_at(alloc, open_scene, entity_of(entity), short, out),
+        HeldScene::Shared(_) => SHARED,
+    };
+    *scene = Handle::of_box(held);
     code
 }

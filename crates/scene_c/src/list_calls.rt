@@ -3,10 +3,11 @@ ghost use Rattle.std.specs.Prelude.{◌≡◌, option_map};
 ghost use Rattle.scene_c.specs.Given.{AsksCopied, SubmitsCopied, TellsSpawned, components_in, spawn_line, writes_of};
 
 use crate::given::{components_in, writes_of};
-use crate::handle::{Handle, into_open_scene};
+use crate::handle::{Handle, into_held};
+use crate::held_scene::HeldScene;
 use crate::played::submit_at;
 use crate::value::{SceneCell, SceneEntity};
-use crate::{BAD, CLOSED, NO_MEMORY};
+use crate::{BAD, CLOSED, NO_MEMORY, SHARED};
 use scene_commands::Components;
 use std::alloc::Global;
 use std::mem;
@@ -32,12 +33,15 @@ pub extern "C" fn scene_spawn_cells(
         return BAD;
     };
     let taken = mem::replace(scene, Handle::closed(alloc));
-    let Some(boxed) = into_open_scene(taken) else {
+    let Some(held) = into_held(taken) else {
         return CLOSED;
     };
-    let mut boxed = boxed;
-    let code = boxed.spawn_given(Components::from(given), out);
-    *scene = Handle::of_box(boxed);
+    let mut held = held;
+    let code = match &mut *held {
+        HeldScene::Alone(open_scene) => open_scene.spawn_given(Components::from(given), out),
+        HeldScene::Shared(_) => SHARED,
+    };
+    *scene = Handle::of_box(held);
     code
 }
 
@@ -60,11 +64,14 @@ pub extern "C" fn scene_insert_cells(
         return BAD;
     };
     let taken = mem::replace(scene, Handle::closed(alloc));
-    let Some(boxed) = into_open_scene(taken) else {
+    let Some(held) = into_held(taken) else {
         return CLOSED;
     };
-    let mut boxed = boxed;
-    let code = submit_at(&mut boxed, queue);
-    *scene = Handle::of_box(boxed);
+    let mut held = held;
+    let code = match &mut *held {
+        HeldScene::Alone(open_scene) => submit_at(open_scene, queue),
+        HeldScene::Shared(_) => SHARED,
+    };
+    *scene = Handle::of_box(held);
     code
 }

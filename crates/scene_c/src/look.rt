@@ -12,7 +12,7 @@ ghost use Rattle.scene_c.specs.OpenScene.{world_of};
 ghost use Rattle.scene_c.specs.Reads.{IsTold, Lists, ListsIf, OrNoMemory, TellsAlways, TellsCellOf, TellsGathered, TellsKind, TellsMask, TellsNumber, TellsOf, TellsTables, TellsTextOf, entities_in, kind_named, kinds_now, roots_in, tables_in, ticks_in, values_in, whole_now};
 ghost use Rattle.scene_c.specs.Shown.{entity_or_none, int_of, link_of, shown_info, shown_truth, vec3_of};
 
-use crate::handle::{Handle, into_open_scene};
+use crate::handle::{Handle, into_held};
 use crate::shown::{SceneInfo, SceneTable, SceneTicks, SceneVec3};
 use crate::value::{SceneCell, SceneEntity, entity_of, kind_of};
 use crate::{BAD, CLOSED};
@@ -28,11 +28,11 @@ pub extern "C" fn scene_status(alloc: Global, scene: &mut Handle, out: &mut Scen
     ensures kept { scene.new.value ≡ scene.old.value }
 {
     let taken = mem::replace(scene, Handle::closed(alloc));
-    let Some(boxed) = into_open_scene(taken) else {
+    let Some(held) = into_held(taken) else {
         return CLOSED;
     };
-    let code = boxed.status(out);
-    *scene = Handle::of_box(boxed);
+    let code = held.seen().status(out);
+    *scene = Handle::of_box(held);
     code
 }
 
@@ -49,11 +49,11 @@ pub extern "C" fn scene_is_alive(
     ensures kept { scene.new.value ≡ scene.old.value }
 {
     let taken = mem::replace(scene, Handle::closed(alloc));
-    let Some(boxed) = into_open_scene(taken) else {
+    let Some(held) = into_held(taken) else {
         return CLOSED;
     };
-    let code = boxed.is_alive(entity_of(entity), out);
-    *scene = Handle::of_box(boxed);
+    let code = held.seen().is_alive(entity_of(entity), out);
+    *scene = Handle::of_box(held);
     code
 }
 
@@ -70,11 +70,11 @@ pub extern "C" fn scene_mask(
     ensures kept { scene.new.value ≡ scene.old.value }
 {
     let taken = mem::replace(scene, Handle::closed(alloc));
-    let Some(boxed) = into_open_scene(taken) else {
+    let Some(held) = into_held(taken) else {
         return CLOSED;
     };
-    let code = boxed.mask(entity_of(entity), out);
-    *scene = Handle::of_box(boxed);
+    let code = held.seen().mask(entity_of(entity), out);
+    *scene = Handle::of_box(held);
     code
 }
 
@@ -91,11 +91,11 @@ pub extern "C" fn scene_parent(
     ensures kept { scene.new.value ≡ scene.old.value }
 {
     let taken = mem::replace(scene, Handle::closed(alloc));
-    let Some(boxed) = into_open_scene(taken) else {
+    let Some(held) = into_held(taken) else {
         return CLOSED;
     };
-    let code = boxed.parent(entity_of(entity), out);
-    *scene = Handle::of_box(boxed);
+    let code = held.seen().parent(entity_of(entity), out);
+    *scene = Handle::of_box(held);
     code
 }
 
@@ -114,11 +114,11 @@ pub extern "C" fn scene_children(
     ensures kept { scene.new.value ≡ scene.old.value }
 {
     let taken = mem::replace(scene, Handle::closed(alloc));
-    let Some(boxed) = into_open_scene(taken) else {
+    let Some(held) = into_held(taken) else {
         return CLOSED;
     };
-    let code = boxed.children(entity_of(entity), from, at, total);
-    *scene = Handle::of_box(boxed);
+    let code = held.seen().children(entity_of(entity), from, at, total);
+    *scene = Handle::of_box(held);
     code
 }
 
@@ -137,11 +137,11 @@ pub extern "C" fn scene_roots(
     ensures kept { scene.new.value ≡ scene.old.value }
 {
     let taken = mem::replace(scene, Handle::closed(alloc));
-    let Some(boxed) = into_open_scene(taken) else {
+    let Some(held) = into_held(taken) else {
         return CLOSED;
     };
-    let code = boxed.roots(alloc, from, at, total);
-    *scene = Handle::of_box(boxed);
+    let code = held.seen().roots(alloc, from, at, total);
+    *scene = Handle::of_box(held);
     code
 }
 
@@ -163,11 +163,13 @@ pub extern "C" fn scene_tables(
     ensures kept { scene.new.value ≡ scene.old.value }
 {
     let taken = mem::replace(scene, Handle::closed(alloc));
-    let Some(boxed) = into_open_scene(taken) else {
+    let Some(held) = into_held(taken) else {
         return CLOSED;
     };
-    let code = boxed.tables(Filter { need, without }, from, at, total);
-    *scene = Handle::of_box(boxed);
+    let code = held
+        .seen()
+        .tables(Filter { need, without }, from, at, total);
+    *scene = Handle::of_box(held);
     code
 }
 
@@ -186,11 +188,11 @@ pub extern "C" fn scene_rows(
     ensures kept { scene.new.value ≡ scene.old.value }
 {
     let taken = mem::replace(scene, Handle::closed(alloc));
-    let Some(boxed) = into_open_scene(taken) else {
+    let Some(held) = into_held(taken) else {
         return CLOSED;
     };
-    let code = boxed.rows(mask, from, at, total);
-    *scene = Handle::of_box(boxed);
+    let code = held.seen().rows(mask, from, at, total);
+    *scene = Handle::of_box(held);
     code
 }
 
@@ -211,11 +213,11 @@ pub extern "C" fn scene_ints(
     ensures kept { scene.new.value ≡ scene.old.value }
 {
     let taken = mem::replace(scene, Handle::closed(alloc));
-    let Some(boxed) = into_open_scene(taken) else {
+    let Some(held) = into_held(taken) else {
         return CLOSED;
     };
-    let code = boxed.ints(mask, kind, from, at, total);
-    *scene = Handle::of_box(boxed);
+    let code = held.seen().ints(mask, kind, from, at, total);
+    *scene = Handle::of_box(held);
     code
 }
 
@@ -236,11 +238,11 @@ pub extern "C" fn scene_vec3s(
     ensures kept { scene.new.value ≡ scene.old.value }
 {
     let taken = mem::replace(scene, Handle::closed(alloc));
-    let Some(boxed) = into_open_scene(taken) else {
+    let Some(held) = into_held(taken) else {
         return CLOSED;
     };
-    let code = boxed.vec3s(mask, kind, from, at, total);
-    *scene = Handle::of_box(boxed);
+    let code = held.seen().vec3s(mask, kind, from, at, total);
+    *scene = Handle::of_box(held);
     code
 }
 
@@ -261,11 +263,11 @@ pub extern "C" fn scene_links(
     ensures kept { scene.new.value ≡ scene.old.value }
 {
     let taken = mem::replace(scene, Handle::closed(alloc));
-    let Some(boxed) = into_open_scene(taken) else {
+    let Some(held) = into_held(taken) else {
         return CLOSED;
     };
-    let code = boxed.links(mask, kind, from, at, total);
-    *scene = Handle::of_box(boxed);
+    let code = held.seen().links(mask, kind, from, at, total);
+    *scene = Handle::of_box(held);
     code
 }
 
@@ -288,11 +290,11 @@ pub extern "C" fn scene_ticks(
     ensures kept { scene.new.value ≡ scene.old.value }
 {
     let taken = mem::replace(scene, Handle::closed(alloc));
-    let Some(boxed) = into_open_scene(taken) else {
+    let Some(held) = into_held(taken) else {
         return CLOSED;
     };
-    let code = boxed.ticks(mask, kind, which, from, at, total);
-    *scene = Handle::of_box(boxed);
+    let code = held.seen().ticks(mask, kind, which, from, at, total);
+    *scene = Handle::of_box(held);
     code
 }
 
@@ -313,11 +315,11 @@ pub extern "C" fn scene_kind(
     ensures kept { scene.new.value ≡ scene.old.value }
 {
     let taken = mem::replace(scene, Handle::closed(alloc));
-    let Some(boxed) = into_open_scene(taken) else {
+    let Some(held) = into_held(taken) else {
         return CLOSED;
     };
-    let code = boxed.kind(kind, shape, from, at, total);
-    *scene = Handle::of_box(boxed);
+    let code = held.seen().kind(kind, shape, from, at, total);
+    *scene = Handle::of_box(held);
     code
 }
 
@@ -334,11 +336,11 @@ pub extern "C" fn scene_kind_named(
     ensures kept { scene.new.value ≡ scene.old.value }
 {
     let taken = mem::replace(scene, Handle::closed(alloc));
-    let Some(boxed) = into_open_scene(taken) else {
+    let Some(held) = into_held(taken) else {
         return CLOSED;
     };
-    let code = boxed.kind_named(name, out);
-    *scene = Handle::of_box(boxed);
+    let code = held.seen().kind_named(name, out);
+    *scene = Handle::of_box(held);
     code
 }
 
@@ -360,11 +362,11 @@ pub extern "C" fn scene_read(
         return BAD;
     };
     let taken = mem::replace(scene, Handle::closed(alloc));
-    let Some(boxed) = into_open_scene(taken) else {
+    let Some(held) = into_held(taken) else {
         return CLOSED;
     };
-    let code = boxed.component(entity_of(entity), short, out, ticks);
-    *scene = Handle::of_box(boxed);
+    let code = held.seen().component(entity_of(entity), short, out, ticks);
+    *scene = Handle::of_box(held);
     code
 }
 
@@ -387,11 +389,13 @@ pub extern "C" fn scene_read_text(
         return BAD;
     };
     let taken = mem::replace(scene, Handle::closed(alloc));
-    let Some(boxed) = into_open_scene(taken) else {
+    let Some(held) = into_held(taken) else {
         return CLOSED;
     };
-    let code = boxed.component_text(entity_of(entity), short, from, at, total);
-    *scene = Handle::of_box(boxed);
+    let code = held
+        .seen()
+        .component_text(entity_of(entity), short, from, at, total);
+    *scene = Handle::of_box(held);
     code
 }
 
@@ -412,10 +416,10 @@ pub extern "C" fn scene_gather(
         return BAD;
     };
     let taken = mem::replace(scene, Handle::closed(alloc));
-    let Some(boxed) = into_open_scene(taken) else {
+    let Some(held) = into_held(taken) else {
         return CLOSED;
     };
-    let code = boxed.gather(entities, short, at);
-    *scene = Handle::of_box(boxed);
+    let code = held.seen().gather(entities, short, at);
+    *scene = Handle::of_box(held);
     code
 }

@@ -5,7 +5,7 @@ ghost use Rattle.scene_c.specs.OpenScene.{world_of};
 ghost use Rattle.scene_c.specs.Reads.{ListsIf, OrNoMemory, TellsHeld, TellsOf, TellsText, resource_in, text_held};
 
 use crate::CLOSED;
-use crate::handle::{Handle, into_open_scene};
+use crate::handle::{Handle, into_held};
 use crate::shown::SceneTicks;
 use crate::value::SceneCell;
 use std::alloc::Global;
@@ -29,11 +29,11 @@ pub extern "C" fn scene_resources(
     ensures kept { scene.new.value ≡ scene.old.value }
 {
     let taken = mem::replace(scene, Handle::closed(alloc));
-    let Some(boxed) = into_open_scene(taken) else {
+    let Some(held) = into_held(taken) else {
         return CLOSED;
     };
-    let code = boxed.resource_name(place, from, at, total);
-    *scene = Handle::of_box(boxed);
+    let code = held.seen().resource_name(place, from, at, total);
+    *scene = Handle::of_box(held);
     code
 }
 
@@ -52,11 +52,11 @@ pub extern "C" fn scene_resource(
     ensures kept { scene.new.value ≡ scene.old.value }
 {
     let taken = mem::replace(scene, Handle::closed(alloc));
-    let Some(boxed) = into_open_scene(taken) else {
+    let Some(held) = into_held(taken) else {
         return CLOSED;
     };
-    let code = boxed.resource(name, out, ticks);
-    *scene = Handle::of_box(boxed);
+    let code = held.seen().resource(name, out, ticks);
+    *scene = Handle::of_box(held);
     code
 }
 
@@ -75,10 +75,10 @@ pub extern "C" fn scene_resource_text(
     ensures kept { scene.new.value ≡ scene.old.value }
 {
     let taken = mem::replace(scene, Handle::closed(alloc));
-    let Some(boxed) = into_open_scene(taken) else {
+    let Some(held) = into_held(taken) else {
         return CLOSED;
     };
-    let code = boxed.resource_text(name, from, at, total);
-    *scene = Handle::of_box(boxed);
+    let code = held.seen().resource_text(name, from, at, total);
+    *scene = Handle::of_box(held);
     code
 }

@@ -4,7 +4,7 @@ ghost use Rattle.scene_c.specs.Reads.{OrNoMemory, TellsAlways, TellsOf, whole_no
 ghost use Rattle.scene_c.specs.Saved.{TellsFault, TellsSaved, fault_now, saved_by};
 
 use crate::CLOSED;
-use crate::handle::{Handle, into_open_scene};
+use crate::handle::{Handle, into_held};
 use crate::value::SceneRefusal;
 use std::alloc::Global;
 use std::mem;
@@ -27,11 +27,11 @@ pub extern "C" fn scene_save_into(
     ensures kept { scene.new.value ≡ scene.old.value }
 {
     let taken = mem::replace(scene, Handle::closed(alloc));
-    let Some(boxed) = into_open_scene(taken) else {
+    let Some(held) = into_held(taken) else {
         return CLOSED;
     };
-    let code = boxed.save_into(alloc, version, from, at, total);
-    *scene = Handle::of_box(boxed);
+    let code = held.seen().save_into(alloc, version, from, at, total);
+    *scene = Handle::of_box(held);
     code
 }
 
@@ -48,10 +48,10 @@ pub extern "C" fn scene_check_systems(
     ensures kept { scene.new.value ≡ scene.old.value }
 {
     let taken = mem::replace(scene, Handle::closed(alloc));
-    let Some(boxed) = into_open_scene(taken) else {
+    let Some(held) = into_held(taken) else {
         return CLOSED;
     };
-    let code = boxed.check_systems(alloc, out);
-    *scene = Handle::of_box(boxed);
+    let code = held.seen().check_systems(alloc, out);
+    *scene = Handle::of_box(held);
     code
 }

@@ -6,7 +6,7 @@ ghost use Rattle.scene_c.specs.Reads.{IsTold, ListsSince, OrNoMemory, TellsOf, n
 ghost use Rattle.scene_c.specs.Shown.{shown_moment};
 
 use crate::CLOSED;
-use crate::handle::{Handle, into_open_scene};
+use crate::handle::{Handle, into_held};
 use crate::shown::SceneMoment;
 use crate::value::SceneName;
 use scene_systems::Filter;
@@ -21,11 +21,11 @@ pub extern "C" fn scene_now(alloc: Global, scene: &mut Handle, out: &mut SceneMo
     ensures kept { scene.new.value ≡ scene.old.value }
 {
     let taken = mem::replace(scene, Handle::closed(alloc));
-    let Some(boxed) = into_open_scene(taken) else {
+    let Some(held) = into_held(taken) else {
         return CLOSED;
     };
-    let code = boxed.moment(out);
-    *scene = Handle::of_box(boxed);
+    let code = held.seen().moment(out);
+    *scene = Handle::of_box(held);
     code
 }
 
@@ -49,11 +49,13 @@ pub extern "C" fn scene_changed_since(
     ensures kept { scene.new.value ≡ scene.old.value }
 {
     let taken = mem::replace(scene, Handle::closed(alloc));
-    let Some(boxed) = into_open_scene(taken) else {
+    let Some(held) = into_held(taken) else {
         return CLOSED;
     };
-    let code = boxed.changed_since(alloc, moment, Filter { need, without }, from, at, total);
-    *scene = Handle::of_box(boxed);
+    let code = held
+        .seen()
+        .changed_since(alloc, moment, Filter { need, without }, from, at, total);
+    *scene = Handle::of_box(held);
     code
 }
 
@@ -76,10 +78,12 @@ pub extern "C" fn scene_added_since(
     ensures kept { scene.new.value ≡ scene.old.value }
 {
     let taken = mem::replace(scene, Handle::closed(alloc));
-    let Some(boxed) = into_open_scene(taken) else {
+    let Some(held) = into_held(taken) else {
         return CLOSED;
     };
-    let code = boxed.added_since(alloc, moment, Filter { need, without }, from, at, total);
-    *scene = Handle::of_box(boxed);
+    let code = held
+        .seen()
+        .added_since(alloc, moment, Filter { need, without }, from, at, total);
+    *scene = Handle::of_box(held);
     code
 }

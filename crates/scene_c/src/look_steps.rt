@@ -5,7 +5,7 @@ ghost use Rattle.scene_c.specs.Steps.{TellsPartsOf, TellsStepOf, TellsTextsOf, r
 
 use crate::delta::SceneDelta;
 use crate::delta_parts::{RowPart, TextPart};
-use crate::handle::{Handle, into_open_scene};
+use crate::handle::{Handle, into_held};
 use crate::steps::way_by;
 use crate::value::{SceneCell, kind_of};
 use crate::{BAD, CLOSED};
@@ -34,11 +34,11 @@ pub extern "C" fn scene_step(
         return BAD;
     };
     let taken = mem::replace(scene, Handle::closed(alloc));
-    let Some(boxed) = into_open_scene(taken) else {
+    let Some(held) = into_held(taken) else {
         return CLOSED;
     };
-    let code = boxed.step(way, place, tick, from, at, total);
-    *scene = Handle::of_box(boxed);
+    let code = held.seen().step(way, place, tick, from, at, total);
+    *scene = Handle::of_box(held);
     code
 }
 
@@ -66,11 +66,13 @@ pub extern "C" fn scene_delta_rows(
         return BAD;
     };
     let taken = mem::replace(scene, Handle::closed(alloc));
-    let Some(boxed) = into_open_scene(taken) else {
+    let Some(held) = into_held(taken) else {
         return CLOSED;
     };
-    let code = boxed.parts(&RowPart, way, place, from, ends, cells, told, total);
-    *scene = Handle::of_box(boxed);
+    let code = held
+        .seen()
+        .parts(&RowPart, way, place, from, ends, cells, told, total);
+    *scene = Handle::of_box(held);
     code
 }
 
@@ -99,11 +101,13 @@ pub extern "C" fn scene_delta_texts(
         return BAD;
     };
     let taken = mem::replace(scene, Handle::closed(alloc));
-    let Some(boxed) = into_open_scene(taken) else {
+    let Some(held) = into_held(taken) else {
         return CLOSED;
     };
     let part = TextPart { which, kind };
-    let code = boxed.parts(&part, way, place, from, ends, bytes, told, total);
-    *scene = Handle::of_box(boxed);
+    let code = held
+        .seen()
+        .parts(&part, way, place, from, ends, bytes, told, total);
+    *scene = Handle::of_box(held);
     code
 }

@@ -7,7 +7,7 @@ ghost use Rattle.scene_c.specs.Reads.{TellsOf, values_in};
 ghost use Rattle.scene_c.specs.Joined.{IsUntold, TellsTexts};
 
 use crate::CLOSED;
-use crate::handle::{Handle, into_open_scene};
+use crate::handle::{Handle, into_held};
 use std::alloc::Global;
 use std::mem;
 
@@ -32,10 +32,12 @@ pub extern "C" fn scene_texts(
     ensures kept { scene.new.value ≡ scene.old.value }
 {
     let taken = mem::replace(scene, Handle::closed(alloc));
-    let Some(boxed) = into_open_scene(taken) else {
+    let Some(held) = into_held(taken) else {
         return CLOSED;
     };
-    let code = boxed.texts(mask, kind, from, ends, bytes, told, total);
-    *scene = Handle::of_box(boxed);
+    let code = held
+        .seen()
+        .texts(mask, kind, from, ends, bytes, told, total);
+    *scene = Handle::of_box(held);
     code
 }

@@ -9,11 +9,12 @@ ghost use Rattle.scene_c.specs.Given.{kind_line, shape_by};
 ghost use Rattle.scene_c.specs.OpenScene.{KeepsAnswer};
 ghost use Rattle.scene_c.specs.Settings.{SetsDepth, TellsDeclared};
 
-use crate::handle::{Handle, into_open_scene};
+use crate::handle::{Handle, into_held};
+use crate::held_scene::HeldScene;
 use crate::open_scene::OpenScene;
 use crate::played::say_at;
 use crate::value::text_of;
-use crate::{BAD, CLOSED, DONE, NO_MEMORY};
+use crate::{BAD, CLOSED, DONE, NO_MEMORY, SHARED};
 use scene_kinds::Shape;
 use scene_script::{Limit, Line};
 use std::alloc::Global;
@@ -55,13 +56,16 @@ pub extern "C" fn scene_declare(
         Err(_) => return NO_MEMORY,
     };
     let taken = mem::replace(scene, Handle::closed(alloc));
-    let Some(boxed) = into_open_scene(taken) else {
+    let Some(held) = into_held(taken) else {
         return CLOSED;
     };
-    let mut boxed = boxed;
-    let number = boxed.interpreter.schema().len() as u32;
-    let code = say_at(&mut boxed, Line::Kind(name, shape));
-    *scene = Handle::of_box(boxed);
+    let mut held = held;
+    let number = held.seen().interpreter.schema().len() as u32;
+    let code = match &mut *held {
+        HeldScene::Alone(open_scene) => say_at(open_scene, Line::Kind(name, shape)),
+        HeldScene::Shared(_) => SHARED,
+    };
+    *scene = Handle::of_box(held);
     if code == DONE {
         *out = number;
     }
@@ -88,11 +92,17 @@ pub extern "C" fn scene_set_depth(alloc: Global, scene: &mut Handle, depth: u32)
         return BAD;
     };
     let taken = mem::replace(scene, Handle::closed(alloc));
-    let Some(boxed) = into_open_scene(taken) else {
+    let Some(held) = into_held(taken) else {
         return CLOSED;
     };
-    let mut boxed = boxed;
-    boxed.set_depth(depth);
-    *scene = Handle::of_box(boxed);
-    DONE
+    let mut held = held;
+    let code = match &mut *held {
+        HeldScene::Alone(open_scene) => {
+            open_scene.set_depth(depth);
+            DONE
+        }
+        HeldScene::Shared(_) => SHARED,
+    };
+    *scene = Handle::of_box(held);
+    code
 }

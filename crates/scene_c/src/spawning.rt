@@ -5,7 +5,7 @@ ghost use Rattle.scene_script.specs.declared.script_line.Line.TheVariants.{Do};
 ghost use Rattle.scene_interpreter.specs.Changes.{frame_is_open};
 ghost use Rattle.scene_interpreter.specs.Interpreter.{interpreter_of};
 ghost use Rattle.scene_c.specs.Calls.{Played, says};
-ghost use Rattle.scene_c.specs.Given.{next_name, shown_target, spawned_by};
+ghost use Rattle.scene_c.specs.Given.{next_name, shown_target, spawned_in};
 
 use crate::open_scene::OpenScene;
 use crate::played::say_at;
@@ -64,7 +64,7 @@ impl OpenScene {
         ensures played { Played self.old self.new (says (Do (Spawn components)) (interpreter_of self.old.interpreter)) [] result }
         ensures told { result ≢ 5 }
         ensures cells { self.new.cells.items ≡ self.old.cells.items }
-        ensures spawned { out.new ≡ (if nat_eq result 0 then spawned_by (Some self.old) (Some self.new) out.old else out.old) }
+        ensures spawned { out.new ≡ (if nat_eq result 0 then spawned_in self.old self.new out.old else out.old) }
     {
         if self.interpreter.has_open_frame() {
             return self.queue_given(components, out);

@@ -3,7 +3,7 @@ ghost use Rattle.std.specs.Prelude.{◌≡◌, drop, length};
 ghost use Rattle.scene_c.specs.Calls.{text_now};
 ghost use Rattle.scene_c.specs.Memory.{copied};
 
-use crate::handle::{Handle, into_open_scene};
+use crate::handle::{Handle, into_held};
 use std::alloc::Global;
 use std::mem;
 
@@ -36,11 +36,11 @@ pub(crate) fn text_len(alloc: Global, scene: &mut Handle) -> usize
     ensures kept { scene.new.value ≡ scene.old.value }
 {
     let taken = mem::replace(scene, Handle::closed(alloc));
-    let Some(boxed) = into_open_scene(taken) else {
+    let Some(held) = into_held(taken) else {
         return 0;
     };
-    let len = boxed.text().len();
-    *scene = Handle::of_box(boxed);
+    let len = held.seen().text().len();
+    *scene = Handle::of_box(held);
     len
 }
 
@@ -51,10 +51,10 @@ pub(crate) fn copy_text(alloc: Global, scene: &mut Handle, room: &mut [u8]) -> u
     ensures kept { scene.new.value ≡ scene.old.value }
 {
     let taken = mem::replace(scene, Handle::closed(alloc));
-    let Some(boxed) = into_open_scene(taken) else {
+    let Some(held) = into_held(taken) else {
         return 0;
     };
-    let len = copy_to(boxed.text(), room);
-    *scene = Handle::of_box(boxed);
+    let len = copy_to(held.seen().text(), room);
+    *scene = Handle::of_box(held);
     len
 }
