@@ -46,6 +46,7 @@ static const char *meaning(scene_code code)
     case SCENE_BAD: return "there is no such call here";
     case SCENE_UNTOLD: return "memory was wanting for the text of its answer";
     case SCENE_LOST: return "memory was wanting, and the scene is lost";
+    case SCENE_SHARED: return "the scene is shared, and only read";
     }
     return "an unknown code";
 }

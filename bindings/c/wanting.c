@@ -115,6 +115,14 @@ static scene_code call_json(scene **s)
     return scene_answer_json(s);
 }
 
+/* What scene_reader writes to. */
+static scene *other;
+
+static scene_code call_reader(scene **s)
+{
+    return scene_reader(s, &other);
+}
+
 static const struct call {
     const char *name;
     scene_code (*make)(scene **s);
@@ -209,6 +217,46 @@ static bool refuse_in_frame(unsigned long from, unsigned long to)
     return was_refused;
 }
 
+/* Where sharing finds no memory, the scene is its pointer's alone as before; and unsharing needs none. */
+static bool refuse_share(unsigned long from, unsigned long to)
+{
+    static uint8_t before[ROOM], after[ROOM];
+    scene *s, *reader = NULL;
+    behind_the_setup(&s);
+    size_t len = saved(&s, before);
+    scene_code code = call_without(&s, scene_share, from, to);
+    bool was_refused = requests >= from;
+    CHECK(code == (was_refused ? SCENE_NO_MEMORY : SCENE_DONE) && has_that_answer(&s));
+    CHECK(scene_reader(&s, &reader) == (was_refused ? SCENE_BAD : SCENE_DONE));
+    scene_close(&reader);
+    CHECK(saved(&s, after) == len && memcmp(before, after, len) == 0);
+    CHECK(call_without(&s, scene_share, 0, 0) == SCENE_DONE && scene_undo(&s) == SCENE_SHARED);
+    CHECK(call_without(&s, scene_unshare, 1, ULONG_MAX) == SCENE_DONE && requests == 0);
+    CHECK(scene_undo(&s) == SCENE_DONE && tick_of(&s) == 1);
+    scene_close(&s);
+    return was_refused;
+}
+
+/* Where a reader finds none, its pointer has the scene that it had, and the shared one has no reader more. */
+static bool refuse_reader(unsigned long from, unsigned long to)
+{
+    scene *s;
+    behind_the_setup(&s);
+    in_the_setup(&other);
+    leave_an_answer(&other);
+    CHECK(scene_share(&s) == SCENE_DONE && tick_of(&other) == 1);
+    scene_code code = call_without(&s, call_reader, from, to);
+    bool was_refused = requests >= from;
+    CHECK(code == (was_refused ? SCENE_NO_MEMORY : SCENE_DONE) && tick_of(&other) == (was_refused ? 1 : 2));
+    CHECK(scene_spawn(&other) == (was_refused ? SCENE_DONE : SCENE_SHARED) && scene_undo(&s) == SCENE_SHARED);
+    CHECK(scene_unshare(&s) == (was_refused ? SCENE_DONE : SCENE_REFUSED) && scene_share(&s) == SCENE_DONE);
+    CHECK(call_without(&s, call_reader, 0, 0) == SCENE_DONE && tick_of(&other) == 2 && has_that_answer(&other));
+    scene_close(&other);
+    CHECK(has_that_answer(&s) && scene_unshare(&s) == SCENE_DONE && scene_undo(&s) == SCENE_DONE);
+    scene_close(&s);
+    return was_refused;
+}
+
 /* In the setup a kind is declared, or the setup goes on; what would end it may do so, or lose what the setup had. */
 static bool refuse_in_setup(scene_code (*make)(scene **s), scene_code wanted, unsigned long from, unsigned long to)
 {
@@ -223,17 +271,26 @@ static bool refuse_in_setup(scene_code (*make)(scene **s), scene_code wanted, un
     return was_refused;
 }
 
+/* Refuses each request of one, alone and with all behind it, and gives their number. */
+static unsigned long refuse_each(bool (*refuse_it)(unsigned long from, unsigned long to))
+{
+    unsigned long number = 1;
+    for (; refuse_it(number, number); number++) CHECK(refuse_it(number, ULONG_MAX));
+    return number - 1;
+}
+
 int main(void)
 {
-    unsigned long all = 0;
+    unsigned long all = refuse_each(refuse_in_frame), shares = refuse_each(refuse_share);
+    unsigned long readers = refuse_each(refuse_reader);
+    CHECK(all > 0 && shares > 0 && readers > 0);
+    all += shares + readers;
     for (size_t at = 0; at < sizeof calls / sizeof *calls; at++) {
         unsigned long number = 1;
         for (; refuse(&calls[at], number, number); number++) CHECK(refuse(&calls[at], number, ULONG_MAX));
         CHECK((number > 1) == calls[at].needs_memory);
         all += number - 1;
     }
-    for (unsigned long number = 1; refuse_in_frame(number, number); number++, all++)
-        CHECK(refuse_in_frame(number, ULONG_MAX));
     for (unsigned long number = 1; refuse_in_setup(call_declare, SCENE_DONE, number, number); number++, all++)
         CHECK(refuse_in_setup(call_declare, SCENE_DONE, number, ULONG_MAX));
     for (unsigned long number = 1; refuse_in_setup(call_spawn, SCENE_DONE, number, number); number++, all++)
