@@ -400,7 +400,7 @@ def header_is_whole(library: str) -> None:
         assert [(field, width(kind)) for field, kind in wanted] == [(each[0], ctypes.sizeof(each[1])) for each in found]
     assert len(structures) == 10
     numbered = re.findall(r"SCENE_(\w+) = (\d)", text)
-    assert len(numbered) == 21 and {(name, str(getattr(header, name))) for name, _ in numbered} == set(numbered)
+    assert len(numbered) == 22 and {(name, str(getattr(header, name))) for name, _ in numbered} == set(numbered)
     one = handle.Library(library)
     one.close()
     assert one.call("undo") == header.CLOSED

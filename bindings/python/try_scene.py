@@ -699,9 +699,11 @@ def of_library(path: str, library: Begin) -> List[Tuple[str, Callable[..., None]
     """What is tried over the library at a path."""
     # (a Python without ctypes has the shell)
     import tried_library  # pylint: disable=import-outside-toplevel
+    import tried_sharing  # pylint: disable=import-outside-toplevel
     import tried_steps  # pylint: disable=import-outside-toplevel
 
-    own = (*tried_library.LIBRARY, *tried_steps.LIBRARY, *tried_settings.LIBRARY, *tried_writes.LIBRARY)
+    own = [one for tried in (tried_library, tried_sharing, tried_steps) for one in tried.LIBRARY]
+    own += [*tried_settings.LIBRARY, *tried_writes.LIBRARY]
     of_path = (library_example, names_of_faults, tried_library.header_is_whole, frames_example)
     names = sorted(found.stem for found in EXAMPLES.glob("*.scene") if is_run(found.stem))
     return [

@@ -28,8 +28,8 @@ text has any characters. `request` says what has no call of its own, as `despawn
 What goes wrong is a `SceneError`. `Refused` and `BadLine`, a ValueError, leave the scene as it was, and so does the
 TypeError of a value whose type its kind doesn't take. `KindsDiffer` tells of a store with other kinds, `Closed`, a
 ValueError, of a call that comes too late. `Ended` and `StoreError` end the scene; a store has all that was answered.
-`NoMemory`, a MemoryError, with `Lost` and `Untold`, `OtherThread` and `OtherVersion` are the library's. What else the
-program says on standard error goes to the log `scene`.
+`NoMemory`, a MemoryError, with `Lost` and `Untold`, `OtherThread`, `OtherVersion` and `Shared` are the library's. What
+else the program says on standard error goes to the log `scene`.
 """
 from __future__ import annotations
 
@@ -39,7 +39,7 @@ from typing import Mapping, Optional, Sequence, Union
 
 from scene.calls import Calls
 from scene.errors import BadLine, Closed, Ended, KindsDiffer, Lost, NoMemory, OtherThread, OtherVersion, Refused
-from scene.errors import SceneError, StoreError, Untold
+from scene.errors import SceneError, Shared, StoreError, Untold
 from scene.shell import Scene
 from scene.systems import AddInt, AddVec, CountInto, DespawnAtZero, SpawnChild, Step
 from scene.values import Cell, Entity, Given, Row, Spawned, Status, Value
@@ -67,6 +67,7 @@ __all__ = [
     "Row",
     "Scene",
     "SceneError",
+    "Shared",
     "SpawnChild",
     "Spawned",
     "Status",

@@ -20,8 +20,8 @@ class Calls(ABC):
     """What a scene can do. A command is a frame by itself, or goes into the open one. `with` closes the scene.
 
     Each call can raise `Refused`, where the rules of docs/MODEL.md refuse it; `BadLine`, where it is out of place or
-    names no kind; TypeError, where a value is of a type that can't be; `Closed`; `NoMemory` and `OtherThread` over the
-    library, and `Ended` over the shell. But for `NoMemory` and `Ended` the scene is then as it was.
+    names no kind; TypeError, where a value is of a type that can't be; `Closed`; `NoMemory`, `OtherThread` and `Shared`
+    over the library, and `Ended` over the shell. But for `NoMemory` and `Ended` the scene is then as it was.
 
     An entity may be given as the text of one, as what a `spawn` in a frame gave, and, in an open frame, as `+K`: the
     K-th that it spawns, from 0.

@@ -78,6 +78,11 @@ class OtherThread(SceneError, RuntimeError):
     """A scene of the library is called from another thread than its own. Nothing was called, and all is as it was."""
 
 
+class Shared(SceneError, RuntimeError):
+    """A call of a shared scene of the library that would change it, or is a line or a request; or an `unshare` while
+    others have it. Nothing was done, and all is as it was."""
+
+
 class NoMemory(SceneError, MemoryError):
     """Memory was wanting, and the call wasn't done. Where it would have ended the setup, the setup may be over."""
 

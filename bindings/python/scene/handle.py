@@ -4,8 +4,8 @@ from __future__ import annotations
 import ctypes
 from ctypes import byref, c_size_t, c_void_p
 from pathlib import Path
-from threading import get_ident
-from typing import Any, List, NamedTuple, Tuple, Union
+from threading import Lock, get_ident
+from typing import Any, List, NamedTuple, Optional, Tuple, Union
 
 from scene.errors import NoMemory, OtherThread
 from scene.header import BAD, DONE, REFUSED, TAKES, load_library
@@ -26,25 +26,44 @@ class Played(NamedTuple):
 
 class Library:
     """One scene of a library by its calls. Each is an `OtherThread`, from another thread than the one that opened it:
-    a scene belongs to that (scene.h)."""
+    a scene belongs to that (scene.h). A reader belongs to the one that calls it first."""
 
     def __init__(self, path: Union[str, Path, None] = None) -> None:
-        self._library = load_library(path)
-        self._calls = {name: getattr(self._library, f"scene_{name}") for name in TAKES}
-        self._thread = get_ident()
+        self._begin(load_library(path), get_ident())
+        if self._library.scene_open(self._at) != DONE:
+            raise NoMemory("no memory for a scene")
+
+    def _begin(self, library: ctypes.CDLL, thread: Optional[int]) -> None:
+        """Begins without a scene, as that of a thread, or of the one that calls it first."""
+        self._library = library
+        self._calls = {name: getattr(library, f"scene_{name}") for name in TAKES}
+        self._thread, self._taking = thread, Lock()
         self._scene = c_void_p(None)
         self._at = byref(self._scene)
         # What calls write into: a scene has one thread, and one call at a time.
         self._room, self._total = ctypes.create_string_buffer(ROOM), c_size_t(0)
         self._to_total = byref(self._total)
         self._length_saved = 0
-        if self._library.scene_open(self._at) != DONE:
-            raise NoMemory("no memory for a scene")
+
+    def reader(self) -> Tuple[int, Library]:
+        """The code of the call that gives a shared scene another reader, and that, without a scene where it isn't
+        done."""
+        # pylint: disable=protected-access
+        other = Library.__new__(Library)
+        other._begin(self._library, None)
+        return self.call("reader", other._at), other
 
     def check_thread(self) -> None:
         """Raises `OtherThread` in another thread than the scene's own."""
-        if get_ident() != self._thread:
-            raise OtherThread("the scene belongs to the thread that opened it: another one has a scene of its own")
+        if get_ident() != (self._thread or self._taken()):
+            raise OtherThread("the scene is another thread's: this one needs a scene of its own, or a reader of it")
+
+    def _taken(self) -> int:
+        """The thread of a reader: this one, where none has called it before. (Two may call it first at once.)"""
+        with self._taking:
+            if self._thread is None:
+                self._thread = get_ident()
+            return self._thread
 
     def call(self, name: str, *arguments: Any) -> int:
         """The code of a call."""

@@ -10,7 +10,7 @@ from typing import Any, Dict, List, Union
 from scene.errors import OtherVersion
 from scene.version import __version__
 
-DONE, NO_MEMORY, CLOSED, REFUSED, BAD, UNTOLD, LOST = range(7)
+DONE, NO_MEMORY, CLOSED, REFUSED, BAD, UNTOLD, LOST, SHARED = range(8)
 TAG, INT, VEC3, TEXT, LINK, ABSENT = range(6)
 BACK, ON = range(2)
 SPAWNED, DESPAWNED, SHIFTED, SET, LINKED, RESOURCE = range(6)
@@ -108,6 +108,9 @@ TAKES: Dict[str, List[Any]] = {
     "request": BYTES,
     "bad_reason": [],
     "answer_json": [],
+    "share": [],
+    "reader": [HANDLE],
+    "unshare": [],
     "declare": [*BYTES, c_uint32, POINTER(c_uint32)],
     "set_depth": [c_uint32],
     "load": BYTES,

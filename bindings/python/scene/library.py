@@ -11,8 +11,11 @@
 `./scene library FOLDER` makes the library. Without a path, it is the one that the variable SCENE_LIBRARY names, or else
 libscene.so in the folder that SCENE_LIB_DIR names.
 
-Columns, many entities read in one call, moments, what each kept frame did, and a check of systems are its own, beside
-those calls. A column is a ctypes array, which numpy takes without a copy; one of texts is a list.
+Columns, many entities read in one call, moments, what each kept frame did, a check of systems, and sharing are its own,
+beside those calls. A column is a ctypes array, which numpy takes without a copy; one of texts is a list.
+
+Behind `share` nothing changes a scene, and several threads read it at once, each by a `reader` of its own; `unshare`
+ends that.
 """
 from __future__ import annotations
 
@@ -25,15 +28,16 @@ from typing import Any, Dict, Iterable, List, Mapping, Optional, Tuple, Union
 from scene.answers import ASK_TEXT, BAD_LINE, answer_to, bad_request
 from scene.cells import packed_cells, raw_component
 from scene.deltas import Delta, KeptStep
-from scene.errors import BadLine, Lost, Refused, Untold
+from scene.errors import BadLine, Lost, Refused, Shared, Untold
 from scene.handle import Library, Played
-from scene.header import BAD, CLOSED, DONE, LOST, NO_MEMORY, REFUSED, UNTOLD, RawEntity, RawRefusal, load_library
+from scene.header import BAD, CLOSED, DONE, LOST, NO_MEMORY, REFUSED, SHARED, UNTOLD, RawEntity, RawRefusal
+from scene.header import load_library
 from scene.reads import IN_FRAME, SHAPE_NAMES, Moment, Reads, raw_entity, shown
 from scene.values import SHAPES, Entity, Given, Named, Spawned, Value, count_named, depth_named, fitting, kind_named
 from scene.values import read_text, resource_value, shape_named, target_named, text_named
 
 __all__ = ["BAD", "CLOSED", "DONE", "Delta", "KeptStep", "LOST", "Library", "LibraryScene", "Lost", "Moment"]
-__all__ += ["NO_MEMORY", "Played", "REFUSED", "UNTOLD", "Untold", "load_library"]
+__all__ += ["NO_MEMORY", "Played", "REFUSED", "SHARED", "UNTOLD", "Untold", "load_library"]
 
 HISTORY_FULL, REWOUND = 17, 18
 # What a scene text has, by its version.
@@ -64,18 +68,59 @@ class LibraryScene(Reads):
     """A scene in this process, of the library at a path. `with` frees it.
 
     A library that isn't there is an OSError, and one of another version than this package an `OtherVersion`. A scene
-    belongs to the thread that opened it: from another one each call is an `OtherThread`, and nothing is called.
+    belongs to the thread that opened it: from another one each call is an `OtherThread`, and nothing is called. What
+    `share` has made read only, other threads read by a `reader` each.
     """
 
     def __init__(self, kinds: Optional[Mapping[str, str]] = None, library: Union[str, Path, None] = None) -> None:
-        super().__init__(Library(library))
+        self._begin_with(Library(library))
+        self._declare_all(kinds)
+
+    def _begin_with(self, scene: Library) -> None:
+        """Begins as a scene of the library."""
+        super().__init__(scene)
         # What a spawn writes into.
         self._made = RawEntity()
         self._to_made = byref(self._made)
-        self._declare_all(kinds)
 
     def close(self) -> None:
         self._scene.close()
+
+    # ---- several readers
+
+    def share(self) -> None:
+        """Makes the scene read only, so that several threads read it at once, each by a `reader` of its own.
+
+        Each call that would change it is a `Shared` then, and so is each line and request, as `show`, `changed`,
+        `added` and a `get` without a kind make one. It ends the setup, as a read does; an open frame stays open. A
+        scene that is shared stays so.
+        """
+        self._ready()
+        self._call("share")
+
+    def reader(self) -> LibraryScene:
+        """Another scene, which reads the same: it belongs to the thread that calls it first, and `with` or `close` ends
+        it there. Whichever is closed first, the others go on. A BadLine, where the scene isn't shared.
+
+        So a thread gets one and reads: `Thread(target=draw, args=(level.reader(),))`.
+        """
+        code, scene = self._scene.reader()
+        if code == BAD:
+            raise BadLine("the scene isn't shared: `share` comes before a reader")
+        self._came(code, "reader")
+        other = LibraryScene.__new__(LibraryScene)
+        # pylint: disable=protected-access
+        other._begin_with(scene)
+        other._take_over(self)
+        return other
+
+    def unshare(self) -> None:
+        """Makes the scene this one's alone, so that it can be changed again. A `Shared`, while others have it: they
+        have to be closed before. So the one that is left has the scene, also where that is a reader."""
+        code = self._scene.call("unshare")
+        if code == REFUSED:
+            raise Shared("others have the scene too: they have to be closed before it is one's alone")
+        self._came(code, "unshare")
 
     @property
     def version(self) -> Tuple[int, int, int]:
@@ -280,13 +325,14 @@ class LibraryScene(Reads):
     def drop_frame(self) -> bool:
         """Drops the open frame: nothing of it is done, and no call is made. Whether one was open."""
         code = self._scene.call("drop_frame")
-        self._in_frame = False
+        # (that of a shared scene stays open)
+        self._in_frame = self._in_frame and code == SHARED
         if code != BAD:
             self._came(code, "drop_frame")
         return code == DONE
 
     def _drop_frame(self) -> None:
-        with suppress(ValueError):
+        with suppress(ValueError, Shared):
             self.drop_frame()
 
     def _steps(self, do: str, count: int) -> None:

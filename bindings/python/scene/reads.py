@@ -10,10 +10,10 @@ from typing import Any, Dict, Iterable, List, NamedTuple, Optional, Sequence, Tu
 
 from scene.calls import Calls
 from scene.deltas import DeltasOfStep, KeptStep
-from scene.errors import BadLine, Closed, Lost, NoMemory, Refused, Untold
+from scene.errors import BadLine, Closed, Lost, NoMemory, Refused, Shared, Untold
 from scene.handle import Library
-from scene.header import ABSENT, BACK, BAD, CLOSED, DONE, INT, LINK, LOST, NOBODY, ON, REFUSED, TEXT, UNTOLD, VEC3
-from scene.header import RawCell, RawDelta, RawEntity, RawInfo, RawMoment, RawName, RawTable, RawTicks, RawVec3
+from scene.header import ABSENT, BACK, BAD, CLOSED, DONE, INT, LINK, LOST, NOBODY, ON, REFUSED, SHARED, TEXT, UNTOLD
+from scene.header import VEC3, RawCell, RawDelta, RawEntity, RawInfo, RawMoment, RawName, RawTable, RawTicks, RawVec3
 from scene.values import ENTITY, SHAPES, Cell, Entity, Named, Row, Status, Value, entity_named, fitting, kind_named
 from scene.values import read_count, text_named
 
@@ -89,6 +89,12 @@ class Reads(Calls):
         self._to_cell, self._to_ticks = byref(self._cell), byref(self._ticks)
         self._few = (RawEntity * FEW)()
 
+    def _take_over(self, other: Reads) -> None:
+        """Takes over what another one knows of the same scene of the library."""
+        # pylint: disable=protected-access
+        self._kinds, self._names = dict(other._kinds), list(other._names)
+        self._in_frame, self._is_ready = other._in_frame, other._is_ready
+
     # ---- what calls come to
 
     def _came(self, code: int, what: str) -> None:
@@ -99,6 +105,8 @@ class Reads(Calls):
             raise BadLine(self._scene.reason() or what)
         if code == CLOSED:
             raise Closed("the scene is closed")
+        if code == SHARED:
+            raise Shared("the scene is shared: it is only read before `unshare`, and takes no lines or requests")
         if code == UNTOLD:
             raise Untold(what)
         if code == LOST:

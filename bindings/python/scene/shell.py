@@ -61,8 +61,8 @@ class Scene(Calls):
     FileNotFoundError; one that ends at once, an `Ended`; a store that can't be opened, a `StoreError`; other kinds than
     the store's, `KindsDiffer`.
 
-    It has no columns, no moments as values, no deltas of frames, no check of systems, and no frame that is dropped
-    without a call: those are `LibraryScene`'s own.
+    It has no columns, no moments as values, no deltas of frames, no check of systems, no readers in other threads, and
+    no frame that is dropped without a call: those are `LibraryScene`'s own.
     """
 
     def __init__(

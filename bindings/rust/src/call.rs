@@ -10,10 +10,10 @@ pub(crate) type Handle = *mut *mut raw::scene;
 /// Makes a call of the library on a scene, and tells what it came to.
 macro_rules! call {
     ($scene:expr, $name:ident $(, $argument:expr)*) => {{
-        // SAFETY: the declaration is the header's. The handle is the place of what `scene_open` put there, and no other
-        // call has it meanwhile, since the scene is lent to this one thread. A pointer to bytes is that of a slice or a
-        // `&str`, never null, with its length behind it; one to write to is a `&mut`. All are lent for the call, and
-        // the library keeps none.
+        // SAFETY: the declaration is the header's. The handle is the place of what `scene_open` or `scene_reader` put
+        // there, and no other call has it meanwhile, since the scene is lent to this one thread. A pointer to bytes is
+        // that of a slice or a `&str`, never null, with its length behind it; one to write to is a `&mut`. All are lent
+        // for the call, and the library keeps none.
         let code = unsafe { scene_sys::$name($scene.handle() $(, $argument)*) };
         $scene.came(code)
     }};
@@ -144,7 +144,7 @@ impl Scene {
     }
 
     /// Ends the setup, and says whether it had not ended before.
-    fn ends_setup(&self) -> Result<bool, Error> {
+    pub(crate) fn ends_setup(&self) -> Result<bool, Error> {
         let mut info = raw::scene_info::default();
         // SAFETY: as in `call!`; `info` is lent for the call.
         if unsafe { raw::scene_status(self.handle(), &mut info) } != raw::SCENE_BAD {
@@ -262,12 +262,13 @@ pub(crate) fn text_of(bytes: Vec<u8>) -> String {
 }
 
 /// What the codes say by which a call of any sort failed.
-fn failed(code: u32) -> Error {
+pub(crate) fn failed(code: u32) -> Error {
     match code {
         raw::SCENE_NO_MEMORY => Error::NoMemory,
         raw::SCENE_CLOSED => Error::Closed,
         raw::SCENE_UNTOLD => Error::Untold,
         raw::SCENE_LOST => Error::Lost,
+        raw::SCENE_SHARED => Error::Shared,
         raw::SCENE_BAD | raw::SCENE_REFUSED => Error::Bad(UNTOLD.to_owned()),
         other => unreachable!("scene.h has no code {other}"),
     }

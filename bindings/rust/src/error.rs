@@ -32,6 +32,9 @@ pub enum Error {
     Untold,
     /// Memory was wanting, and the kinds or the scene that the setup had are lost.
     Lost,
+    /// The scene is shared, so that it isn't changed. No call of this crate would change a
+    /// [`SharedScene`](crate::SharedScene).
+    Shared,
 }
 
 impl Error {
@@ -64,6 +67,7 @@ impl fmt::Display for Error {
             Error::Closed => f.write_str("the scene is closed"),
             Error::Untold => f.write_str("it was done, and memory was wanting for its answer"),
             Error::Lost => f.write_str("memory was wanting, and what the setup had is lost"),
+            Error::Shared => f.write_str("the scene is shared, and only read"),
         }
     }
 }

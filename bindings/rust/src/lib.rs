@@ -35,7 +35,8 @@
 //! ([`FrameStep`] shows a view). Or it keeps a [`Moment`], and asks by [`Scene::changed_since`] what was written since,
 //! until an undo.
 //!
-//! A [`Scene`] may go to another thread, and is with one at a time: it is `Send`, and not `Sync`.
+//! A [`Scene`] may go to another thread, and is with one at a time: it is `Send`, and not `Sync`. Several threads read
+//! one at once that [`Scene::share`] has made a [`SharedScene`], each by a clone of its own.
 //!
 //! The library is found by the variable `SCENE_LIB_DIR` when a program is built: the folder that `./scene library
 //! FOLDER` made. Without it `cargo doc` and `cargo check` do their work, and `cargo build` says what is missing.
@@ -59,6 +60,7 @@ mod query;
 mod resources;
 mod rows;
 mod scene;
+mod sharing;
 mod steps;
 mod systems;
 mod value;
@@ -78,6 +80,7 @@ pub use query::{Found, FoundEntities, Query};
 pub use resources::Resource;
 pub use rows::{Cell, Row, Rows};
 pub use scene::{Scene, Status, version};
+pub use sharing::{NotShared, SharedScene};
 pub use systems::Step;
 pub use value::{NoShape, Shape, Value};
 

@@ -40,7 +40,8 @@ pub fn version() -> (u32, u32, u32) {
 /// that reads. When it is let go, all of it is freed.
 ///
 /// What reads, takes `&self`: it changes neither the world nor the last answer. A scene goes to another thread with
-/// all that it has. Two threads can't have one at a time, not even to read, as it isn't `Sync`.
+/// all that it has. Two threads can't have one at a time, not even to read, as it isn't `Sync`; what
+/// [`share`](Scene::share) makes of it they read at once.
 ///
 /// ```
 /// use scene::{Error, Scene, Shape};
@@ -60,7 +61,7 @@ pub fn version() -> (u32, u32, u32) {
 /// is_lent_to_another_thread(&scene::Scene::new().unwrap());
 /// ```
 pub struct Scene {
-    /// What `scene_open` put here, and never null. Each call may write it, also one that reads.
+    /// What `scene_open` or `scene_reader` put here, and never null. Each call may write it, also one that reads.
     pub(crate) at: UnsafeCell<*mut raw::scene>,
     /// Whether a frame is open that a line or a request opened.
     pub(crate) has_frame: bool,
@@ -68,9 +69,10 @@ pub struct Scene {
     save_room: Cell<usize>,
 }
 
-// SAFETY: what the pointer points to is on the heap and the scene's alone. The library has no state besides, neither of
-// a thread nor of the program, so a call doesn't depend on the thread it comes from. Calls come one at a time, as a
-// scene isn't `Sync`.
+// SAFETY: what the pointer points to is on the heap and the scene's alone, or it is shared by scenes that each have a
+// pointer of their own: then no call changes it, so that several threads read it at once (scene.h, "several readers of
+// one scene"). The library has no state besides, neither of a thread nor of the program, so a call doesn't depend on
+// the thread it comes from. By one pointer calls come one at a time, as a scene isn't `Sync`.
 unsafe impl Send for Scene {}
 
 /// The numbers of a scene.
@@ -116,7 +118,7 @@ impl fmt::Debug for Scene {
 
 impl Drop for Scene {
     fn drop(&mut self) {
-        // SAFETY: `at` is what `scene_open` put there, and isn't used again.
+        // SAFETY: `at` is what `scene_open` or `scene_reader` put there, and isn't used again.
         unsafe { raw::scene_close(self.handle()) };
     }
 }
@@ -139,9 +141,14 @@ impl Scene {
         let mut at = ptr::null_mut();
         // SAFETY: the declaration fits the header's, and the library only writes to `at`.
         match unsafe { raw::scene_open(&mut at) } {
-            raw::SCENE_DONE => Ok(Scene { at: UnsafeCell::new(at), has_frame: false, save_room: Cell::new(SAVE_ROOM) }),
+            raw::SCENE_DONE => Ok(Scene::of_raw(at, false)),
             _ => Err(Error::NoMemory),
         }
+    }
+
+    /// The scene of what `scene_open` or `scene_reader` gave, and whether a line has opened a frame that is open.
+    pub(crate) fn of_raw(at: *mut raw::scene, has_frame: bool) -> Scene {
+        Scene { at: UnsafeCell::new(at), has_frame, save_room: Cell::new(SAVE_ROOM) }
     }
 
     /// A scene from the text that [`save`](Scene::save) gave, or from one of a world alone, as

@@ -212,7 +212,8 @@ fn errors_say_what_they_are() {
     assert_eq!((refusal.fault, refusal.fields.as_str()), (Fault::HistoryFull, "1"));
     assert_eq!(std::error::Error::source(&error).unwrap().to_string(), error.to_string());
     assert_eq!(scene.undo().unwrap_err().to_string(), "refused 17 HistoryFull");
-    for error in [Error::Bad(String::new()), Error::NoMemory, Error::Closed, Error::Untold, Error::Lost] {
+    let plain = [Error::NoMemory, Error::Closed, Error::Untold, Error::Lost, Error::Shared];
+    for error in [Error::Bad(String::new())].into_iter().chain(plain) {
         assert!(!error.to_string().is_empty() && std::error::Error::source(&error).is_none());
     }
 }

@@ -20,6 +20,12 @@ unsafe extern "C" {
     pub fn scene_fault_name(fault: u32, at: *mut u8, room: usize) -> usize;
     /// The version of the library, as [`SCENE_VERSION`].
     pub fn scene_version() -> u32;
+    /// Shares a scene, which is only read then.
+    pub fn scene_share(s: *mut *mut scene) -> scene_code;
+    /// Gives a shared scene one pointer more, `*out`, which has to be null or a scene's, and whose scene is closed.
+    pub fn scene_reader(s: *mut *mut scene, out: *mut *mut scene) -> scene_code;
+    /// Makes a shared scene the one pointer's alone that is left, so that it changes again.
+    pub fn scene_unshare(s: *mut *mut scene) -> scene_code;
     /// Declares a kind in the setup, and tells its number.
     pub fn scene_declare(s: *mut *mut scene, name: *const u8, len: usize, shape: u32, kind: *mut u32) -> scene_code;
     /// Sets of how many frames a record is kept, at any time: those beyond it are forgotten.

@@ -37,6 +37,8 @@ pub const SCENE_BAD: scene_code = 4;
 pub const SCENE_UNTOLD: scene_code = 5;
 /// Memory was wanting, and what the setup had is lost.
 pub const SCENE_LOST: scene_code = 6;
+/// The scene is shared, and the call would have changed it or its last answer.
+pub const SCENE_SHARED: scene_code = 7;
 
 /// The shape of components without a value.
 pub const SCENE_TAG: u32 = 0;
