@@ -152,9 +152,10 @@ uint32_t scene_version(void);
  * isn't shared. */
 scene_code scene_share(scene **s);
 
-/* Gives a shared scene one pointer more, *out, which reads what *s reads, whichever of them is closed first; what *out
- * was before is closed, so it has to be NULL or a scene's. SCENE_BAD where the scene isn't shared, and SCENE_NO_MEMORY:
- * then *out stays. A pointer may go to another thread by all that orders memory, as a thread's start or a lock. */
+/* Gives a shared scene one pointer more, *out, which is another variable and reads what *s reads, whichever of them is
+ * closed first; what *out was before is closed, so it has to be NULL or a scene's. SCENE_BAD where the scene isn't
+ * shared, and SCENE_NO_MEMORY: then *out stays. A pointer may go to another thread by all that orders memory, as a
+ * thread's start or a lock. */
 scene_code scene_reader(scene **s, scene **out);
 
 /* Makes a scene the one pointer's alone that is left, which changes it again. SCENE_REFUSED while others have it: they
