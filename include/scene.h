@@ -17,8 +17,8 @@
  * There may be as many calls as a counter of 64 bits holds.
  *
  * The caller owns all bytes that it passes, which are read during the call alone, and all that it is given, which are
- * copies. A pointer to bytes that are read isn't NULL, not even for 0 bytes; one to room for a text may be NULL where
- * the room is 0: so the length of a text can be asked for. */
+ * copies. An array whose length, count or room is 0 may be NULL, or anything: so the length of a text or a list can be
+ * asked for. Each other pointer leads to what its type says. */
 #ifndef SCENE_H
 #define SCENE_H
 
@@ -302,8 +302,9 @@ scene_code scene_refused(scene **s, scene_refusal *out);
  * scene_refused tells nothing of them.
  *
  * A list is told from the item `from` on: as many items as there are, and as fit into `room`, go to `at`, in their
- * order, and *total is how many there are in all. `at` isn't NULL, not even where `room` is 0. So a list of unknown
- * length is asked for with room 0, and then again. Lists of rows stay as they are while nothing but reads is called. */
+ * order, and *total is how many there are in all. Where `room` is 0, `at` may be NULL, or anything. So a list of
+ * unknown length is asked for with room 0, and then again. Lists of rows stay as they are while nothing but reads is
+ * called. */
 
 /* The numbers of a scene. */
 typedef struct {

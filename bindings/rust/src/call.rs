@@ -166,7 +166,6 @@ impl Scene {
         part: &mut Vec<T>,
         call: impl Fn(Handle, *mut T, usize, *mut usize) -> u32,
     ) -> Result<bool, Error> {
-        // A pointer to room isn't null, not even where there is none.
         part.resize(length, blank);
         let mut total = 0;
         // The room is as long as it says, and it and the count are lent for the call.
