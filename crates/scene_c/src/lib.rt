@@ -1,9 +1,10 @@
 //! Scenes for C: an opaque pointer that holds one scene (`include/scene.h` has C's side; docs/BINDINGS.md, "From C").
 //!
 //! The pointer is a `Handle`, of an `OpenScene` on the heap: an interpreter without a lock, so that no call starts a
-//! thread or waits, with the last answer, which is asked for as one likes. A call takes the pointer's own place, so
-//! that it can leave null behind, and gives a code. What it does is that of a line of a script (docs/SCRIPTS.md,
-//! "Lines"): the bytes of one by `scene_line`, a value by the others, with no text on the way.
+//! thread or waits, with the last answer, which is asked for as one likes. Several may have one to read it, by `Arc`. A
+//! call takes the pointer's own place, so that it can leave null behind, and gives a code. What it does is that of a
+//! line of a script (docs/SCRIPTS.md, "Lines"): the bytes of one by `scene_line`, a value by the others, with no text
+//! on the way.
 #![tactic(auto)]
 
 ghost use Rattle.std.specs.Borrow.{full_share, sem};
