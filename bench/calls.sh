@@ -9,7 +9,8 @@
 # writes by one call, and of columns of a thousand Ints and texts. Each is the least of the runs, which take turns.
 # Where tools/bench_program has built scene_session_bench, or SCENE_SESSION_BENCH names it, two columns have the same
 # work by its editor and its state, which keeps each call in its history, and the last two how many times the time of
-# each C takes.
+# each C takes. Behind them stand microseconds of calls from Python, by bench/calls.py, and where cargo is there
+# nanoseconds of a row from Rust, by bindings/rust/examples/read_times.rs, beside columns of plain Rust.
 #
 # It needs python3, a C compiler, and what tools/library needs. bench/all.sh doesn't run it: there is no bound for it.
 set -euo pipefail
@@ -60,3 +61,10 @@ for work, name, each in WORKS:
     factors = "".join(f"{least['C'] / least[by]:10.2f}" if by in least else f"{'-':>10}" for by in BESIDE)
     print(f"{name:26}{row}{factors}", flush=True)
 P
+echo "microseconds a call from Python"
+bench/calls.py "$place/library/libscene.so"
+if command -v cargo > /dev/null; then
+    echo "from Rust, by queries and columns"
+    SCENE_LIB_DIR="$place/library" cargo run --quiet --release --offline --target-dir "$place/target" \
+        --manifest-path bindings/rust/Cargo.toml --example read_times
+fi

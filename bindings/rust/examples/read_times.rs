@@ -1,4 +1,5 @@
-//! How long reads take, in nanoseconds a row: 100,000 rows, the best of some rounds. Run it with `--release`.
+//! How long reads take, in nanoseconds a row: 100,000 rows, the best of some rounds, beside columns of plain Rust. Run it
+//! with `--release`.
 use scene::{Error, Kind, Scene, Shape};
 use std::hint::black_box;
 use std::time::Instant;
@@ -35,7 +36,11 @@ fn built() -> Result<(Scene, [Kind; 3]), Error> {
 fn main() -> Result<(), Error> {
     let (scene, [health, armor, at]) = built()?;
     let sum = ROWS * (ROWS - 1) / 2;
-    let all_right = measure("one integer", sum, || Ok(scene.query::<i64>(health)?.sum()))?
+    let plain: [Vec<i64>; 2] = [(0..ROWS).collect(), vec![1; ROWS as usize]];
+    let all_right = measure("two integers of plain Rust", sum + ROWS, || {
+        let [lives, armors] = black_box(&plain);
+        Ok(lives.iter().zip(armors).map(|(life, armor)| life + armor).sum())
+    })? && measure("one integer", sum, || Ok(scene.query::<i64>(health)?.sum()))?
         && measure("two integers", sum + ROWS, || {
             Ok(scene.query::<(i64, i64)>([health, armor])?.map(|(life, armor)| life + armor).sum())
         })?
