@@ -148,8 +148,8 @@ uint32_t scene_version(void);
 /* ---- several readers of one scene */
 
 /* Shares a scene, which is only read then: each call that would change it, or its last answer, is SCENE_SHARED and does
- * nothing; those that read, and of the last answer too, go on. One that is shared stays so. SCENE_NO_MEMORY: then it
- * isn't shared. */
+ * nothing; those that read, and of the last answer too, go on. One that is shared stays so, and takes no memory.
+ * SCENE_NO_MEMORY: then it isn't shared. */
 scene_code scene_share(scene **s);
 
 /* Gives a shared scene one pointer more, *out, which is another variable and reads what *s reads, whichever of them is

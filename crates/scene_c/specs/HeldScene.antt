@@ -19,10 +19,11 @@ abbrev pub IsSharedAs : OpenScene → Option HeldScene → Type 0
 IsSharedAs d (Some (Shared a)) = arc_value a ≡ d
 IsSharedAs d h = ⊥
 
--- a scene is shared, as it may have been before; or no memory was found, and it is as it was
+-- a scene is shared, and stays so where it is; or no memory was found, and it is as it was
 abbrev pub Shares : Option HeldScene → Option HeldScene → ℕ → Type 0
 Shares None new code = (code ≡ 2) × (new ≡ None)
-Shares (Some old) new code = ((code ≡ 0) × IsSharedAs (seen old) new) ⊎ ((code ≡ 1) × (new ≡ Some old))
+Shares (Some (Alone d)) new code = ((code ≡ 0) × IsSharedAs d new) ⊎ ((code ≡ 1) × (new ≡ Some (Alone d)))
+Shares (Some (Shared a)) new code = (code ≡ 0) × (new ≡ Some (Shared a))
 
 -- another pointer has a shared scene too; or it is as it was, where no memory was found, or the scene isn't shared
 abbrev pub HasReader : Option HeldScene → (old new : Option HeldScene) → ℕ → Type 0

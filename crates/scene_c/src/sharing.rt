@@ -53,7 +53,7 @@ fn another(alloc: Global, shared: &Arc<OpenScene, Global>) -> Option<Box<HeldSce
 }
 
 /// Shares a scene for reading: from now on nothing changes it, and `scene_reader` gives further pointers to it, of which
-/// each thread can have one. One that is shared stays so. `NO_MEMORY`: then it isn't.
+/// each thread can have one. One that is shared stays so, and takes no memory. `NO_MEMORY`: then it isn't.
 #[unsafe(no_mangle)]
 pub extern "C" fn scene_share(alloc: Global, scene: &mut Handle) -> u32
     ensures { Shares scene.old.value scene.new.value result }
