@@ -1,3 +1,4 @@
+pub mod FurtherKind
 pub mod Homes
 pub mod LastFree
 pub mod MadeRoom

@@ -1,5 +1,6 @@
 pub mod Built
 pub mod Codes
+pub mod FurtherKind
 pub mod Homes
 pub mod Moves
 pub mod Onto

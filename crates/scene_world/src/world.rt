@@ -11,6 +11,7 @@ ghost use Rattle.scene_world.specs.Homes.{home_at, home_of_index};
 ghost use Rattle.scene_world.specs.Room.{Holds, IsWider};
 ghost use Rattle.std.specs.Option.{option_flatten};
 
+mod declare;
 mod despawn;
 mod despawn_recursive;
 mod from_parts;
