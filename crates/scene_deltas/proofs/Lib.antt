@@ -5,6 +5,7 @@ pub mod Commands
 pub mod Copied
 pub mod CountWithout
 pub mod Counts
+pub mod FurtherKind
 pub mod EachCopied
 pub mod Ends
 pub mod LastRow

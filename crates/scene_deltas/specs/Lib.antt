@@ -3,6 +3,7 @@ pub mod CommandLaws
 pub mod Copies
 pub mod DeltaList
 pub mod Deltas
+pub mod FurtherKind
 pub mod Laws
 pub mod Notes
 pub mod Ready

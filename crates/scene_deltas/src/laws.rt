@@ -1,5 +1,6 @@
 //! Laws of deltas, and of the deltas of commands.
 ghost use Rattle.scene_deltas.specs.CommandLaws.{CommandsAreDeltas, CommandsMakeFewDeltas};
+ghost use Rattle.scene_deltas.specs.FurtherKind.{DeclaredKindsChangeNoDeltas};
 ghost use Rattle.scene_deltas.specs.Laws.{DeltasComeBack, DeltaListsComeBack};
 
 /// A law of a delta: in each valid world where it fits, the world after it is valid, it fits back there, and taking it
@@ -17,4 +18,10 @@ pub fn deltas_come_back()
 pub fn commands_are_deltas()
     ensures deltas { CommandsAreDeltas }
     ensures few { CommandsMakeFewDeltas }
+{}
+
+/// A law of deltas where a kind is declared, in any world: with it they lead to the same world and the kind, there and
+/// back, and they fit at their turns where they did.
+pub fn declared_kinds_change_no_deltas()
+    ensures { DeclaredKindsChangeNoDeltas }
 {}

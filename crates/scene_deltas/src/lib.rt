@@ -35,7 +35,7 @@ pub use copies::{copies_to_redo, copies_to_undo};
 pub use delta::Delta;
 pub use delta_list::Deltas;
 pub use fits::{count_without, standing};
-pub use laws::{commands_are_deltas, deltas_come_back};
+pub use laws::{commands_are_deltas, declared_kinds_change_no_deltas, deltas_come_back};
 pub use lent::{redo_all, undo_all};
 pub use redo::{redo_delta, undo_delta};
 pub use resource_cell::ResourceCell;
