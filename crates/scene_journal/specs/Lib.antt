@@ -4,6 +4,7 @@ pub mod FaultLaws
 pub mod Faults
 pub mod FirstFaults
 pub mod Frames
+pub mod FurtherKind
 pub mod Laws
 pub mod LiveRuns
 pub mod Newest

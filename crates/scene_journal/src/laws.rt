@@ -1,5 +1,6 @@
 //! Laws of records, and of the records of frames.
 ghost use Rattle.scene_journal.specs.Frames.{FramesAreRecords, FramesMakeFewDeltas};
+ghost use Rattle.scene_journal.specs.FurtherKind.{DeclaredKindsChangeNoRecord};
 ghost use Rattle.scene_journal.specs.Laws.{RecordsComeBack};
 
 /// A law of a record: what `scene_deltas::deltas_come_back` says of a delta holds of a whole record, which raises the
@@ -13,4 +14,10 @@ pub fn records_come_back()
 pub fn frames_are_records()
     ensures leads { FramesAreRecords }
     ensures few { FramesMakeFewDeltas }
+{}
+
+/// A law of a record where a kind is declared, in any world: with it the record leads to the same world and the kind,
+/// redone and undone, and it fits where it did.
+pub fn declared_kinds_change_no_record()
+    ensures { DeclaredKindsChangeNoRecord }
 {}

@@ -32,7 +32,7 @@ pub use examples::worked_records_hold;
 pub use fault_examples::worked_faults_hold;
 pub use fault_laws::{first_faults_are_found, records_are_tested};
 pub use faults::faults_are_faults;
-pub use laws::{frames_are_records, records_come_back};
+pub use laws::{declared_kinds_change_no_record, frames_are_records, records_come_back};
 pub use newest::NewestCells;
 pub use record::FrameRecord;
 pub use recorder::Recorder;

@@ -1,9 +1,10 @@
 //! A world that keeps a record of what is done to it, and can always go back.
-ghost use Rattle.std.specs.Prelude.{◌≡◌, [], true, Some, OnOk, OnErr};
-ghost use Rattle.scene_kinds.specs.Answers.{Gives};
+ghost use Rattle.std.specs.Prelude.{◌≡◌, [], true, Some, OnOk, OnErr, string_bytes};
+ghost use Rattle.scene_kinds.specs.Answers.{Answers, Gives};
 ghost use Rattle.scene_model.specs.Can.{can_set_tick};
 ghost use Rattle.scene_model.specs.Commands.{raise_tick};
 ghost use Rattle.scene_model.specs.Valid.{IsValid};
+ghost use Rattle.scene_world.specs.FurtherKind.{declare};
 ghost use Rattle.scene_world.specs.Room.{Holds, IsWider};
 ghost use Rattle.scene_deltas.specs.Notes.{deltas_of};
 ghost use Rattle.scene_deltas.specs.Ready.{AreReady, AreReadyOn};
@@ -18,7 +19,7 @@ use crate::runs::Runs;
 use crate::spawned::spawn;
 use crate::turns::write_steps;
 use scene_deltas::{Delta, Deltas, is_sound, take_all_back};
-use scene_kinds::{Entity, Fault, KindSet, Refusal, Value};
+use scene_kinds::{Entity, Fault, KindSet, Refusal, Shape, Value};
 use scene_table::{ColumnWriter, RowStep};
 use scene_world::{RawChanges, Stage, World};
 use std::alloc::{AllocError, Global};
@@ -181,6 +182,20 @@ impl Recorder {
         self.runs.finish();
         take_all_back(&mut self.world, deltas);
         self.world.set_tick(self.tick_before);
+    }
+
+    /// Declares a kind between two frames, as `World::declare` does, which gives its number. The record stays, and so do
+    /// the runs that are gone on with.
+    ///
+    /// Refused, in this order: `BadName`; `KindTaken`; `KindsFull` where there are 64 kinds; `NoMemory`. After a refusal
+    /// the world is as it was, and the name is dropped.
+    pub fn declare(&mut self, name: String, shape: Shape) -> Result<u8, Refusal>
+        requires empty { self.old.frame.deltas ≡ [] }
+        ensures answer { Answers result self.old.world self.new.world (declare self.old.world (string_bytes name) shape) }
+        ensures frame { self.new.frame ≡ self.old.frame }
+        ensures room { self.new.room ≡ self.old.room }
+    {
+        self.world.declare(name, shape)
     }
 
     /// Undoes a record between two frames, in a world that has room for that, as `FrameRecord::undo_reserved` does.
