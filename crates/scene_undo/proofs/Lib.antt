@@ -1,4 +1,5 @@
 pub mod BackAndForth
+pub mod FurtherKind
 pub mod EditorLaws
 pub mod Kept
 pub mod Machines

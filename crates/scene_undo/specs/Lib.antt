@@ -1,5 +1,6 @@
 pub mod BackAndForth
 pub mod Cursor
+pub mod FurtherKind
 pub mod Direction
 pub mod Editor
 pub mod Kept

@@ -1,5 +1,5 @@
 //! The editor: a world with the records of its frames, and how a frame is done on a world with its record.
-ghost use Rattle.std.specs.Prelude.{◌≡◌, ◌≢◌, ◌≤◌, ◌∷◌, [], length, reverse, take, Ok, Err, IfOk, IfErr, OnOk, OnErr};
+ghost use Rattle.std.specs.Prelude.{◌≡◌, ◌≢◌, ◌≤◌, ◌∷◌, [], length, reverse, take, Ok, Err, IfOk, IfErr, OnOk, OnErr, string_bytes};
 ghost use Rattle.scene_kinds.specs.Answers.{Answers, refusal_of};
 ghost use Rattle.scene_kinds.specs.declared.fault.Fault.TheVariants.{NoMemory};
 ghost use Rattle.scene_machine.specs.Frame.{Submit, call, framed};
@@ -12,6 +12,7 @@ ghost use Rattle.scene_journal.specs.Records.{Record, undone};
 ghost use Rattle.scene_undo.specs.declared.direction.Direction.TheVariants.{Undo, Redo};
 ghost use Rattle.scene_undo.specs.BackAndForth.{IsWithinDepth, RedoThenUndo, UndoThenRedo};
 ghost use Rattle.scene_undo.specs.Cursor.{cursor_of, since};
+ghost use Rattle.scene_undo.specs.FurtherKind.{declare_throughout, with_kind_now};
 ghost use Rattle.scene_undo.specs.Direction.{AllFit};
 ghost use Rattle.scene_undo.specs.Editor.{IsRecordOf, at_depth, entities_of, items_of, machine_of, new_editor};
 ghost use Rattle.scene_undo.specs.Kept.{CanUndoWhereReady};
@@ -28,7 +29,7 @@ use crate::parts::{after_frames, try_records};
 use crate::stacks::Stacks;
 use scene_commands::Command;
 use scene_journal::{FrameRecord, Recorder};
-use scene_kinds::{Entity, Fault, Refusal};
+use scene_kinds::{Entity, Fault, Refusal, Shape};
 use scene_queue::{Queue, Queues};
 use scene_world::{Frame, Stage, World};
 use std::alloc::Global;
@@ -202,6 +203,21 @@ impl Editor {
         ensures { self.new ≡ at_depth depth self.old }
     {
         self.stacks.set_depth(depth);
+    }
+
+    /// Declares a kind, and gives its number, which is its place in the schema: it goes last, in the world now and in
+    /// each that an undo or a redo leads to (docs/MODEL.md, "The rule of declarations"). It is no frame, and isn't
+    /// undone: tick, records, rewinds and depth stay. It costs as long as the name is.
+    ///
+    /// Refused, in this order, and then the editor is as it was, and the name is dropped: `BadName` where the name isn't
+    /// good; `KindTaken` where a kind has it; `KindsFull` where there are 64 kinds; `NoMemory`.
+    pub fn declare(&mut self, name: String, shape: Shape) -> Result<u8, Refusal>
+        ensures machine { Answers result (machine_of self.old) (machine_of self.new)
+            (declare_throughout (string_bytes name) shape (machine_of self.old)) }
+        ensures records { OnOk result (self.new ≡ with_kind_now (string_bytes name) shape self.old) }
+        ensures same { OnErr result (self.new ≡ self.old) }
+    {
+        self.recorder.declare(name, shape)
     }
 
     /// The world now.
