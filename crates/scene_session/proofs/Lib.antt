@@ -2,6 +2,7 @@ mod AllPasses
 mod Bare
 pub mod Crossing
 mod Entered
+mod FurtherKind
 mod Machines
 mod OneHistory
 mod Performances

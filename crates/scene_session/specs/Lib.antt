@@ -1,6 +1,7 @@
 pub mod AllPasses
 pub mod Calls
 pub mod Codes
+pub mod FurtherKind
 pub mod History
 pub mod Logged
 pub mod Owner

@@ -1,9 +1,10 @@
 //! An owner without a lock: an editor that no other thread can reach.
-ghost use Rattle.std.specs.Prelude.{◌≡◌, ◌≢◌, ◌≤◌, ◌<◌, ◌+◌, ◌++◌, ◌∷◌, [], length, IfOk, IfErr, OnErr, MatchResult, Some, None};
-ghost use Rattle.scene_kinds.specs.Answers.{refusal_of};
+ghost use Rattle.std.specs.Prelude.{◌≡◌, ◌≢◌, ◌≤◌, ◌<◌, ◌+◌, ◌++◌, ◌∷◌, [], length, IfOk, IfErr, OnErr, MatchResult, Some, None, string_bytes};
+ghost use Rattle.scene_kinds.specs.Answers.{Answers, refusal_of};
 ghost use Rattle.scene_kinds.specs.declared.fault.Fault.TheVariants.{HistoryFull, NoMemory};
 ghost use Rattle.scene_queue.specs.Frames.{lone_frame};
 ghost use Rattle.scene_session.specs.Calls.{Redo, Refused, Submit, Undo, asked, queue_count, told};
+ghost use Rattle.scene_session.specs.FurtherKind.{declare_owner};
 ghost use Rattle.scene_session.specs.Logged.{asked_in, logged};
 ghost use Rattle.scene_session.specs.State.{stopping_at};
 ghost use Rattle.scene_session.specs.Whole.{whole_of};
@@ -15,7 +16,7 @@ use crate::owner::SessionOwner;
 use crate::query::EditorQuery;
 use crate::step::{call_editor, call_editor_one, call_editor_with, redo_editor, undo_editor};
 use scene_commands::Command;
-use scene_kinds::{Fault, Refusal};
+use scene_kinds::{Fault, Refusal, Shape};
 use scene_undo::Editor;
 use std::alloc::{AllocError, Global};
 use std::marker::Model;
@@ -136,6 +137,15 @@ fn enter_lone(
         reply,
     };
     Ok(enter(log, room, done))
+}
+
+/// No calls yet, and room for all.
+fn begin_anew(log: &mut Log, room: &mut u64, limit: u64)
+    ensures none { log.new.calls ≡ [] }
+    ensures all { room.new ≡ limit }
+{
+    *log = Log::new();
+    *room = limit;
 }
 
 /// The reply to a call for which there is no room.
@@ -267,8 +277,26 @@ impl LoneOwner {
     {
         self.editor.set_depth(depth);
         self.opening = Snapshot::of(&self.editor);
-        self.log = Log::new();
-        self.room = self.limit;
+        begin_anew(&mut self.log, &mut self.room, self.limit);
+    }
+
+    /// Declares a kind, and gives its number, as `Editor::declare` does: each world of the machine has it last in its
+    /// schema then (docs/MODEL.md, "The rule of declarations"). No call says this, so the calls begin anew, and are
+    /// counted from 0; the turn stays. It costs as long as the name is.
+    ///
+    /// Refused, in this order, and then nothing changes, the count of calls included, and the name is dropped: `BadName`;
+    /// `KindTaken`; `KindsFull` where there are 64 kinds; `NoMemory`.
+    pub fn declare(&mut self, name: String, shape: Shape) -> Result<u8, Refusal>
+        ensures { Answers result self.old self.new (declare_owner (string_bytes name) shape self.old) }
+    {
+        match self.editor.declare(name, shape) {
+            Ok(number) => {
+                self.opening = Snapshot::of(&self.editor);
+                begin_anew(&mut self.log, &mut self.room, self.limit);
+                Ok(number)
+            }
+            Err(refusal) => Err(refusal),
+        }
     }
 
     /// The editor as it is after these calls. It takes no memory.
