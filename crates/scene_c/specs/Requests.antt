@@ -1,7 +1,7 @@
 -- Requests: lines as JSON objects, whose texts have any characters.
 use Rattle.std.specs.Prelude.{◌≡◌, ◌⊎◌, ℕ, List, Option, Some, None, Result, Ok, Err}
 use Rattle.scene_script.specs.declared.script_line.Line.{Line}
-use Rattle.scene_requests.specs.Request.{request_in}
+use Rattle.scene_requests.specs.Request.{line_request_in}
 use Rattle.scene_requests.specs.declared.bad_request.BadRequest.{BadRequest}
 use Rattle.scene_interpreter.specs.Answer.{said_of}
 use Rattle.scene_interpreter.specs.Interpreter.{interpreter_kinds, interpreter_of}
@@ -27,7 +27,7 @@ PlaysRequest (Err reason) old new code =
 -- a request by its bytes, as the kinds that are declared read it
 abbrev pub IsRequested : List ℕ → (old new : OpenScene) → ℕ → Type 0
 IsRequested bytes old new code =
-    IsLeft old new code ⊎ PlaysRequest (request_in (interpreter_kinds (interpreter_of old.interpreter)) bytes) old new code
+    IsLeft old new code ⊎ PlaysRequest (line_request_in (interpreter_kinds (interpreter_of old.interpreter)) bytes) old new code
 
 -- of the scene that a handle holds
 abbrev pub Requests : List ℕ → Option HeldScene → Option HeldScene → ℕ → Type 0

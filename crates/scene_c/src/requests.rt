@@ -6,7 +6,7 @@ use crate::open_scene::OpenScene;
 use crate::played::tell_at;
 use crate::{BAD, NO_MEMORY};
 use scene_interpreter::LineAnswer;
-use scene_requests::{BadRequest, RequestError, read_request};
+use scene_requests::{BadRequest, RequestError, read_line_request};
 use std::alloc::Global;
 
 /// Puts into words why a request is bad, as the text of the answer. There is no answer then.
@@ -27,7 +27,7 @@ pub(crate) fn request_at(alloc: Global, open_scene: &mut OpenScene, bytes: &[u8]
     ensures requested { IsRequested bytes.now open_scene.old open_scene.new result }
     ensures cells { open_scene.new.cells.items ≡ open_scene.old.cells.items }
 {
-    match read_request(alloc, open_scene.interpreter.schema(), bytes) {
+    match read_line_request(alloc, open_scene.interpreter.schema(), bytes) {
         Ok(line) => tell_at(alloc, open_scene, line),
         Err(RequestError::Bad(reason)) => say_why(alloc, open_scene, reason),
         Err(RequestError::NoMemory) => NO_MEMORY,

@@ -41,3 +41,4 @@ pub use saved_laws::{editors_are_read_again, saved_editors_are_loaded, saved_wor
 pub use saving::{save, save_text};
 pub use saving_editor::{save_editor, save_editor_text};
 pub use scene_json_forms::FileFault;
+pub use write_world::write_kinds;

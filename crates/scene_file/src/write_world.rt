@@ -42,8 +42,9 @@ fn write_kind(alloc: Global, out: &mut String, name: &str, shape: Shape) -> Resu
     out.push_str("]")
 }
 
-/// Adds the list of the kinds, by number.
-fn write_kinds(alloc: Global, out: &mut String, schema: &Schema) -> Result<(), AllocError>
+/// Adds the list of the kinds by number, each with its name and its shape, as a scene text has it
+/// (docs/SCENE_FILES.md, "Version 1"). An error only where no memory was found; a part may be added then.
+pub fn write_kinds(alloc: Global, out: &mut String, schema: &Schema) -> Result<(), AllocError>
     ensures { OnOk result (Adds out.old out.new (compact_text (list_text kind_text schema.now))) }
 {
     let mut later = false;

@@ -6,7 +6,7 @@
 //! read byte by byte. `specs/Writable.antt` says which records have a text that is read again, and `laws` that they
 //! are, and that nothing but the texts of records is read.
 //!
-//! `write_records` adds the text of records, by printers of their parts, and `RecordsForm` reads them, by a `Form` for
+//! `write_records` adds the text of records, by printers of their parts, which are there for answers too, and `RecordsForm` reads them, by a `Form` for
 //! each word of the walk.
 #![tactic(auto)]
 
@@ -24,4 +24,4 @@ mod write_parts;
 pub use examples::worked_records;
 pub use laws::{only_texts_of_records_are_read, written_records_are_read_again};
 pub use read_records::RecordsForm;
-pub use write_frames::write_records;
+pub use write_frames::{write_delta_list, write_delta_list_back, write_record, write_records};

@@ -1,6 +1,7 @@
 pub mod ChangeLaws
 pub mod FileFaultLaws
 pub mod FrameLaws
+pub mod FurtherKind
 pub mod JsonLaws
 pub mod JsonLines
 pub mod LockLaws

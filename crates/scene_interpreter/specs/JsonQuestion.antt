@@ -12,11 +12,13 @@ use Rattle.scene_kinds.specs.declared.entity.Entity.{Entity}
 use Rattle.scene_kinds.specs.declared.fault.Fault.TheVariants.{NoSuchEntity}
 use Rattle.scene_model.specs.World.{World, row_of}
 use Rattle.scene_session.specs.Whole.{Whole}
+use Rattle.scene_questions.specs.Questions.{question_json}
+use Rattle.scene_undo.specs.Editor.{EditorState}
 use Rattle.scene_print.specs.JsonObjects.{answer_of}
 use Rattle.scene_print.specs.JsonShown.{row_answer, world_answer}
 use Rattle.scene_print.specs.JsonTold.{file_fault_json, refused_json}
 use Rattle.scene_interpreter.specs.declared.json_question.StateJson.{StateJson}
-use Rattle.scene_interpreter.specs.declared.json_question.StateJson.TheVariants.{Show, Get, Dump, DumpAll}
+use Rattle.scene_interpreter.specs.declared.json_question.StateJson.TheVariants.{Show, Get, Dump, DumpAll, Ask}
 
 -- the row of `get`, or that there is no such entity
 abbrev pub got_json : Kinds → Option Row → Data
@@ -45,9 +47,14 @@ abbrev pub dumpall_json : Whole → Data
 dumpall_json w =
     saved_json (editor_text w.machine.now (reverse w.past) w.future) (save_editor_of w.machine.now (reverse w.past) w.future)
 
+-- a machine with its records as the editor that it is of
+abbrev pub editor_in : Whole → EditorState
+editor_in w = record { world = w.machine.now; past = w.past; future = w.future; rewinds = w.machine.rewinds; depth = w.machine.depth }
+
 -- what is asked of a machine with its records
 abbrev pub asked_json : StateJson → Whole → Data
 asked_json Show w = world_answer w.machine.now
 asked_json (Get e) w = get_json w.machine.now e
 asked_json Dump w = dump_json w.machine.now
 asked_json DumpAll w = dumpall_json w
+asked_json (Ask question) w = question_json question (editor_in w)

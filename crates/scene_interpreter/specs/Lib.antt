@@ -1,5 +1,6 @@
 pub mod Answer
 pub mod Changes
+pub mod FurtherKind
 pub mod FileFaultText
 pub mod JsonAnswer
 pub mod JsonLine

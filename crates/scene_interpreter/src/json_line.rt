@@ -1,20 +1,25 @@
 //! The lines of a script one at a time, each answered by one line of JSON.
-ghost use Rattle.std.specs.Prelude.{◌≡◌, IfErr, IfOk, None, OnOk, string_bytes};
+ghost use Rattle.std.specs.Prelude.{◌≡◌, ℕ, List, IfErr, IfOk, None, Ok, OnOk, Some, string_bytes};
+ghost use Rattle.scene_script.specs.declared.bad_line.BadLine.TheVariants.{FrameOpen};
+ghost use Rattle.scene_script.specs.declared.script_line.Line.TheVariants.{Show};
+ghost use Rattle.scene_interpreter.specs.declared.halt.Halt.TheVariants.{After};
 ghost use Rattle.scene_json.specs.Texts.{Adds};
 ghost use Rattle.scene_session.specs.Owner.{whole_at};
-ghost use Rattle.scene_interpreter.specs.JsonAnswer.{json_line};
-ghost use Rattle.scene_interpreter.specs.JsonLine.{AddsJson, IsAnsweredAsJson, IsSaidAsJson, asked_by, question_of};
+ghost use Rattle.scene_interpreter.specs.JsonAnswer.{bad_json, json_line};
+ghost use Rattle.scene_interpreter.specs.JsonLine.{AddsJson, IsAnsweredAsJson, IsAsked, IsSaidAsJson, asked_by, question_of};
 ghost use Rattle.scene_interpreter.specs.JsonQuestion.{asked_json};
 ghost use Rattle.scene_interpreter.specs.Play.{first_state, state_by};
 ghost use Rattle.scene_interpreter.specs.Interpreter.{HaltsSetup, Interpreter as Reached, begun, halted, reached, interpreter_reply, interpreter_said, owner_of};
 ghost use Rattle.scene_interpreter.specs.Setup.{setup_by};
 
+use crate::answer::LineAnswer;
 use crate::halt::Halt;
 use crate::interpreter::{Interpreter, Mode, said_in};
 use crate::json_question::StateJson;
 use crate::play_state::PlayState;
 use crate::script_owner::ScriptOwner;
 use crate::setup::Setup;
+use scene_requests::Question;
 use scene_script::{BadLine, Line};
 use scene_session::{Performer, SessionOwner};
 use std::alloc::{AllocError, Global};
@@ -182,5 +187,41 @@ impl<O: ScriptOwner> Interpreter<O> {
             return Err(Halt::Before);
         };
         self.said_json(performer, said, out)
+    }
+
+    /// Adds that a question is bad, since a frame is open.
+    fn refuse_question(&self, out: &mut String) -> Result<Option<BadLine>, Halt>
+        ensures bad { IfOk result (λ bad. bad ≡ Some FrameOpen) }
+        ensures text { OnOk result ((words : List ℕ) × (Adds out.old out.new (json_line (bad_json words)))) }
+        ensures halted { IfErr result (λ h. h ≡ After) }
+    {
+        let answer = LineAnswer::Bad(BadLine::FrameOpen);
+        match answer.write_json(self.alloc, self.schema(), out) {
+            Ok(()) => Ok(Some(BadLine::FrameOpen)),
+            Err(AllocError) => Err(Halt::After),
+        }
+    }
+
+    /// Answers a question that no line has, and adds the answer as one line of JSON (docs/SHELL.md, "Questions"). It is
+    /// to the interpreter as the line `show` is: it ends the setup, and where a frame is open it is bad, which is added
+    /// and given. Else it changes nothing. It costs what `write_json_answer` of scene_questions costs.
+    ///
+    /// Halted only for want of memory, as `line` is. A part of the answer may be added then.
+    pub fn question_json<P: Performer<O>>(
+        &mut self,
+        performer: &P,
+        question: Question,
+        out: &mut String,
+    ) -> Result<Option<BadLine>, Halt>
+        ensures answer { IfOk result (λ bad. IsAsked (string_bytes out.old) (string_bytes out.new)
+            (reached O.state O.most self.old) (reached O.state O.most self.new) question bad) }
+        ensures halted { IfErr result (λ h. reached O.state O.most self.new
+            ≡ halted h (reached O.state O.most self.old) (interpreter_said (reached O.state O.most self.old) (Ok Show)).interpreter) }
+    {
+        if self.has_open_frame() {
+            self.refuse_question(out)
+        } else {
+            self.show_json(performer, StateJson::Ask(question), out)
+        }
     }
 }

@@ -11,6 +11,8 @@ ghost use Rattle.scene_interpreter.specs.JsonQuestion.{asked_json, dump_json, du
 use scene_file::{FileFault, save_editor_text, save_text};
 use scene_kinds::{Entity, Fault, Refusal};
 use scene_print::{write_json_fault, write_json_refused, write_json_row, write_json_world};
+use scene_questions::write_json_answer;
+use scene_requests::Question;
 use scene_session::EditorQuery;
 use scene_undo::Editor;
 use scene_world::World;
@@ -27,6 +29,8 @@ pub(crate) enum StateJson {
     Dump,
     /// The scene text of all that the editor keeps.
     DumpAll,
+    /// What no line asks.
+    Ask(Question),
 }
 
 /// Adds the row of an entity.
@@ -110,6 +114,7 @@ fn write_asked(
         StateJson::Get(entity) => write_get(alloc, out, editor.world(), entity),
         StateJson::Dump => write_dump(alloc, out, editor.world()),
         StateJson::DumpAll => write_dumpall(alloc, out, editor),
+        StateJson::Ask(question) => write_json_answer(alloc, out, editor, question),
     }
 }
 

@@ -10,6 +10,7 @@
 mod answer;
 mod bad_line_report;
 mod changes;
+mod declare;
 mod file_fault_text;
 mod frame_line;
 mod halt;

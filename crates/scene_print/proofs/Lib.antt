@@ -1,4 +1,6 @@
 pub mod JsonObjects
+pub mod JsonAsked
 pub mod JsonWritten
+pub mod Pages
 pub mod ResourceLaws
 pub mod ShowLaws

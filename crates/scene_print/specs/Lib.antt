@@ -2,6 +2,7 @@ pub mod JsonObjects
 pub mod JsonShown
 pub mod JsonSteps
 pub mod JsonTold
+pub mod JsonAsked
 pub mod Listed
 pub mod Printed
 pub mod ShowSteps

@@ -84,7 +84,7 @@ fn write_members(
 }
 
 /// Adds the row at a place of a table, behind the text with which its object begins.
-fn write_row_behind(
+pub(crate) fn write_row_behind(
     alloc: Global,
     out: &mut String,
     lead: &str,

@@ -149,7 +149,11 @@ fn write_named(
 
 /// Adds the object of all resources, by the bytes of their names.
 #[tactic(auto, using(scene_json_forms::proofs::FoundCells::named_whole))]
-fn write_resources(alloc: Global, out: &mut String, resources: &Resources) -> Result<(), AllocError>
+pub(crate) fn write_resources(
+    alloc: Global,
+    out: &mut String,
+    resources: &Resources,
+) -> Result<(), AllocError>
     ensures { OnOk result (Adds out.old out.new (compact_text (object_by resource_member resources.now.cells.entries))) }
 {
     let names = resources.names()?;

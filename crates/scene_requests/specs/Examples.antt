@@ -13,7 +13,12 @@ use Rattle.scene_table.specs.declared.row_step.RowStep.TheVariants.{AddVec, AddI
 use Rattle.scene_systems.specs.declared.step.Step.TheVariants.{Row, DespawnAtZero, SpawnChild, CountInto}
 use Rattle.scene_requests.specs.declared.bad_request.BadRequest.{BadRequest}
 use Rattle.scene_requests.specs.declared.bad_request.BadRequest.TheVariants.{NotJson, UnknownKey, BadField}
-use Rattle.scene_requests.specs.Request.{request_in}
+use Rattle.scene_requests.specs.declared.request.Request.TheVariants as of
+use Rattle.scene_requests.specs.declared.question.Side.TheVariants.{Past, Future}
+use Rattle.scene_requests.specs.declared.question.Way.TheVariants.{Back}
+use Rattle.scene_requests.specs.declared.question.Question.{Question}
+use Rattle.scene_requests.specs.declared.question.Question.TheVariants as ask
+use Rattle.scene_requests.specs.Request.{line_request_in, request_in}
 
 -- five kinds: a name, a number, three numbers, a link and a mark
 abbrev pub schema : Kinds
@@ -27,7 +32,7 @@ ent index generation = record { index = index; generation = generation }
 
 -- bytes are a request that stands for this line
 abbrev pub Says : List ℕ → Line → Type 0
-Says bytes l = request_in schema bytes ≡ Ok l
+Says bytes l = request_in schema bytes ≡ Ok (of.Line l)
 
 -- and for this command
 abbrev pub Does : List ℕ → Command → Type 0
@@ -120,3 +125,28 @@ SystemFaultsAreNamed =
     × IsBad (codes "{\"do\":\"system\",\"name\":\"a\",\"need\":[],\"steps\":[{\"step\":\"zer\",\"a\":0}],\"without\":[]}") (BadField (codes "steps[0].step"))
     × IsBad (codes "{\"do\":\"system\",\"name\":\"a\",\"need\":[],\"steps\":[{\"step\":\"count\",\"name\":\"b\",\"kind\":0}],\"without\":[]}")
     (UnknownKey (codes "steps[0].kind"))
+
+-- bytes ask this
+abbrev pub Asks : List ℕ → Question → Type 0
+Asks bytes question = request_in schema bytes ≡ Ok (of.Ask question)
+
+-- what no line asks, the end of an open frame, and a kind that is declared behind the setup; to who wants a line these are bad at `do`
+abbrev pub QuestionsAreRead : Type 0
+QuestionsAreRead =
+    Asks (codes "{\"do\":\"status\"}") ask.Status
+    × Asks (codes "{\"do\":\"tables\",\"need\":[\"Health\"],\"without\":[\"Name\",\"At\"]}") (ask.Tables (record { need = 2; without = 5 }))
+    × Asks (codes "{\"do\":\"rows\",\"need\":[],\"without\":[],\"from\":100,\"count\":50}")
+    (ask.Rows (record { need = 0; without = 0 }) (record { from = 100; count = 50 }))
+    × Asks (codes "{\"do\":\"parentof\",\"entity\":\"3v1\"}") (ask.ParentOf (ent 3 1))
+    × Asks (codes "{\"do\":\"future\",\"from\":0,\"count\":20}") (ask.Steps Future (record { from = 0; count = 20 }))
+    × Asks (codes "{\"do\":\"deltas\",\"of\":\"past\",\"step\":7}") (ask.Deltas Past 7)
+    × Asks (codes "{\"do\":\"step\",\"way\":\"back\"}") (ask.Step Back)
+    × Asks (codes "{\"do\":\"changedsince\",\"need\":[\"At\"],\"rewinds\":1,\"tick\":9,\"without\":[]}")
+    (ask.ChangedSince (record { need = 4; without = 0 }) 1 9)
+    × (request_in schema (codes "{\"do\":\"dropframe\"}") ≡ Ok of.DropFrame)
+    × (request_in schema (codes "{\"do\":\"declare\",\"name\":\"Mood\",\"shape\":\"Int\"}") ≡ Ok (of.Declare (codes "Mood") shape.Int))
+    × IsBad (codes "{\"do\":\"step\",\"way\":\"forward\"}") (BadField (codes "way"))
+    × IsBad (codes "{\"do\":\"rows\",\"need\":[],\"without\":[],\"from\":-1,\"count\":50}") (BadField (codes "from"))
+    × IsBad (codes "{\"do\":\"kinds\",\"entity\":\"3v1\"}") (UnknownKey (codes "entity"))
+    × (line_request_in schema (codes "{\"do\":\"status\"}") ≡ Err (BadField (codes "do")))
+    × (line_request_in schema (codes "{\"do\":\"undo\"}") ≡ Ok line.Undo)

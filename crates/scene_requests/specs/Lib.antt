@@ -1,7 +1,9 @@
 pub mod BadRequest
 pub mod Keys
+pub mod Asked
 pub mod Walk
 pub mod Cells
+pub mod Questions
 pub mod Request
 pub mod Reading
 pub mod Examples

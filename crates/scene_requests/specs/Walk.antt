@@ -1,5 +1,5 @@
--- The walk through a request (docs/SHELL.md, "Requests"): which line it stands for, or the first fault with its path. Its
--- words are those of the walk through a scene text.
+-- The walk through a request that stands for a line (docs/SHELL.md, "Requests"): which line it is, or the first fault with
+-- its path. Its words are those of the walk through a scene text.
 use Rattle.std.specs.Prelude.{ℕ, ◌+◌, List, [], ◌∷◌, ◌++◌, codes, Option, Some, None, Result, Ok, option_and_then, bit_or, map as each}
 use Rattle.std.specs.List.{fold}
 use Rattle.serde_json.specs.Data.{Data, Members}
@@ -18,14 +18,13 @@ use Rattle.scene_script.specs.declared.form.LineForm.TheVariants as form
 use Rattle.scene_script.specs.declared.script_line.Line.{Line}
 use Rattle.scene_script.specs.declared.script_line.Line.TheVariants as line
 use Rattle.scene_script.specs.Cells.{target_in}
-use Rattle.scene_script.specs.Forms.{form_named}
 use Rattle.scene_script.specs.Script.{limit_of, session_of}
 use Rattle.scene_json_forms.specs.declared.fault.FileFault.{FileFault}
 use Rattle.scene_json_forms.specs.Reading.{◌>>=◌, field, string_at, list_of, under, object_at, key_of}
 use Rattle.scene_json_forms.specs.Walk.{u32_at, int_at, entity_at, shape_at, value_at}
 use Rattle.scene_requests.specs.declared.step_name.StepName.{StepName}
 use Rattle.scene_requests.specs.declared.step_name.StepName.TheVariants as step
-use Rattle.scene_requests.specs.Keys.{form_keys, step_named, step_keys}
+use Rattle.scene_requests.specs.Keys.{step_named, step_keys}
 
 -- ---- numbers, entities and kinds
 
@@ -246,17 +245,3 @@ line_of kinds form.Dump path ms = Ok line.Dump
 line_of kinds form.DumpAll path ms = Ok line.DumpAll
 line_of kinds form.As path ms = as_of path ms
 line_of kinds form.History path ms = Ok line.History
-
--- ---- requests
-
--- what a request asks for, by the first word of the line that it stands for
-abbrev pub form_at : List ℕ → Data → Result LineForm FileFault
-form_at path d = field path (option_and_then form_named (as_str d))
-
--- what a request asks for, which is an object
-abbrev pub form_of : List ℕ → Data → Result LineForm FileFault
-form_of path d = field path (as_object d) >>= key_of form_at path (codes "do")
-
--- a request: `do` comes first, then its unknown keys, and then its keys
-abbrev pub line_at : Kinds → List ℕ → Data → Result Line FileFault
-line_at kinds path d = form_of path d >>= λ form. object_at (form_keys form) path d >>= line_of kinds form path

@@ -3,17 +3,16 @@ ghost use Rattle.scene_json.specs.View.{view};
 ghost use Rattle.scene_json_forms.specs.Members.{members_in};
 ghost use Rattle.scene_json_forms.specs.Outcome.{Reads};
 ghost use Rattle.scene_json_forms.specs.Paths.{path_bytes};
-ghost use Rattle.scene_requests.specs.Walk.{kind_of, slots_of, load_of, calls_of, depth_of, get_of, system_of, as_of, line_of, form_of, line_at};
+ghost use Rattle.scene_requests.specs.Walk.{kind_of, slots_of, load_of, calls_of, depth_of, get_of, system_of, as_of, line_of};
 
-use crate::keys::known_form_keys;
 use crate::read_commands::{
     despawn_of, despawnall_of, despawnifalive_of, drop_of, insert_of, parent_of, put_of, remove_of,
     spawn_of, unparent_of,
 };
 use crate::read_steps::StepForm;
-use crate::read_words::{AskedForm, KindsForm, LimitForm, SessionForm, TextForm};
+use crate::read_words::{KindsForm, LimitForm, SessionForm, TextForm};
 use scene_json::Part;
-use scene_json_forms::{EntityForm, FileResult, ListOf, Path, ShapeForm, bad_field, key_of};
+use scene_json_forms::{EntityForm, FileResult, ListOf, Path, ShapeForm, key_of};
 use scene_kinds::Schema;
 use scene_script::{Line, LineForm};
 use scene_systems::{Filter, Steps, SystemRule};
@@ -106,7 +105,7 @@ fn as_of(alloc: Global, path: &Path<'_>, value: &Part<'_, '_>) -> FileResult<Lin
 }
 
 /// The line of an object of the keys of what it asks for.
-fn line_of(
+pub(crate) fn line_of(
     alloc: Global,
     schema: &Schema,
     form: LineForm,
@@ -150,30 +149,4 @@ fn line_of(
         LineForm::As => as_of(alloc, path, value),
         LineForm::History => Ok(Line::History),
     }
-}
-
-/// What a request asks for, which is an object.
-#[tactic(auto, using(scene_json_forms::proofs::Walking::walking))]
-fn form_of(alloc: Global, path: &Path<'_>, value: &Part<'_, '_>) -> FileResult<LineForm>
-    ensures { Reads result (form_of (path_bytes path.now) (view value.now)) }
-{
-    if !value.is_object() {
-        return Err(bad_field(alloc, path));
-    }
-    key_of(alloc, &AskedForm, path, value, "do")
-}
-
-/// The line that a request stands for.
-#[tactic(auto, using(scene_json_forms::proofs::Walking::walking))]
-pub(crate) fn line_at(
-    alloc: Global,
-    schema: &Schema,
-    path: &Path<'_>,
-    value: &Part<'_, '_>,
-) -> FileResult<Line>
-    ensures { Reads result (line_at schema.now (path_bytes path.now) (view value.now)) }
-{
-    let form = form_of(alloc, path, value)?;
-    known_form_keys(alloc, form, path, value)?;
-    line_of(alloc, schema, form, path, value)
 }

@@ -7,7 +7,7 @@ use scene_commands::Target;
 use scene_json::Part;
 use scene_json_forms::{FileResult, Form, ListOf, Path, U32Form, field, string_at};
 use scene_kinds::{KindSet, Schema, Shape, Text, set_with};
-use scene_script::{Limit, LineForm, SessionNumber, read_target};
+use scene_script::{Limit, SessionNumber, read_target};
 use std::alloc::Global;
 
 /// The form of any text. The text read is a copy.
@@ -33,31 +33,6 @@ impl Form for TextForm {
         let text = string_at(alloc, path, value)?;
         let text = String::from_str(alloc, text)?;
         Ok(Text::from(text))
-    }
-}
-
-/// The form of what a request asks for: the first word of the line that it stands for.
-#[derive(Drop)]
-pub(crate) struct AskedForm;
-
-impl Form for AskedForm {
-    ghost use Rattle.std.specs.Prelude.{true};
-    ghost use Rattle.scene_script.specs.declared.form.LineForm.{LineForm};
-    ghost use Rattle.scene_requests.specs.Walk.{form_at};
-
-    type Item = LineForm;
-
-    ghost Meant = { LineForm };
-
-    ghost meant = { λ form. form };
-
-    ghost word = { λ _. form_at };
-
-    ghost follows = { λ _ _. true };
-
-    fn read(&self, alloc: Global, path: &Path<'_>, value: &Part<'_, '_>) -> FileResult<Self::Item> {
-        let form = value.as_str().and_then(LineForm::named);
-        field(alloc, path, form)
     }
 }
 

@@ -1,21 +1,35 @@
 //! A request, by its bytes.
-ghost use Rattle.std.specs.Prelude.{◌≡◌, []};
+ghost use Rattle.std.specs.Prelude.{◌≡◌, [], Ok};
 ghost use Rattle.scene_json.specs.View.{whole};
-ghost use Rattle.scene_requests.specs.Reading.{Reads};
-ghost use Rattle.scene_requests.specs.Request.{if_walked, is_request, request_in, said_by};
-ghost use Rattle.scene_requests.specs.Walk.{line_at};
+ghost use Rattle.scene_requests.specs.Reading.{IsNoLine, Reads};
+ghost use Rattle.scene_requests.specs.Questions.{request_at};
+ghost use Rattle.scene_requests.specs.Request.{if_walked, is_request, line_request_in, only_line, request_in, said_by};
 
 use crate::bad_request::{BadRequest, RequestError, error_of};
-use crate::read_lines::line_at;
+use crate::question::Question;
+use crate::read_requests::request_at;
 use json::Scratch;
 use scene_json::{Document, DocumentError};
 use scene_json_forms::Path;
-use scene_kinds::Schema;
+use scene_kinds::{Schema, Shape, Text};
 use scene_script::Line;
-use std::alloc::Global;
+use std::alloc::{AllocError, Global};
 
 /// How many bytes a request has at most.
 const MOST_BYTES: usize = 67_108_864;
+
+/// What a request asks for (docs/SHELL.md, "Requests").
+#[derive(Debug, Drop)]
+pub enum Request {
+    /// What a line of a script says.
+    Line(Line),
+    /// What no line asks.
+    Ask(Question),
+    /// The open frame is to be dropped, with its commands.
+    DropFrame,
+    /// A kind is to be declared, in the setup or behind it.
+    Declare(Text, Shape),
+}
 
 /// Whether a line is a request: it begins with `{` (docs/SHELL.md, "Requests").
 pub fn is_request(bytes: &[u8]) -> bool
@@ -27,43 +41,82 @@ pub fn is_request(bytes: &[u8]) -> bool
     }
 }
 
-/// The line of a document.
+/// What a document says.
 #[tactic(auto, using(crate::proofs::Walked::walk_fails, crate::proofs::Walked::walk_ends))]
-fn line_in(alloc: Global, schema: &Schema, document: &Document<'_>) -> Result<Line, RequestError>
-    ensures { Reads result (if_walked (line_at schema.now [] (whole document.now))) }
+fn request_of_document(
+    alloc: Global,
+    schema: &Schema,
+    document: &Document<'_>,
+) -> Result<Request, RequestError>
+    ensures { Reads result (if_walked (request_at schema.now [] (whole document.now))) }
 {
-    match line_at(alloc, schema, &Path::Root, &document.root()) {
-        Ok(line) => Ok(line),
+    match request_at(alloc, schema, &Path::Root, &document.root()) {
+        Ok(request) => Ok(request),
         Err(fault) => Err(error_of(fault)),
     }
 }
 
-/// The line of a text of not too many bytes.
+/// What a text of not too many bytes says.
 #[tactic(auto, using(crate::proofs::Walked::requests))]
-fn said_by(alloc: Global, schema: &Schema, bytes: &[u8]) -> Result<Line, RequestError>
+fn said_by(alloc: Global, schema: &Schema, bytes: &[u8]) -> Result<Request, RequestError>
     ensures { Reads result (said_by schema.now bytes.now) }
 {
     let mut scratch = Scratch::new(alloc);
     match Document::read(alloc, bytes, &mut scratch) {
-        Ok(document) => line_in(alloc, schema, &document),
+        Ok(document) => request_of_document(alloc, schema, &document),
         Err(DocumentError::NotJson) => Err(RequestError::Bad(BadRequest::NotJson)),
         Err(DocumentError::TooLong | DocumentError::NoMemory) => Err(RequestError::NoMemory),
     }
 }
 
-/// The line that a request stands for, where these kinds are declared (docs/SHELL.md, "Requests"). The texts in it are
-/// any JSON strings.
+/// What a request asks for, where these kinds are declared (docs/SHELL.md, "Requests"). The texts in it are any JSON
+/// strings.
 ///
 /// Refused with `Bad`, in this order: `TooLong`; `NotJson`; a `BadField` with an empty path where the text is no object,
 /// and at `do`; the unknown keys of the request, by bytes; and then the first of its own keys, by bytes, that is missing
 /// or whose value isn't of its form, with the path of the part that isn't. `NoMemory` may stand in place of any answer.
 /// It costs the text's length, and in `cells` a look for each kind.
 #[tactic(auto, using(crate::proofs::Walked::requests))]
-pub fn read_request(alloc: Global, schema: &Schema, bytes: &[u8]) -> Result<Line, RequestError>
+pub fn read_request(alloc: Global, schema: &Schema, bytes: &[u8]) -> Result<Request, RequestError>
     ensures { Reads result (request_in schema.now bytes.now) }
 {
     if bytes.len() > MOST_BYTES {
         return Err(RequestError::Bad(BadRequest::TooLong));
     }
     said_by(alloc, schema, bytes)
+}
+
+/// Why a request is bad that stands for no line, where one has to.
+fn no_line(alloc: Global) -> RequestError
+    ensures { IsNoLine result }
+{
+    match String::from_str(alloc, "do") {
+        Ok(path) => RequestError::Bad(BadRequest::BadField(Text::from(path))),
+        Err(AllocError) => RequestError::NoMemory,
+    }
+}
+
+/// The line that is asked for.
+#[tactic(auto, using(crate::proofs::Walked::no_line_reads))]
+fn only_line(alloc: Global, request: Request) -> Result<Line, RequestError>
+    ensures { Reads result (only_line (Ok request)) }
+{
+    match request {
+        Request::Line(line) => Ok(line),
+        Request::Ask(_) | Request::DropFrame | Request::Declare(..) => Err(no_line(alloc)),
+    }
+}
+
+/// The line that a request stands for, as `read_request` reads it: for callers that have calls of their own for what no
+/// line asks.
+///
+/// Refused as by `read_request`; and with a `BadField` at `do` where a good request stands for no line.
+#[tactic(auto, using(crate::proofs::Walked::lines))]
+pub fn read_line_request(alloc: Global, schema: &Schema, bytes: &[u8]) -> Result<Line, RequestError>
+    ensures { Reads result (line_request_in schema.now bytes.now) }
+{
+    match read_request(alloc, schema, bytes) {
+        Ok(request) => only_line(alloc, request),
+        Err(error) => Err(error),
+    }
 }

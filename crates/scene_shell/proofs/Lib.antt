@@ -1,5 +1,6 @@
 mod Agreement
 mod BadTexts
+mod Declared
 mod KeptLaws
 mod KeptLead
 mod LineFaults

@@ -1,8 +1,9 @@
 //! What lines that are kept have done.
 use crate::line_fault::KeptLineFault;
-use crate::request_line::shell_line_said;
+use crate::request_line::{declare, request_said, shell_line_said};
 use scene_interpreter::{Halt, Interpreter, InterpreterSettings, LineAnswer};
-use scene_requests::is_request;
+use scene_kinds::Refusal;
+use scene_requests::{Request, is_request};
 use scene_script::{Line, SessionNumber, first_line};
 use scene_session::{LoneOwner, Reply, ThisThread};
 use std::alloc::{AllocError, Global};
@@ -83,6 +84,15 @@ struct Log {
     entry: String,
 }
 
+/// The answer of a declaration.
+fn answer_of(declared: Result<Result<u8, Refusal>, AllocError>) -> Result<LineAnswer, Halt> {
+    match declared {
+        Ok(Ok(_)) => Ok(LineAnswer::Taken),
+        Ok(Err(refusal)) => Ok(LineAnswer::Replied(Reply::Refused(refusal))),
+        Err(AllocError) => Err(Halt::Before),
+    }
+}
+
 impl Log {
     /// The log of no line.
     fn new(alloc: Global) -> Log {
@@ -95,19 +105,38 @@ impl Log {
         }
     }
 
-    /// Plays a line, a request or not, and gives its answer. That of a bad request is none.
+    /// Does what a request asks for, and gives its answer. A question, which is kept only
+    /// where it ends the setup, is told as that; a bad request has none.
+    fn answer_request(
+        &self,
+        interpreter: &mut Interpreter<LoneOwner>,
+        request: &[u8],
+    ) -> Result<LineAnswer, Halt> {
+        match request_said(self.alloc, interpreter.schema(), request) {
+            Ok(Ok(Request::Line(said))) => interpreter.play_said(&ThisThread, Ok(said)),
+            Ok(Ok(Request::Ask(_))) => {
+                interpreter.play_said(&ThisThread, Ok(Line::Show))?;
+                Ok(LineAnswer::Taken)
+            }
+            Ok(Ok(Request::DropFrame)) if interpreter.drop_frame() => Ok(LineAnswer::Taken),
+            Ok(Ok(Request::Declare(name, shape))) => {
+                answer_of(declare(self.alloc, interpreter, name, shape))
+            }
+            Ok(_) => Ok(LineAnswer::Nothing),
+            Err(AllocError) => Err(Halt::Before),
+        }
+    }
+
+    /// Plays a line, a request or not, and gives its answer.
     fn answer_to(
         &self,
         interpreter: &mut Interpreter<LoneOwner>,
         line: &[u8],
     ) -> Result<LineAnswer, Halt> {
-        if !is_request(line) {
-            return interpreter.play(&ThisThread, line);
-        }
-        match shell_line_said(self.alloc, interpreter.schema(), line) {
-            Ok(Some(said)) => interpreter.play_said(&ThisThread, Ok(said)),
-            Ok(None) => Ok(LineAnswer::Nothing),
-            Err(AllocError) => Err(Halt::Before),
+        if is_request(line) {
+            self.answer_request(interpreter, line)
+        } else {
+            interpreter.play(&ThisThread, line)
         }
     }
 

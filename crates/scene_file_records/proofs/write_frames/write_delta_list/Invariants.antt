@@ -2,7 +2,7 @@ use Rattle.std.proofs.Common.{◌≡◌, ◌++◌, length, string_bytes}
 use Rattle.std.specs.Prelude.{false}
 use Rattle.scene_json_forms.specs.Printing.{rest_text}
 use Rattle.scene_file_records.specs.Text.{delta_text}
-use Rattle.scene_file_records.proofs.write_frames.write_deltas.Given as goal
+use Rattle.scene_file_records.proofs.write_frames.write_delta_list.Given as goal
 
 abbrev pub invariant-deltas : goal.invariant-deltas
 invariant-deltas l = string_bytes l.out ++ rest_text l.later delta_text l.left

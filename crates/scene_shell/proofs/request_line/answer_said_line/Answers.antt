@@ -1,7 +1,7 @@
 use Rattle.std.specs.Prelude.{string_bytes}
 use Rattle.scene_interpreter.specs.Interpreter.{interpreter_of}
 use Rattle.scene_shell.proofs.Requests.{is_request_answer}
-use Rattle.scene_shell.proofs.request_line.answer_good.Goals as goal
+use Rattle.scene_shell.proofs.request_line.answer_said_line.Goals as goal
 
 pub returns-in-Ok-clause-answer : goal.returns-in-Ok-clause-answer
 returns-in-Ok-clause-answer g c =

@@ -1,0 +1,3 @@
+pub mod StepLists
+pub mod StepTexts
+pub mod AnswerTexts
