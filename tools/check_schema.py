@@ -54,7 +54,7 @@ def validator_of(name):
 
 def requests():
     """The requests of the examples, each with the path or the words by which it is bad, or None."""
-    for script in sorted(EXAMPLES.glob("requests_*.scene")):
+    for script in sorted((*EXAMPLES.glob("requests_*.scene"), *EXAMPLES.glob("questions_*.scene"))):
         for line, told in zip(lines_of(script), lines_of(script.with_suffix(".out"))):
             if line.startswith("{"):
                 answer = json.loads(told)

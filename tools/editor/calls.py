@@ -3,6 +3,7 @@ they did."""
 from typing import NamedTuple, Optional
 
 from commands import COMMANDS, word_of
+from request_forms import DROP_FRAME, QUESTIONS
 
 KEPT_FROM_TABS = {
     "as": "each tab is a session of its own",
@@ -12,8 +13,9 @@ KEPT_FROM_TABS = {
 }
 UNBALANCED = "the lines aren't balanced: each begin needs its commit, and nothing was done"
 CURSOR = ("changed", "added", "mark")
+ENDS = ("commit", DROP_FRAME)
 FRAMES = COMMANDS | {"commit", "advance"}
-ASKING = ("", "get", "show", "history", "dump", "dumpall")
+ASKING = ("", "get", "show", "history", "dump", "dumpall", *QUESTIONS)
 
 
 class Sent(NamedTuple):
@@ -35,12 +37,12 @@ def refusal(line, word):
 
 
 def is_balanced(words):
-    """Whether each `begin` has its `commit`, and there is no other `commit`."""
+    """Whether each `begin` has its end, and there is no other end."""
     is_open = False
     for word in words:
-        if word == "begin" and is_open or word == "commit" and not is_open:
+        if word == "begin" and is_open or word in ENDS and not is_open:
             return False
-        is_open = (is_open or word == "begin") and word != "commit"
+        is_open = (is_open or word == "begin") and word not in ENDS
     return not is_open
 
 

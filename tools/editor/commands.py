@@ -2,7 +2,7 @@
 And what the commands of an accepted frame do to a recorder."""
 import json
 
-from request_forms import KEYS, request_of
+from request_forms import DROP_FRAME, KEYS, request_of
 
 COMMANDS = frozenset(
     "spawn insert despawn remove parent unparent despawnall despawnifalive put drop".split()
@@ -18,8 +18,8 @@ def read(line, kinds):
 
 
 def word_of(line):
-    """The word of what a line asks for, whether it is good or not; "" where it is empty or no request, and for a
-    `begin` or `commit` with something more, which is a bad line."""
+    """The word of what a line asks for, whether it is good or not; "" where it is empty or no request, and for the
+    begin or the end of a frame with something more, which is a bad line, or as no request where only that is good."""
     if line.startswith("{"):
         try:
             request = json.loads(line)
@@ -28,8 +28,8 @@ def word_of(line):
         word, count = request.get("do"), len(request)
     else:
         words = [word for word in line.split(" ") if word]
-        word, count = words[0] if words else "", len(words)
-    has_more = word in ("begin", "commit") and count > 1
+        word, count = words[0] if words and words[0] != DROP_FRAME else "", len(words)
+    has_more = word in ("begin", "commit", DROP_FRAME) and count > 1
     return word if isinstance(word, str) and not has_more else ""
 
 

@@ -3,6 +3,7 @@ undo and redo."""
 import json
 
 from commands import COMMANDS, read
+from request_forms import DROP_FRAME
 
 SETUP = frozenset(("kind", "slots", "load", "calls", "depth"))
 
@@ -46,7 +47,7 @@ class Follower:
             self.on_advance(entities)
         elif answer == "done":
             self.on_frame([[request]] if word in COMMANDS else self.frame, entities)
-        if word == "commit":
+        if word in ("commit", DROP_FRAME):
             self.frame = None
         return request
 

@@ -24,6 +24,8 @@ SEED = 36
 CALLS_BETWEEN = 5
 LINES = (10, 25, 60)
 FEW_BYTES = 2_000
+# Calls between those of a script. A question ends the setup as any other line does.
+OTHER_CALLS = (["undo"], ["undo", "undo", "redo"], ["redo"], ["begin", "spawn", '{"do":"dropframe"}'], ['{"do":"status"}', "spawn"])
 # Reasons of a `whole` event that aren't a fault of the model's.
 REASONS = ("the setup changed", "the setup has ended", "frames farther off are read again")
 
@@ -166,7 +168,7 @@ def play(chance, hub, clients, lines):
     for number, call in enumerate(calls_of(chance, lines)):
         chance.choice(clients).call(*(as_request(chance, line, hub.model.shapes) for line in call))
         if chance.random() < 0.15:
-            chance.choice(clients).call(*chance.choice((["undo"], ["undo", "undo", "redo"], ["redo"])))
+            chance.choice(clients).call(*chance.choice(OTHER_CALLS))
         if number % CALLS_BETWEEN == 0:
             held += hold(hub, clients)
     return held + hold(hub, clients)
