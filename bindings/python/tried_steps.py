@@ -10,7 +10,7 @@ from typing import Any, Callable, Dict, List, Optional, Tuple
 
 from scene import AddInt, CountInto, DespawnAtZero, Entity, Refused, SpawnChild
 from scene import header
-from scene.deltas import LAYOUT
+from scene.raw_deltas import LAYOUT
 from scene.library import Delta, KeptStep, LibraryScene
 from trying import KINDS, UNUSUAL, Begin, error_of, is_bad, over_library, spawned
 

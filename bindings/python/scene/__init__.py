@@ -38,11 +38,12 @@ from pathlib import Path
 from typing import Mapping, Optional, Sequence, Union
 
 from scene.calls import Calls
+from scene.deltas import Delta, KeptStep, StepSummary
 from scene.errors import BadLine, Closed, Ended, KindsDiffer, Lost, NoMemory, OtherThread, OtherVersion, Refused
 from scene.errors import SceneError, Shared, StoreError, Untold
 from scene.shell import Scene
-from scene.systems import AddInt, AddVec, CountInto, DespawnAtZero, SpawnChild, Step
-from scene.values import Cell, Entity, Given, Row, Spawned, Status, Value
+from scene.systems import AddInt, AddVec, CountInto, DespawnAtZero, SpawnChild, Step, System
+from scene.values import Cell, Entity, Given, Moment, Row, Spawned, Status, Value
 from scene.version import __version__
 
 __license__ = "MIT"
@@ -54,12 +55,15 @@ __all__ = [
     "Cell",
     "Closed",
     "CountInto",
+    "Delta",
     "DespawnAtZero",
     "Ended",
     "Entity",
     "Given",
+    "KeptStep",
     "KindsDiffer",
     "Lost",
+    "Moment",
     "NoMemory",
     "OtherThread",
     "OtherVersion",
@@ -72,7 +76,9 @@ __all__ = [
     "Spawned",
     "Status",
     "Step",
+    "StepSummary",
     "StoreError",
+    "System",
     "Untold",
     "Value",
     "__version__",

@@ -8,10 +8,12 @@ from types import TracebackType
 from typing import Any, Dict, Iterable, Iterator, List, Mapping, Optional, Sequence, Tuple, Type, TypeVar, Union
 from typing import overload
 
+from scene.deltas import KeptStep, StepSummary
 from scene.errors import BadLine, KindsDiffer, Refused, SceneError
-from scene.systems import Step, step_asked
-from scene.values import SHAPES, Cell, Entity, Given, Named, Row, Spawned, Spawns, Status, Value, fitting, kind_named
-from scene.values import entity_named, resource_value, shape_named, target_named, text_named
+from scene.systems import Step, System, step_asked
+from scene.values import PAGE, SHAPES, Cell, Entity, Given, Moment, Named, Row, Spawned, Spawns, Status, Value
+from scene.values import count_named, entity_named, fitting, kind_named, place_named, resource_value, shape_named
+from scene.values import target_named, text_named
 
 Own = TypeVar("Own", bound="Calls")
 
@@ -26,9 +28,9 @@ class Calls(ABC):
     An entity may be given as the text of one, as what a `spawn` in a frame gave, and, in an open frame, as `+K`: the
     K-th that it spawns, from 0.
 
-    What only reads is out of place in an open frame, and ends the setup. Over the shell `row`, `rows`, `parent_of`,
-    `children_of`, `roots` and the resources ask for the whole world, and `status` for all of a `save`; over the library
-    each costs what it gives.
+    What only reads is out of place in an open frame, and ends the setup; over the library `tables`, `now`,
+    `changed_since`, `added_since`, `past_step`, `future_step` and `depth` also go in one, and tell of the scene before
+    it. Each costs what it gives, but that over the shell `roots` asks for the whole world, and `resource` for all.
     """
 
     # What the open frame of a `with` spawns.
@@ -80,8 +82,20 @@ class Calls(ABC):
     # ---- kinds
 
     @abstractmethod
+    def kinds(self) -> Dict[str, str]:
+        """The shapes of all kinds by their names, in the order in which they were declared."""
+
+    @abstractmethod
     def shape_of(self, kind: str) -> Optional[str]:
-        """The shape of a kind; None where no kind has the name."""
+        """The shape of a kind; None where no kind has the name. It also goes in the setup and in an open frame."""
+
+    @abstractmethod
+    def _kind_names(self) -> Sequence[str]:
+        """The names of all kinds by their numbers."""
+
+    def kinds_of(self, mask: int) -> List[str]:
+        """The names of the kinds of a set, as `tables` gives it, by their numbers."""
+        return [name for number, name in enumerate(self._kind_names()) if mask >> number & 1]
 
     def declare(self, name: str, shape: str) -> None:
         """Declares a kind by its name and its shape, Tag, Int, Vec3, Text or Link.
@@ -262,8 +276,21 @@ class Calls(ABC):
         """Ends the open frame by doing it, and gives what it spawned."""
 
     @abstractmethod
+    def drop_frame(self) -> bool:
+        """Drops the open frame: nothing of it is done, and no call is made. Whether one was open.
+
+        An error in the `with` of a `frame` does it by itself. Where it is called there, the end of the `with` is a
+        BadLine, as no frame is open any more.
+        """
+
+    @abstractmethod
     def _drop_frame(self) -> None:
-        """Ends the open frame, if one is open, without doing it."""
+        """Drops the open frame, if one is open, behind an error, which no other one may hide."""
+
+    @property
+    @abstractmethod
+    def in_frame(self) -> bool:
+        """Whether a frame is open."""
 
     def undo(self, count: int = 1) -> None:
         """Takes the newest frames back, so many. Refused, where there are fewer, and none is taken back.
@@ -308,6 +335,26 @@ class Calls(ABC):
         """The rows of all entities, by table and then by place."""
 
     @abstractmethod
+    def each_row(self, *need: str, without: Sequence[str] = (), page: int = PAGE) -> Iterator[Row]:
+        """The rows of the entities that have all kinds of `need` and none of `without`, in the order of `rows`, one
+        after the other: `for row in level.each_row("Health", without=["Hidden"])`.
+
+        So many rows as a page has are asked for at once; over the library a page is a table. Where the scene is changed
+        before the last page, the next one is a BadLine: places of rows may be others then. A page that is no whole
+        number from 1 is a TypeError or a BadLine.
+        """
+
+    def _check_moment(self, began: Moment, now: Moment) -> None:
+        """Raises that rows can't be read on, where the scene was changed since."""
+        if now != began:
+            raise BadLine("the scene was changed while its rows were read")
+
+    @abstractmethod
+    def tables(self, *need: str, without: Sequence[str] = ()) -> List[Tuple[int, int]]:
+        """The kind sets that some entities have, of those with all kinds of `need` and none of `without`: ascending,
+        each with the count of its entities. The kind of number k is bit k; `kinds_of` names them."""
+
+    @abstractmethod
     def is_alive(self, entity: Named) -> bool:
         """Whether an entity is alive."""
 
@@ -335,11 +382,43 @@ class Calls(ABC):
     def status(self) -> Status:
         """The numbers of the scene."""
 
+    @property
+    @abstractmethod
+    def depth(self) -> int:
+        """How many frames are kept at most, to be undone."""
+
     def show(self) -> str:
         """The text of the world: all that the line `show` answers."""
         return "\n".join(self.line("show"))
 
-    # ---- following
+    # ---- following, by moments
+
+    @abstractmethod
+    def now(self) -> Moment:
+        """This moment, which a view keeps to ask by `changed_since` what was written since."""
+
+    def changed_since(
+        self, moment: Moment, need: Sequence[str] = (), without: Sequence[str] = ()
+    ) -> List[Tuple[Entity, str]]:
+        """The components that were changed since a moment, those included that were added: of the entities that have
+        all kinds of `need` and none of `without`, in the order of `rows`, then by kind.
+
+        Refused as Rewound, where something was undone since, so that a view reads all anew. What is no moment is a
+        TypeError or a BadLine. The mark stays.
+        """
+        return self._since("changed", moment, need, without)
+
+    def added_since(
+        self, moment: Moment, need: Sequence[str] = (), without: Sequence[str] = ()
+    ) -> List[Tuple[Entity, str]]:
+        """The components that were added since a moment, and are there; else as `changed_since`."""
+        return self._since("added", moment, need, without)
+
+    @abstractmethod
+    def _since(
+        self, what: str, moment: Moment, need: Sequence[str], without: Sequence[str]
+    ) -> List[Tuple[Entity, str]]:
+        """The components that were `changed` or `added` since a moment."""
 
     def mark(self) -> None:
         """Notes this moment, from which `changed` and `added` look."""
@@ -357,9 +436,50 @@ class Calls(ABC):
         """The components that were added since the mark, or the beginning. Refused as `changed` is."""
         return self._cells_named("added")
 
-    def _cells_named(self, do: str) -> List[Tuple[Entity, str]]:
-        """The components that an answer lists."""
-        return [(Entity(cell["entity"]), cell["kind"]) for cell in self.request(do)["cells"]]
+    def _cells_named(self, do: str, **keys: Any) -> List[Tuple[Entity, str]]:
+        """The components that the answer to a request lists."""
+        return [(Entity(cell["entity"]), cell["kind"]) for cell in self.request(do, **keys)["cells"]]
+
+    # ---- following, by what each frame did
+
+    def past_step(self, place: int = 0) -> Optional[KeptStep]:
+        """What a frame did that can be undone: the newest one for place 0, the one before it for 1, and so on; None
+        where there are fewer. A place that is no whole number from 0 is a TypeError or a BadLine.
+
+        So a view follows a frame, or a redo, by `past_step().deltas`, and a redo of several frames by those of the
+        places `count - 1` down to 0. An advance is a frame too. It costs what it gives: over the library a few calls,
+        however many deltas there are, over the shell one request.
+        """
+        return self._kept_step("past", place_named(place))
+
+    def future_step(self, place: int = 0) -> Optional[KeptStep]:
+        """What a frame did that can be redone: the next one for place 0, the one behind it for 1, and so on; else as
+        `past_step`.
+
+        So a view follows an undo by `future_step().undone()`, and one of several frames by those of the places
+        `count - 1` down to 0.
+        """
+        return self._kept_step("future", place_named(place))
+
+    @abstractmethod
+    def _kept_step(self, way: str, place: int) -> Optional[KeptStep]:
+        """A frame of the `past` or the `future`."""
+
+    def past(self, first: int = 0, count: int = 20) -> List[StepSummary]:
+        """The frames that can be undone, each by its tick and the count of its deltas: the newest first, so many from
+        that of place `first` on, or as many as there are. `status().undo` tells how many there are in all.
+
+        A place or a count that is no whole number from 0 is a TypeError or a BadLine.
+        """
+        return self._summaries("past", place_named(first), count_named(count))
+
+    def future(self, first: int = 0, count: int = 20) -> List[StepSummary]:
+        """The frames that can be redone, the next one first; else as `past`. `status().redo` tells how many."""
+        return self._summaries("future", place_named(first), count_named(count))
+
+    @abstractmethod
+    def _summaries(self, way: str, first: int, count: int) -> List[StepSummary]:
+        """Frames of the `past` or the `future`, from a place on."""
 
     # ---- systems
 
@@ -367,16 +487,22 @@ class Calls(ABC):
         """Adds a phase, empty as yet, behind the others."""
         self.request("phase")
 
-    def add_system(self, name: str, *steps: Step, need: Sequence[str] = (), without: Sequence[str] = ()) -> None:
+    def add_system(
+        self, name: Union[str, System], *steps: Step, need: Sequence[str] = (), without: Sequence[str] = ()
+    ) -> None:
         """Adds a system to the last phase, and makes one where there is none.
 
         Its steps are done to each entity that has all kinds of `need` and none of `without`, as
-        `add_system("age", AddInt("Health", -1), need=["Health"])`. What breaks a rule, `advance` refuses.
+        `add_system("age", AddInt("Health", -1), need=["Health"])`; or it is a `System`, which has all that. What breaks
+        a rule, `advance` refuses. A kind that isn't there is a BadLine, and what is no step a TypeError.
         """
-        asked = [step_asked(step, self._known, self._fitting) for step in steps]
-        text_named("the name of a system", name)
-        needed, barred = self._all_known(need), self._all_known(without)
-        self.request("system", name=name, need=needed, without=barred, steps=asked)
+        system = name if isinstance(name, System) else System(name, steps, need, without)
+        if system is name and (steps or need or without):
+            raise TypeError("a System has its own steps, need and without")
+        asked = [step_asked(step, self._known, self._fitting) for step in system.steps]
+        text_named("the name of a system", system.name)
+        needed, barred = self._all_known(system.need), self._all_known(system.without)
+        self.request("system", name=system.name, need=needed, without=barred, steps=asked)
 
     def clear_systems(self) -> None:
         """Drops all phases, with their systems."""

@@ -11,8 +11,8 @@
 `./scene library FOLDER` makes the library. Without a path, it is the one that the variable SCENE_LIBRARY names, or else
 libscene.so in the folder that SCENE_LIB_DIR names.
 
-Columns, many entities read in one call, moments, what each kept frame did, a check of systems, and sharing are its own,
-beside those calls. A column is a ctypes array, which numpy takes without a copy; one of texts is a list.
+Columns, many entities read in one call, a check of systems, and sharing are its own, beside those calls. A column is a
+ctypes array, which numpy takes without a copy; one of texts is a list.
 
 Behind `share` nothing changes a scene, and several threads read it at once, each by a `reader` of its own; `unshare`
 ends that.
@@ -32,9 +32,9 @@ from scene.errors import BadLine, Lost, Refused, Shared, Untold
 from scene.handle import Library, Played
 from scene.header import BAD, CLOSED, DONE, LOST, NO_MEMORY, REFUSED, SHARED, UNTOLD, RawEntity, RawRefusal
 from scene.header import load_library
-from scene.reads import IN_FRAME, SHAPE_NAMES, Moment, Reads, raw_entity, shown
-from scene.values import SHAPES, Entity, Given, Named, Spawned, Value, count_named, depth_named, fitting, kind_named
-from scene.values import read_text, resource_value, shape_named, target_named, text_named
+from scene.reads import IN_FRAME, SHAPE_NAMES, Reads, raw_entity, shown
+from scene.values import SHAPES, Entity, Given, Moment, Named, Spawned, Value, count_named, depth_named, fitting
+from scene.values import kind_named, read_text, resource_value, shape_named, target_named, text_named
 
 __all__ = ["BAD", "CLOSED", "DONE", "Delta", "KeptStep", "LOST", "Library", "LibraryScene", "Lost", "Moment"]
 __all__ += ["NO_MEMORY", "Played", "REFUSED", "SHARED", "UNTOLD", "Untold", "load_library"]
@@ -323,12 +323,12 @@ class LibraryScene(Reads):
         return self.spawned_last()
 
     def drop_frame(self) -> bool:
-        """Drops the open frame: nothing of it is done, and no call is made. Whether one was open."""
         code = self._scene.call("drop_frame")
         # (that of a shared scene stays open)
         self._in_frame = self._in_frame and code == SHARED
         if code != BAD:
             self._came(code, "drop_frame")
+            self._noted("dropframe")
         return code == DONE
 
     def _drop_frame(self) -> None:
