@@ -1,6 +1,7 @@
 """What a scene can do, whatever it stands on."""
 from __future__ import annotations
 
+import json
 import reprlib
 from abc import ABC, abstractmethod
 from contextlib import contextmanager
@@ -16,6 +17,12 @@ from scene.values import count_named, entity_named, fitting, kind_named, place_n
 from scene.values import target_named, text_named
 
 Own = TypeVar("Own", bound="Calls")
+
+
+def request_sent(request: Mapping[str, Any]) -> bytes:
+    """A request as it is sent: without escapes, which would make a text up to three times as long. What is no text goes
+    as it is, so that it is told where all is told that is no JSON."""
+    return json.dumps(request, separators=(",", ":"), ensure_ascii=False).encode("utf-8", "surrogatepass")
 
 
 class Calls(ABC):

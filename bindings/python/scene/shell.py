@@ -7,13 +7,14 @@ from itertools import count as counting
 from pathlib import Path
 from typing import Any, Dict, Iterator, List, Mapping, Optional, Sequence, Tuple, Union, overload
 
-from scene.calls import Calls
+from scene.calls import Calls, request_sent
 from scene.deltas import KeptStep, StepSummary
 from scene.errors import BadLine, Refused, SceneError, told_in_json
 from scene.program import Program, program_named
 from scene.told import deltas_told, entities_told, entity_told, resources_told, value_told
 from scene.values import KIND, PAGE, Cell, Entity, Given, Moment, Named, Row, Spawned, Status, Value, count_named
-from scene.values import depth_named, entity_named, kind_named, moment_named, page_named, target_named, text_named
+from scene.values import depth_named, entity_named, kind_named, line_named, moment_named, page_named, target_named
+from scene.values import text_named
 
 # The greatest place, and the greatest count, that a request can name.
 MOST = 2**32 - 1
@@ -94,9 +95,7 @@ class Scene(Calls):
     # ---- lines and requests
 
     def line(self, text: str) -> List[str]:
-        if "\n" in text:
-            raise BadLine("a line has no line break")
-        if text.startswith("{"):
+        if line_named(text).startswith("{"):
             raise BadLine("a request is no line of a script: `request` sends one")
         # The shell drops a carriage return at the end of a line, and takes spaces there for none.
         end = " \n" if text.endswith("\r") else "\n"
@@ -110,7 +109,7 @@ class Scene(Calls):
 
     def _request_all(self, requests: Sequence[Mapping[str, Any]]) -> List[Dict[str, Any]]:
         """The answers to requests that are sent together. Where several are errors, the first one is raised."""
-        sent = [json.dumps(keys, separators=(",", ":")).encode() + b"\n" for keys in requests]
+        sent = [request_sent(keys) + b"\n" for keys in requests]
         answers: List[Dict[str, Any]] = [json.loads(answer) for answer in self._program.ask_all(sent)]
         for keys, answer in zip(requests, answers):
             self._came(keys["do"], told_in_json(answer))
@@ -338,4 +337,4 @@ class Scene(Calls):
 
     def load(self, text: str) -> None:
         # A line break is white space of JSON, as a tab is, and neither can stand within a string.
-        self.line("load " + text.replace("\n", "\t"))
+        self.line("load " + text_named("a scene text", text).replace("\n", "\t"))

@@ -341,6 +341,14 @@ def text_named(what: str, name: object) -> str:
     return name
 
 
+def line_named(line: object) -> str:
+    """The line that a caller gives."""
+    text = fitting("a line", read_text, "a text", text_named("a line", line))
+    if "\n" in text:
+        raise BadLine("a line has no line break")
+    return text
+
+
 def kind_named(name: object) -> str:
     """The name of a kind that a caller gives."""
     return text_named("the name of a kind", name)
