@@ -5,11 +5,13 @@ from __future__ import annotations
 import re
 import tempfile
 from contextlib import suppress
+from itertools import islice
 from pathlib import Path
 from typing import Any, Callable, Dict, List, Tuple
 
 import scene
-from scene import AddInt, BadLine, Calls, Closed, CountInto, Entity, Moment, SpawnChild
+from scene import AddInt, BadLine, Calls, Closed, CountInto, Entity, Moment, Row, SpawnChild
+from scene.program import HELD, batches
 from trying import KINDS, UNUSUAL, Begin, error_of, is_bad, refusal, spawned, to_come, told, wrapped
 
 # Texts that are no names, and that a line, or a request that isn't escaped, would spoil.
@@ -35,7 +37,7 @@ def kinds_and_tables(begin: Begin) -> None:
     with begin() as world:
         assert list(world.kinds().items()) == list(KINDS.items())
         world.kinds().clear()
-        assert world.kinds() == KINDS and world.shape_of("Name") == "Text" and world.shape_of("Nothing") is None
+        assert world.shape_of("Name") == "Text" and world.shape_of("Nothing") is None and world.kinds() == KINDS
         assert world.tables() == []
         some_rows(world, 12)
         spawned(world)
@@ -349,12 +351,36 @@ def pages_are_asked_for_one_by_one(program: str) -> None:
         with scene.open(kinds=KINDS, program=heard) as world:
             some_rows(world, 25)
             rows = world.each_row(page=10)
-            taken = []
-            for count, pages in ((0, [0]), (1, [0]), (9, [0]), (1, [0, 10]), (9, [0, 10]), (5, [0, 10, 20])):
-                taken += [next(rows) for _ in range(count)]
+            taken: List[Row] = []
+            for count, pages in ((0, []), (1, [0]), (9, [0]), (1, [0, 10]), (9, [0, 10]), (9, [0, 10, 20])):
+                taken += islice(rows, count)
                 asked = re.findall(r'"do":"rows".*"from":(\d+),"count":10', (room / "asked").read_text())
-                assert list(map(int, asked)) == (pages if taken else []), (len(taken), asked)
+                assert list(map(int, asked)) == pages, (len(taken), asked)
             assert next(rows, None) is None and taken == world.rows()
+
+
+def answers_in_parts(program: str) -> None:
+    """Of requests that are sent together each has its own answer, however the answers come."""
+    slowly = 'while IFS= read -r line; do printf "%s\\n" "$line"; sleep 0.01; done'
+    with wrapped(program, f'{program} "$@" | {slowly}; exit') as (slow, _):
+        with scene.open(kinds=KINDS, program=slow) as world:
+            one, two = spawned(world, Health=1), spawned(world, Name="\n\n")
+            world.set_parent(two, one)
+            assert list(world.each_row()) == world.rows() == [world.row(two), world.row(one)]
+            assert [row.parent for row in world.rows()] == [one, None] and refusal(world.row, "7v9").number == 1
+            assert world.children_of(one) == [two]
+
+
+def requests_in_batches(program: str) -> None:
+    """What is sent together is never more than a pipe holds, whose other end waits for its answers to be read."""
+    lines = [b"x" * length for length in (1, HELD, 1, HELD - 1, 1, 3 * HELD, *[HELD // 40] * 100)]
+    found = list(batches(lines))
+    assert [line for batch in found for line in batch] == lines and [] not in found
+    assert all(len(b"".join(batch)) <= HELD or len(batch) == 1 for batch in found)
+    assert [len(batch) for batch in found] == [1, 1, 2, 1, 1, 40, 40, 20]
+    with scene.open(kinds=KINDS, program=program) as world:
+        made = some_rows(world, 3000)
+        assert sorted(row.entity for row in world.each_row(page=2**20)) == sorted(made)
 
 
 def moments_of_stores(program: str) -> None:
@@ -415,6 +441,8 @@ PROGRAMS = (
     questions_in_frames,
     bad_questions,
     pages_are_asked_for_one_by_one,
+    answers_in_parts,
+    requests_in_batches,
     moments_of_stores,
     dropped_frames_of_stores,
 )
