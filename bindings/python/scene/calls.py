@@ -13,8 +13,8 @@ from scene.deltas import KeptStep, StepSummary
 from scene.errors import BadLine, KindsDiffer, Refused, SceneError
 from scene.systems import Step, System, step_asked
 from scene.values import PAGE, SHAPES, Cell, Entity, Given, Moment, Named, Row, Spawned, Spawns, Status, Value
-from scene.values import count_named, entity_named, fitting, kind_named, place_named, resource_value, shape_named
-from scene.values import target_named, text_named
+from scene.values import count_named, fitting, kind_named, place_named, resource_value, shape_named, target_named
+from scene.values import text_named
 
 Own = TypeVar("Own", bound="Calls")
 
@@ -194,6 +194,7 @@ class Calls(ABC):
         Each is a frame of its own where none is open. All values are read before the first one is given.
         """
 
+    @abstractmethod
     def insert_all(self, entities: Iterable[Named], /, **columns: Iterable[Given]) -> None:
         """Gives many entities components, or other values to those that they have, as one frame: all, or none.
 
@@ -202,12 +203,6 @@ class Calls(ABC):
         one is given. Another count of values, and an open frame, are a BadLine; where one is refused, its `place` tells
         the number of the write.
         """
-        named = [entity_named(entity) for entity in entities]
-        writes = [(kind, self._fitting_column(kind, values, len(named))) for kind, values in columns.items()]
-        with self.frame():
-            for kind, values in writes:
-                for entity, value in zip(named, values):
-                    self.request("insert", entity=entity, kind=kind, value=value)
 
     def remove(self, entity: Named, kind: str) -> None:
         """Takes the component of a kind from an entity. Where it has none, that is refused."""

@@ -5,7 +5,7 @@ import json
 from contextlib import suppress
 from itertools import count as counting
 from pathlib import Path
-from typing import Any, Dict, Iterator, List, Mapping, Optional, Sequence, Tuple, Union, overload
+from typing import Any, Dict, Iterable, Iterator, List, Mapping, Optional, Sequence, Tuple, Union, overload
 
 from scene.calls import Calls, request_sent
 from scene.deltas import KeptStep, StepSummary
@@ -171,6 +171,18 @@ class Scene(Calls):
         named = target_named(entity)
         for kind, value in self._fitting(cells).items():
             self.request("insert", entity=named, kind=kind, value=value)
+
+    def insert_all(self, entities: Iterable[Named], /, **columns: Iterable[Given]) -> None:
+        named = [entity_named(entity) for entity in entities]
+        writes = [(kind, self._fitting_column(kind, values, len(named))) for kind, values in columns.items()]
+        with self.frame():
+            self._request_all(
+                [
+                    {"do": "insert", "entity": entity, "kind": kind, "value": value}
+                    for kind, values in writes
+                    for entity, value in zip(named, values)
+                ]
+            )
 
     def _begin(self) -> None:
         self.request("begin")

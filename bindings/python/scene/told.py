@@ -66,7 +66,7 @@ def despawned(kinds: Kinds, told: Mapping[str, Any]) -> Delta:
 
 def shifted(kinds: Kinds, told: Mapping[str, Any]) -> Delta:
     kind, value = component_told(kinds, told["cell"])
-    before, after = (None, value) if told["inward"] else (value, None)
+    before, after = None if told["inward"] else value, value if told["inward"] else None
     return Delta("shifted", Entity(told["entity"]), kind, before, after, row_before=told["place"])
 
 
