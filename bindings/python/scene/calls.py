@@ -32,6 +32,9 @@ class Calls(ABC):
     names no kind; TypeError, where a value is of a type that can't be; `Closed`; `NoMemory`, `OtherThread` and `Shared`
     over the library, and `Ended` over the shell. But for `NoMemory` and `Ended` the scene is then as it was.
 
+    A command is refused as NoSuchEntity where an entity isn't alive, as BadLocal where the frame has no such spawn, and
+    as HistoryFull where the limit of the line `calls` is reached; in a frame that is told at its end.
+
     An entity may be given as the text of one, as what a `spawn` in a frame gave, and, in an open frame, as `+K`: the
     K-th that it spawns, from 0.
 
@@ -107,8 +110,8 @@ class Calls(ABC):
     def declare(self, name: str, shape: str) -> None:
         """Declares a kind by its name and its shape, Tag, Int, Vec3, Text or Link.
 
-        That goes in the setup alone, which the first call of any other kind ends. A name that isn't good, or is taken,
-        is refused.
+        That goes in the setup alone, which the first call of any other kind ends: behind it, and for another shape, it
+        is a BadLine. A name that isn't good is refused as BadName, one that is taken as KindTaken, a 65th as KindsFull.
         """
         self.request("kind", name=kind_named(name), shape=shape_named(name, shape))
 
@@ -184,7 +187,7 @@ class Calls(ABC):
         """Spawns an entity with components, given by the names of their kinds, as `spawn(Health=9)`.
 
         In the `with` of a `frame` it gives a `Spawned`, which later commands take for the entity; in a frame that a
-        line began, None.
+        line began, None. Where there are as many as there can be, it is refused as EntitiesFull.
         """
 
     @abstractmethod
@@ -205,12 +208,12 @@ class Calls(ABC):
         """
 
     def remove(self, entity: Named, kind: str) -> None:
-        """Takes the component of a kind from an entity. Where it has none, that is refused."""
+        """Takes the component of a kind from an entity. Where it has none, that is refused as NotPresent."""
         self._known(kind)
         self.request("remove", entity=target_named(entity), kind=kind)
 
     def despawn(self, entity: Named) -> None:
-        """Despawns an entity. One with children is refused."""
+        """Despawns an entity. One with children is refused as HasChildren."""
         self.request("despawn", entity=target_named(entity))
 
     def despawn_all(self, entity: Named) -> None:
@@ -220,7 +223,7 @@ class Calls(ABC):
     def set_parent(self, child: Named, parent: Optional[Named]) -> None:
         """Makes an entity the last child of another; with None, takes it from its parent.
 
-        An entity below itself is refused.
+        An entity below itself is refused as Cycle, and None for one without a parent as NoParent.
         """
         below = target_named(child)
         if parent is None:
@@ -236,13 +239,14 @@ class Calls(ABC):
         """Puts a resource, as `put("title", "Level 1")`, in place of the one of that name, if there is one.
 
         Its shape is that of the value: an `Entity`, or what a `spawn` in a frame gave, is a Link, and another text a
-        Text. A name that isn't good is refused.
+        Text. A name that isn't good is refused as BadName; another shape, or a value that isn't of the shape, is a
+        BadLine or a TypeError.
         """
         asked, read = resource_value(name, value, shape)
         self.request("put", name=name, shape=asked, value=read)
 
     def drop(self, name: str) -> None:
-        """Takes a resource away. Where none has the name, that is refused."""
+        """Takes a resource away. Where none has the name, that is refused as NoSuchResource."""
         self.request("drop", name=text_named("the name of a resource", name))
 
     # ---- frames
@@ -252,8 +256,8 @@ class Calls(ABC):
         """A frame of all commands of a `with`, done whole or not at all. Its list then has the entities spawned.
 
         What a `spawn` gives names the entity to the frame's later commands, and behind it to all calls. An error in the
-        `with` leaves the scene as it was. Where a command is refused, so is the frame, at its end, and nothing of it is
-        done.
+        `with` drops the frame, and leaves the scene as it was. Where a command is refused, so is the frame, at its end,
+        and nothing of it is done. A frame in a frame is a BadLine.
         """
         self._begin()
         spawns = self._spawns = Spawns()
@@ -295,14 +299,15 @@ class Calls(ABC):
         """Whether a frame is open."""
 
     def undo(self, count: int = 1) -> None:
-        """Takes the newest frames back, so many. Refused, where there are fewer, and none is taken back.
+        """Takes the newest frames back, so many. Refused as NothingToUndo, where there are fewer, and none is.
 
         Where a limit of calls is reached on the way, that is refused, and those before are taken back.
         """
         self._steps("undo", count)
 
     def redo(self, count: int = 1) -> None:
-        """Does the last frames that were taken back again. Refused, where there are fewer, as behind a new frame."""
+        """Does the last frames that were taken back again. Refused as NothingToRedo, where there are fewer: so behind a
+        new frame."""
         self._steps("redo", count)
 
     @abstractmethod
@@ -321,7 +326,7 @@ class Calls(ABC):
     def get(self, entity: Named, kind: Optional[str] = None) -> Value:
         """The value of a component; without a kind, the row of an entity as a line writes it.
 
-        Refused, where the entity isn't alive, or has no component of the kind.
+        Refused as NoSuchEntity, where the entity isn't alive, and as NotPresent, where it has no component of the kind.
         """
 
     @abstractmethod
@@ -330,7 +335,7 @@ class Calls(ABC):
 
     @abstractmethod
     def row(self, entity: Named) -> Row:
-        """The row of an entity: its components, its parent and its children. Refused, where it isn't alive."""
+        """The row of an entity: its components, its parent and its children. Refused as `get` is."""
 
     @abstractmethod
     def rows(self) -> List[Row]:
@@ -528,4 +533,8 @@ class Calls(ABC):
 
     @abstractmethod
     def load(self, text: str) -> None:
-        """Loads the text of a `save`, or of a world alone, in the setup. The kinds are then those of the text."""
+        """Loads the text of a `save`, or of a world alone, in the setup. The kinds are then those of the text.
+
+        Behind the setup it is a BadLine. A text that is none of a scene is refused as NotJson, UnknownKey, BadField,
+        BadVersion, BadWorld or BadRecord (docs/SCENE_FILES.md, "Reading"), with the path or the place.
+        """
