@@ -323,6 +323,57 @@ def questions_in_frames(program: str) -> None:
         assert made == ["0v1"] and world.changed_since(now) == [("0v1", "Health")]
 
 
+EVERYTHING: Dict[str, Any] = {"need": [], "without": []}
+PUT = {"after": ["Int", 3, 4, 4], "before": None, "name": "left", "op": "resourceset"}
+CAT = {"entity": "0v1", "cells": {"Health": [5, 1, 1], "Name": ["a b", 1, 1]}}
+KITTEN = {"entity": "1v1", "cells": {"Health": [6, 2, 2]}}
+NOW = {"answer": "status", "tick": 4, "rewinds": 0, "past": 4, "future": 0, "depth": 9, "slots": 2, "limit": 2**20}
+CAT_CELLS = [{"entity": "0v1", "kind": kind} for kind in ("Health", "Name")]
+# Requests that ask, each with its keys and its answer.
+QUESTIONS: Tuple[Tuple[str, Dict[str, Any], Dict[str, Any]], ...] = (
+    ("status", {}, NOW),
+    ("kinds", {}, {"answer": "kinds", "kinds": [["Health", "Int"], ["Name", "Text"]]}),
+    ("tables", {"need": ["Name"], "without": []}, {"tables": [{"kinds": ["Health", "Name"], "rows": 1}]}),
+    ("rows", {**EVERYTHING, "from": 0, "count": 5}, {"rows": [KITTEN, CAT]}),
+    ("rows", {**EVERYTHING, "from": 1, "count": 1}, {"rows": [CAT]}),
+    ("children", {"entity": "0v1"}, {"answer": "children", "entities": ["1v1"]}),
+    ("parentof", {"entity": "1v1"}, {"answer": "parent", "entity": "0v1"}),
+    ("parentof", {"entity": "0v1"}, {"answer": "parent", "entity": None}),
+    ("resources", {}, {"resources": {"left": ["Int", 3, 4, 4]}}),
+    ("past", {"from": 0, "count": 1}, {"answer": "steps", "length": 4, "steps": [{"tick": 3, "deltas": 1}]}),
+    ("future", {"from": 0, "count": 1}, {"answer": "steps", "length": 0, "steps": []}),
+    ("deltas", {"of": "past", "step": 0}, {"record": {"deltas": [PUT], "tick": 3}}),
+    ("deltas", {"of": "future", "step": 0}, {"record": None}),
+    ("step", {"way": "forth"}, {"answer": "step", "way": "forth", "deltas": [PUT]}),
+    ("step", {"way": "back"}, {"answer": "step", "way": "back", "deltas": None}),
+    (
+        "changedsince",
+        {**EVERYTHING, "rewinds": 0, "tick": 1},
+        {"answer": "changed", "cells": [{"entity": "1v1", "kind": "Health"}]},
+    ),
+    ("addedsince", {"need": ["Name"], "without": [], "rewinds": 0, "tick": 0}, {"answer": "added", "cells": CAT_CELLS}),
+    ("undo", {}, {"answer": "undone"}),
+    ("step", {"way": "back"}, {"answer": "step", "way": "back", "deltas": [PUT]}),
+    ("begin", {}, {"answer": "ok"}),
+    ("dropframe", {}, {"answer": "ok"}),
+    ("status", {}, {**NOW, "tick": 3, "rewinds": 1, "past": 3, "future": 1}),
+)
+
+
+def questions(program: str) -> None:
+    """Each request that asks is answered in its form, and leaves the scene and the mark."""
+    with scene.open(kinds={"Health": "Int", "Name": "Text"}, program=program, options=["--depth", "9"]) as world:
+        cat = spawned(world, Health=5, Name="a b")
+        world.set_parent(spawned(world, Health=6), cat)
+        world.put("left", 3)
+        before = world.save(), world.line("history"), world.changed()
+        for do, keys, wanted in QUESTIONS:
+            if do == "undo":
+                assert (world.save(), world.line("history"), world.changed()) == before
+            found = world.request(do, **keys)
+            assert found == {"answer": do, **wanted}, (do, found)
+
+
 def bad_questions(program: str) -> None:
     """A bad question tells why, and the path of what is bad in it."""
     with scene.open(kinds=KINDS, program=program) as world:
@@ -438,6 +489,7 @@ BOTH = (
     texts_as_values,
 )
 PROGRAMS = (
+    questions,
     questions_in_frames,
     bad_questions,
     pages_are_asked_for_one_by_one,
