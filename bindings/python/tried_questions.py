@@ -52,6 +52,9 @@ def kinds_and_tables(begin: Begin) -> None:
         error_of(TypeError, world.tables, 5)
     with begin({}) as world:
         assert world.kinds() == {} and is_bad(world.declare, "Late", "Tag") and world.kinds_of(3) == []
+        world.close()
+        for call in (world.kinds, world.tables, world.past, world.future, world.past_step, world.now):
+            error_of(Closed, call)
 
 
 def rows_in_pages(begin: Begin) -> None:

@@ -161,6 +161,8 @@ class Reads(Calls):
 
     def kinds(self) -> Dict[str, str]:
         self._asked()
+        # (a scene that is closed, or another thread's, tells none)
+        self._numbers_of_scene()
         return {name: self._kinds[name][1] for name in self._names}
 
     def _kind_names(self) -> Sequence[str]:
