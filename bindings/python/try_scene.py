@@ -23,10 +23,12 @@ from typing import Any, Callable, Dict, Iterator, List, Optional, Tuple
 
 import scene
 import tried_calls
+import tried_questions
 import tried_settings
+import tried_steps
 import tried_writes
 from scene import BadLine, Calls, Closed, Ended, Entity, KindsDiffer, Refused, StoreError
-from trying import KINDS, TOP, UNUSUAL, Begin, error_of, is_bad, refusal, spawned, to_come, told
+from trying import KINDS, TOP, UNUSUAL, Begin, error_of, is_bad, refusal, spawned, to_come, told, wrapped
 
 PROGRAM = str(TOP / "crates/scene/out/scene")
 EXAMPLES = TOP / "examples"
@@ -397,16 +399,6 @@ def names_of_faults(library: str) -> None:
     scene_of.close()
 
 
-@contextmanager
-def wrapped(program: str, before: str) -> Iterator[Tuple[str, Path]]:
-    """A program that does something before it becomes another one, and a folder for stores."""
-    with tempfile.TemporaryDirectory() as room:
-        path = Path(room) / "wrapped"
-        path.write_text(f'#!/bin/sh\ncd {room}\n{before}\nexec {program} "$@"\n')
-        path.chmod(0o700)
-        yield str(path), Path(room)
-
-
 def stores(program: str) -> None:
     """What a scene has done is there when its store is opened again, and one of two that open it at once is refused."""
     with tempfile.TemporaryDirectory() as room:
@@ -680,7 +672,9 @@ BOTH = (
     reasons,
     refused_lines,
     *tried_calls.BOTH,
+    *tried_questions.BOTH,
     *tried_settings.BOTH,
+    *tried_steps.BOTH,
     *tried_writes.BOTH,
 )
 PROGRAMS = (
@@ -691,6 +685,7 @@ PROGRAMS = (
     interrupted_calls,
     notes,
     examples_twice,
+    *tried_questions.PROGRAMS,
     *tried_settings.PROGRAMS,
 )
 
@@ -700,10 +695,9 @@ def of_library(path: str, library: Begin) -> List[Tuple[str, Callable[..., None]
     # (a Python without ctypes has the shell)
     import tried_library  # pylint: disable=import-outside-toplevel
     import tried_sharing  # pylint: disable=import-outside-toplevel
-    import tried_steps  # pylint: disable=import-outside-toplevel
 
-    own = [one for tried in (tried_library, tried_sharing, tried_steps) for one in tried.LIBRARY]
-    own += [*tried_settings.LIBRARY, *tried_writes.LIBRARY]
+    modules = (tried_library, tried_sharing, tried_settings, tried_steps, tried_writes)
+    own = [one for tried in modules for one in tried.LIBRARY]
     of_path = (library_example, names_of_faults, tried_library.header_is_whole, frames_example)
     names = sorted(found.stem for found in EXAMPLES.glob("*.scene") if is_run(found.stem))
     return [

@@ -1,8 +1,10 @@
 """What the tests of the Python scenes share: how an error is asked for, and what is tried on the way."""
 from __future__ import annotations
 
+import tempfile
+from contextlib import contextmanager
 from pathlib import Path
-from typing import TYPE_CHECKING, Any, Callable, List, Optional, Tuple, Type, TypeVar
+from typing import TYPE_CHECKING, Any, Callable, Iterator, List, Optional, Tuple, Type, TypeVar
 
 from scene import BadLine, Calls, Entity, Refused, Spawned
 
@@ -69,3 +71,13 @@ def to_come(world: Calls, **cells: Any) -> Spawned:
     entity = world.spawn(**cells)
     assert isinstance(entity, Spawned)
     return entity
+
+
+@contextmanager
+def wrapped(program: str, before: str) -> Iterator[Tuple[str, Path]]:
+    """A program that does something before it becomes another one, and a folder for stores."""
+    with tempfile.TemporaryDirectory() as room:
+        path = Path(room) / "wrapped"
+        path.write_text(f'#!/bin/sh\ncd {room}\n{before}\nexec {program} "$@"\n')
+        path.chmod(0o700)
+        yield str(path), Path(room)
