@@ -1,19 +1,22 @@
-"""What questions are answered (docs/SHELL.md, "Questions"), as the reference works it out from a shell's other lines and
-their answers alone."""
+"""What questions and declarations of kinds are answered (docs/SHELL.md, "Questions", "Kinds at any time"), as the
+reference works it out from a shell's other lines and their answers alone."""
 import json
+import re
 import sys
 from pathlib import Path
 
 sys.path.append(str(Path(__file__).resolve().parent / "editor"))
 
-from commands import apply_queue  # noqa: E402
+from commands import COMMANDS, apply_queue  # noqa: E402
 from follower import Follower  # noqa: E402
-from request_forms import DROP_FRAME, Bad, Reader  # noqa: E402
+from program_runs import NAME  # noqa: E402
+from request_forms import DECLARE, DROP_FRAME, Bad, Reader  # noqa: E402
 from systems import advance, matching_rows, matching_sets  # noqa: E402
 from timeline import MOST_DEPTH, Frame, Timeline  # noqa: E402
 
-MOST_SLOTS = 1_048_576
+MOST_SLOTS, MOST_KINDS = 1_048_576, 64
 NO_WORDS = Frame(None, [])
+CALLS = COMMANDS | {"commit", "advance", "undo", "redo"}
 
 
 class Refused(Exception):
@@ -26,13 +29,24 @@ class Shell(Follower):
     def __init__(self):
         super().__init__()
         self.loaded, self.limit = None, MOST_SLOTS
-        self.world, self.rewinds = None, 0
+        self.world, self.rewinds, self.calls = None, 0, 0
 
     # Lines that aren't questions
 
     def hear(self, line, answer):
         """Follows a line that is no question and doesn't drop a frame, by its answer."""
-        self.follow(line, answer["answer"], answer.get("entities", ()))
+        request = self.follow(line, answer["answer"], answer.get("entities", ()))
+        self.calls += request is not None and is_call(request["do"], answer)
+
+    def hear_compaction(self):
+        """The store was compacted: its calls, and the cursor's rewinds, are counted anew behind the setup."""
+        self.calls = self.rewinds = 0
+
+    def declare(self, name, shape):
+        super().declare(name, shape)
+        if self.world is not None:
+            self.world.declare(name, shape)
+            self.calls = 0
 
     def follow_setup(self, request, answer):
         if answer == "ok" and request["do"] == "slots":
@@ -51,7 +65,8 @@ class Shell(Follower):
             self.begin_world()
 
     def begin_world(self):
-        scene = self.loaded or new_scene(self.kinds, self.limit)
+        # (behind a load more kinds may have been declared)
+        scene = {**(self.loaded or new_scene(self.limit)), "kinds": self.kinds}
         frames = [[NO_WORDS] * len(scene.get(records, ())) for records in ("undo", "redo")]
         self.world = Timeline(scene, frames, self.depth or MOST_DEPTH)
         self.world.drop_beyond_depth()
@@ -81,21 +96,37 @@ class Shell(Follower):
     # Questions
 
     def answer(self, line):
-        """Does a question, or the end of a frame that is dropped, and gives its answer as a line of JSON; or a `Bad`,
-        without a path where the line is out of place."""
+        """Does a question, a declaration, or the end of a frame that is dropped, and gives its answer as a line of JSON;
+        or a `Bad`, without a path where the line is out of place."""
         request = Reader(self.kinds).read(line)
+        try:
+            return text_of(self.answer_to(request))
+        except Refused as refused:
+            number, name, fields = refused.args
+            return text_of({"answer": "refused", "number": number, "name": name, **fields})
+
+    def answer_to(self, request):
         word = request["do"]
+        if word == DECLARE:
+            self.expect_good_kind(request["name"])
+            self.declare(request["name"], request["shape"])
+            return {"answer": "ok"}
         if (self.frame is None) == (word == DROP_FRAME):
             raise Bad("OutOfPlace")
         if word == DROP_FRAME:
             self.frame = None
-            return text_of({"answer": "ok"})
+            return {"answer": "ok"}
         self.end_setup()
-        try:
-            return text_of(ANSWERS[word](self, request))
-        except Refused as refused:
-            number, name, fields = refused.args
-            return text_of({"answer": "refused", "number": number, "name": name, **fields})
+        return ANSWERS[word](self, request)
+
+    def expect_good_kind(self, name):
+        """A `Refused` where no further kind may have the name."""
+        if not re.fullmatch(NAME, name):
+            raise Refused(30, "BadName", {})
+        if name in self.shapes:
+            raise Refused(31, "KindTaken", {})
+        if len(self.kinds) == MOST_KINDS:
+            raise Refused(32, "KindsFull", {})
 
     def records(self, side):
         """The records of the past, the newest first, or of the future, the next one first."""
@@ -112,10 +143,15 @@ class Shell(Follower):
         return {name: cells[name] for name in sorted(cells, key=self.world.numbers.get)}
 
 
-def new_scene(kinds, limit):
-    """A world without entities, as a scene text has it."""
+def is_call(word, answer):
+    """Whether a line that isn't bad is a call of the history, by its first word."""
+    return word in CALLS and answer["answer"] != "queued" and answer.get("name") not in ("BadRule", "Conflict")
+
+
+def new_scene(limit):
+    """A world without entities, as a scene text has it, but for its kinds."""
     lists = {part: [] for part in ("children", "free", "generations", "resources", "tables")}
-    return {**lists, "kinds": kinds, "limit": limit, "scene": 1, "tick": 0}
+    return {**lists, "limit": limit, "scene": 1, "tick": 0}
 
 
 def text_of(answer):
@@ -133,6 +169,10 @@ def status(shell, _):
     world = shell.world
     numbers = {"tick": world.tick, "rewinds": shell.rewinds, "past": len(world.past), "future": len(world.future)}
     return {"answer": "status", **numbers, "depth": world.depth, "slots": len(world.generations), "limit": world.limit}
+
+
+def history(shell, _):
+    return {"answer": "history", "calls": shell.calls}
 
 
 def kinds_now(shell, _):
@@ -205,5 +245,5 @@ def cells_since(shell, request):
 ANSWERS = {
     "status": status, "kinds": kinds_now, "tables": tables, "rows": rows, "children": children, "parentof": parent,
     "resources": resources, "past": steps, "future": steps, "deltas": deltas, "step": step, "changedsince": cells_since,
-    "addedsince": cells_since,
+    "addedsince": cells_since, "history": history,
 }  # fmt: skip

@@ -1,9 +1,11 @@
 """Random questions (docs/SHELL.md, "Questions"), about what a shell has, and now and then about what it hasn't."""
-from request_forms import CHOICES, DROP_FRAME, QUESTIONS
+from request_forms import ALL_KEYS, CHOICES, DROP_FRAME, QUESTIONS
 
 FAR = (2**32 - 1, 2**31)
 NOT_ALIVE = ("0v0", "7v9", "4294967295v4294967295")
 OF_FILTERS = (0, 0, 0, 1, 1, 2)
+# A line that asks, too, whose answer the reference works out.
+WORDS = (*QUESTIONS, "history")
 
 
 def kinds(chance, shell):
@@ -40,8 +42,8 @@ PARTS = {
 
 
 def question(chance, shell):
-    word = chance.choice(list(QUESTIONS))
-    parts = {key: chance.choice(CHOICES[key]) if key in CHOICES else PARTS[key](chance, shell) for key in QUESTIONS[word]}
+    word = chance.choice(WORDS)
+    parts = {key: chance.choice(CHOICES[key]) if key in CHOICES else PARTS[key](chance, shell) for key in ALL_KEYS[word]}
     return {"do": word, **parts}
 
 

@@ -1,4 +1,4 @@
-"""Requests (docs/SHELL.md, "Requests", "Questions"), as the reference reads them: the request that stands for a line of a
+"""Requests (docs/SHELL.md, "Requests", "Questions", "Kinds at any time"), as the reference reads them: the request that stands for a line of a
 script, and why a text is a bad request, with the path of the first part that has no form."""
 import json
 import math
@@ -14,13 +14,13 @@ KEYS |= {
     "remove": ("entity", "kind"), "parent": ("child", "parent"), "unparent": ("child",), "put": ("name", "shape", "value"),
     "drop": ("name",), "system": ("name", "need", "steps", "without"), "as": ("session",),
 }  # fmt: skip
-# Those that stand for no line of a script: questions, and the end of a frame that is dropped.
+# Those that stand for no line of a script: questions, the end of a frame that is dropped, and a kind at any time.
 QUESTIONS = {"status": (), "kinds": (), "resources": (), "tables": ("need", "without"), "rows": ("count", "from", "need", "without")}
 QUESTIONS |= dict.fromkeys(("children", "parentof"), ("entity",))
 QUESTIONS |= dict.fromkeys(("past", "future"), ("count", "from")) | {"deltas": ("of", "step"), "step": ("way",)}
 QUESTIONS |= dict.fromkeys(("changedsince", "addedsince"), ("need", "rewinds", "tick", "without"))
-DROP_FRAME = "dropframe"
-ALL_KEYS = KEYS | QUESTIONS | {DROP_FRAME: ()}
+DROP_FRAME, DECLARE = "dropframe", "declare"
+ALL_KEYS = KEYS | QUESTIONS | {DROP_FRAME: (), DECLARE: KEYS["kind"]}
 CHOICES = {"shape": SHAPES, "of": ("past", "future"), "way": ("forth", "back")}
 RANGES = {"limit": (1, 1048576), "session": (0, 7)}
 RANGES |= dict.fromkeys(("from", "count", "step"), (0, 2**32 - 1)) | dict.fromkeys(("rewinds", "tick"), (0, 2**64 - 1))

@@ -1,11 +1,12 @@
-"""Follows lines and their answers, in a log or as they are played: the kinds of the setup, the phases, and each frame,
-undo and redo."""
+"""Follows lines and their answers, in a log or as they are played: the kinds, the phases, and each frame, undo and
+redo."""
 import json
 
 from commands import COMMANDS, read
-from request_forms import DROP_FRAME
+from request_forms import DECLARE, DROP_FRAME
 
-SETUP = frozenset(("kind", "slots", "load", "calls", "depth"))
+# Those that don't end the setup.
+SETUP = frozenset(("kind", "slots", "load", "calls", "depth", DECLARE))
 
 
 class Follower:
@@ -29,6 +30,10 @@ class Follower:
     def set_kinds(self, kinds):
         self.kinds, self.shapes = kinds, dict(map(tuple, kinds))
 
+    def declare(self, name, shape):
+        """A kind comes last, in the setup or behind it."""
+        self.set_kinds([*self.kinds, [name, shape]])
+
     def follow(self, line, answer, entities=()):
         """Follows a line, and gives the request that it is; None for one that asks for nothing."""
         if answer in ("bad", "nothing"):
@@ -37,6 +42,8 @@ class Follower:
         word = request["do"]
         if self.in_setup:
             self.follow_setup(request, answer)
+        elif answer == "ok" and word == DECLARE:
+            self.declare(request["name"], request["shape"])
         if answer == "ok":
             self.follow_ok(request)
         elif answer == "queued":
@@ -52,14 +59,14 @@ class Follower:
         return request
 
     def follow_setup(self, request, answer):
-        """A line that isn't bad ends the setup, where it is none of the setup's own."""
+        """A line that isn't bad ends the setup, where it is none that may come in it."""
         word = request["do"]
         if word not in SETUP:
             self.in_setup = False
         elif answer != "ok":
             return
-        elif word == "kind":
-            self.set_kinds([*self.kinds, [request["name"], request["shape"]]])
+        elif word in ("kind", DECLARE):
+            self.declare(request["name"], request["shape"])
         elif word == "load":
             self.set_kinds(json.loads(request["text"])["kinds"])
             self.is_loaded = True
