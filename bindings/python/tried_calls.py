@@ -7,7 +7,7 @@ from typing import Any, Callable, Dict, List, Tuple
 
 from scene import AddInt, AddVec, BadLine, Calls, CountInto, DespawnAtZero, Entity, Refused, SceneError
 from scene import SpawnChild, System
-from trying import KINDS, UNUSUAL, Begin, error_of, is_bad, refusal, spawned, to_come, told
+from trying import KINDS, UNUSUAL, Begin, error_of, is_bad, is_set_up, refusal, spawned, to_come, told
 
 RESOURCES: Dict[str, Any] = {"seen": True, "left": -5, "at": (1, -2, 3), "title": "Big House \n", "door": Entity("7v9")}
 
@@ -259,11 +259,11 @@ def setups_and_frames(begin: Begin) -> None:
         with begin() as world:
             world.declare("Late", "Tag")
             assert reading(world)[number]() in (False, None, [], {}, world.status(), world.show(), world.kinds())
-            assert str(error_of(BadLine, world.declare, "Later", "Tag")).startswith("the setup has ended")
+            assert is_set_up(world)
     for call in (lambda it: it.get("7v9", "Name"), lambda it: it.cells("7v9"), lambda it: it.resource("left")):
         with begin() as world:
             refusal(call, world)
-            assert is_bad(world.declare, "Late", "Tag")
+            assert is_set_up(world)
     with begin() as world:
         cat = spawned(world, Name="cat")
         world.put("left", 1)

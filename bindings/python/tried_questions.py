@@ -12,7 +12,7 @@ from typing import Any, Callable, Dict, List, Tuple
 import scene
 from scene import AddInt, BadLine, Calls, Closed, CountInto, Entity, Moment, Row, SpawnChild
 from scene.program import HELD, batches
-from trying import KINDS, UNUSUAL, Begin, error_of, is_bad, refusal, spawned, to_come, told, wrapped
+from trying import KINDS, UNUSUAL, Begin, error_of, is_bad, is_set_up, refusal, spawned, to_come, told, wrapped
 
 # Texts that are no names, and that a line, or a request that isn't escaped, would spoil.
 TEXTS = (*map(str, UNUSUAL), "two words", "\n", "a\r\nb", 'a "b"', "\u041a\u043e\u0442 \u0438 \u043f\u0451\u0441")
@@ -51,7 +51,7 @@ def kinds_and_tables(begin: Begin) -> None:
         assert is_bad(world.tables, "Nothing") and is_bad(world.tables, without=["Health", "Nothing"])
         error_of(TypeError, world.tables, 5)
     with begin({}) as world:
-        assert world.kinds() == {} and is_bad(world.declare, "Late", "Tag") and world.kinds_of(3) == []
+        assert world.kinds() == {} and is_set_up(world) and world.kinds_of(3) == []
         world.close()
         for call in (world.kinds, world.tables, world.past, world.future, world.past_step, world.now):
             error_of(Closed, call)
@@ -164,7 +164,7 @@ def own_depths(begin: Begin) -> None:
     """The depth is told."""
     with begin() as world:
         world.set_depth(7)
-        assert world.depth == 7 and is_bad(world.declare, "Late", "Tag")
+        assert world.depth == 7 and is_set_up(world)
 
 
 def open_frames(begin: Begin) -> None:

@@ -28,7 +28,7 @@ import tried_settings
 import tried_steps
 import tried_writes
 from scene import BadLine, Calls, Closed, Ended, Entity, KindsDiffer, Refused, StoreError
-from trying import KINDS, TOP, UNUSUAL, Begin, error_of, is_bad, refusal, spawned, to_come, told, wrapped
+from trying import KINDS, TOP, UNUSUAL, Begin, error_of, is_bad, is_set_up, refusal, spawned, to_come, told, wrapped
 
 PROGRAM = str(TOP / "crates/scene/out/scene")
 EXAMPLES = TOP / "examples"
@@ -319,7 +319,7 @@ def saves(begin: Begin) -> None:
             assert other.save() == saved and other.show() == world.show()
             other.redo()
             assert other.get(cat, "Health") == 5
-            assert is_bad(other.declare, "Late", "Tag")
+            assert is_set_up(other)
             assert other.spawn(Name="dog", Target=cat) == "1v1"
         with begin({}) as other:
             other.line(f"load {saved}")
@@ -367,7 +367,7 @@ def reasons(begin: Begin) -> None:
         assert str(error_of(BadLine, world.line, "jump")) == "no command is named jump"
         assert str(error_of(BadLine, world.line, "get 7")) == "`7` is no entity, as 0v1"
         world.show()
-        assert str(error_of(BadLine, world.declare, "Late", "Tag")).startswith("the setup has ended")
+        assert is_set_up(world)
         with world.frame():
             assert str(error_of(BadLine, world.undo)).startswith("a frame is open")
             long = "x" * 300_000
@@ -423,7 +423,8 @@ def stores(program: str) -> None:
 
 
 def kinds_of_stores(program: str) -> None:
-    """Kinds that a store has are asked for again without a word; others are told, and leave it as it was."""
+    """Kinds that a store has are asked for again without a word, those that it lacks are declared, and those of other
+    shapes are told and leave it as it was."""
     with tempfile.TemporaryDirectory() as room:
         path = f"{room}/level.db"
         with scene.open(path, {"Health": "Int"}, program):
@@ -437,12 +438,19 @@ def kinds_of_stores(program: str) -> None:
             shown = world.show()
         differs = error_of(KindsDiffer, scene.open, path, {"Name": "Text", "Health": "Text"}, program)
         assert (differs.number, differs.name) == (31, "KindTaken") and "Health" in str(differs)
-        differs = error_of(KindsDiffer, scene.open, path, {**KINDS, "Late": "Tag"}, program)
-        assert (differs.number, differs.name) == (5, "NoSuchKind") and "Late" in str(differs)
+        differs = error_of(KindsDiffer, scene.open, path, {"Late": "Tag", **KINDS, "Health": "Link"}, program)
+        assert (differs.number, differs.name) == (31, "KindTaken") and "Health" in str(differs)
+        differs = error_of(KindsDiffer, scene.open, path, {**KINDS, "a b": "Tag"}, program)
+        assert (differs.number, differs.name) == (30, "BadName") and "a b" in str(differs)
         with scene.open(path, program=program) as world:
             assert world.show() == shown and world.shape_of("Late") is None
             assert "Helth" in str(error_of(BadLine, world.spawn, Helth=1))
             world.spawn(Health=2)
+        with scene.open(path, {**KINDS, "Late": "Tag"}, program) as world:
+            assert world.kinds() == {**KINDS, "Late": "Tag"} and len(world.rows()) == 2
+            world.spawn(Late=True)
+        with scene.open(path, program=program) as world:
+            assert world.get("2v1", "Late") is True and list(world.kinds())[-1] == "Late"
         # A scene that is loaded brings its own kinds.
         with scene.open(kinds={"A": "Int"}, program=program) as world:
             text = world.line("dump")[0]

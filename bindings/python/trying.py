@@ -45,6 +45,17 @@ def is_bad(call: Callable[..., Any], /, *words: Any, **cells: Any) -> bool:
     return False
 
 
+def is_set_up(world: Calls) -> bool:
+    """Whether the setup is over, or a scene is loaded: then a line `kind` is bad. Else it declares a kind."""
+    words = ("the setup has ended", "a scene is loaded")
+    try:
+        world.request("kind", name="LateKind", shape="Tag")
+    except BadLine as bad:
+        assert str(bad).startswith(words), bad
+        return True
+    return False
+
+
 def told(refused: Refused) -> Tuple[int, str, List[str], Optional[Tuple[int, ...]]]:
     """All that a refusal tells."""
     return refused.number, refused.name, refused.fields, refused.place

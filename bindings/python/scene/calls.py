@@ -13,7 +13,7 @@ from scene.deltas import KeptStep, StepSummary
 from scene.errors import BadLine, KindsDiffer, Refused, SceneError
 from scene.systems import Step, System, step_asked
 from scene.values import PAGE, SHAPES, Cell, Entity, Given, Moment, Named, Row, Spawned, Spawns, Status, Value
-from scene.values import count_named, fitting, kind_named, place_named, resource_value, shape_named, target_named
+from scene.values import count_named, fitting, place_named, resource_value, shape_named, target_named
 from scene.values import text_named
 
 Own = TypeVar("Own", bound="Calls")
@@ -107,13 +107,15 @@ class Calls(ABC):
         """The names of the kinds of a set, as `tables` gives it, by their numbers."""
         return [name for number, name in enumerate(self._kind_names()) if mask >> number & 1]
 
+    @abstractmethod
     def declare(self, name: str, shape: str) -> None:
         """Declares a kind by its name and its shape, Tag, Int, Vec3, Text or Link.
 
-        That goes in the setup alone, which the first call of any other kind ends: behind it, and for another shape, it
-        is a BadLine. A name that isn't good is refused as BadName, one that is taken as KindTaken, a 65th as KindsFull.
+        Over the shell that goes at any time, also in an open frame. It is no frame, and no undo takes the kind; behind
+        the setup it begins the count of the line `history` anew. Over the library it goes in the setup alone, which the
+        first call of any other kind ends, and not behind a `load`: there it is a BadLine, as another shape is at both.
+        A name that isn't good is refused as BadName, one that is taken as KindTaken, a 65th as KindsFull.
         """
-        self.request("kind", name=kind_named(name), shape=shape_named(name, shape))
 
     def _declare_all(self, kinds: Optional[Mapping[str, str]]) -> None:
         """Declares those of the kinds that aren't there. All are looked at before the first one is declared."""
@@ -137,10 +139,7 @@ class Calls(ABC):
     def _declare_missing(self, name: str, shape: str) -> None:
         """Declares a kind that isn't there."""
         if self.shape_of(name) is None:
-            try:
-                self.declare(name, shape)
-            except BadLine as bad:
-                raise KindsDiffer(str(bad), 5, "NoSuchKind") from None
+            self.declare(name, shape)
 
     def _known_shape(self, kind: str) -> str:
         """The shape of a kind that has to be there."""

@@ -41,6 +41,7 @@ __all__ = ["BAD", "CLOSED", "DONE", "Delta", "KeptStep", "LOST", "Library", "Lib
 __all__ += ["NO_MEMORY", "Played", "REFUSED", "SHARED", "UNTOLD", "Untold", "load_library"]
 
 HISTORY_FULL, REWOUND = 17, 18
+DECLARED_LATE = "over the library a kind is declared in the setup alone, before a load: over the shell at any time"
 # What a scene text has, by its version.
 WORLD_ALONE, WITH_HISTORY = 1, 2
 # As many as a count can tell; no scene has so many frames.
@@ -205,7 +206,10 @@ class LibraryScene(Reads):
     def declare(self, name: str, shape: str) -> None:
         asked, number = SHAPE_NAMES.index(shape_named(kind_named(name), shape)), c_uint32(0)
         named = in_bytes("the name of a kind", name)
-        self._call("declare", named, len(named), asked, byref(number))
+        try:
+            self._call("declare", named, len(named), asked, byref(number))
+        except BadLine:
+            raise BadLine(DECLARED_LATE) from None
         self._names.append(name)
         self._kinds[name] = number.value, shape
 

@@ -77,7 +77,7 @@ class Reads(Calls):
         self._kinds: Dict[str, Tuple[int, str]] = {}
         self._names: List[str] = []
         self._in_frame = False
-        # Whether the setup is over, behind which no kind is declared.
+        # Whether the setup is over, behind which the library declares no kind.
         self._is_ready = False
         # What calls write into: a scene has one thread, and one call at a time.
         self._cell, self._ticks, self._info = RawCell(), RawTicks(), RawInfo()

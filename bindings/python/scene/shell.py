@@ -13,8 +13,8 @@ from scene.errors import BadLine, Refused, SceneError, told_in_json
 from scene.program import Program, program_named
 from scene.told import deltas_told, entities_told, entity_told, resources_told, value_told
 from scene.values import KIND, PAGE, Cell, Entity, Given, Moment, Named, Row, Spawned, Status, Value, count_named
-from scene.values import depth_named, entity_named, kind_named, line_named, moment_named, page_named, target_named
-from scene.values import text_named
+from scene.values import depth_named, entity_named, kind_named, line_named, moment_named, page_named, shape_named
+from scene.values import target_named, text_named
 
 # The greatest place, and the greatest count, that a request can name.
 MOST = 2**32 - 1
@@ -59,8 +59,8 @@ class Scene(Calls):
     """A scene in a shell of its own, kept in the store at a path, if one is given. `with` ends the shell.
 
     The arguments are those of `scene.open`. A program that isn't there is the OSError that says so, as
-    FileNotFoundError; one that ends at once, an `Ended`; a store that can't be opened, a `StoreError`; other kinds than
-    the store's, `KindsDiffer`.
+    FileNotFoundError; one that ends at once, an `Ended`; a store that can't be opened, a `StoreError`; kinds that the
+    store has in other shapes, `KindsDiffer`.
 
     It has no columns, no check of systems, and no readers in other threads: those are `LibraryScene`'s own. A call that
     another exception interrupts, as a KeyboardInterrupt, ends the program, and each later one is an `Ended`.
@@ -75,7 +75,8 @@ class Scene(Calls):
     ) -> None:
         kept = [] if store is None else ["--store", str(store)]
         self._program = Program([program_named(program), "shell", "--framed", *options, *kept])
-        # The shapes of the kinds that were asked for; and of all, once they are told: behind the setup they stay.
+        # The shapes of the kinds that were asked for; and of all, once they are told: behind the setup they stay, but
+        # for those that are declared.
         self._shapes: Dict[str, str] = {}
         self._all_shapes: Optional[Dict[str, str]] = None
         self._in_frame = False
@@ -113,6 +114,8 @@ class Scene(Calls):
         answers: List[Dict[str, Any]] = [json.loads(answer) for answer in self._program.ask_all(sent)]
         for keys, answer in zip(requests, answers):
             self._came(keys["do"], told_in_json(answer))
+            if keys["do"] == "declare" and self._all_shapes is not None:
+                self._all_shapes[keys["name"]] = keys["shape"]
         return answers
 
     def _came(self, word: str, error: Optional[SceneError]) -> None:
@@ -127,6 +130,9 @@ class Scene(Calls):
         self._noted(word)
 
     # ---- kinds
+
+    def declare(self, name: str, shape: str) -> None:
+        self.request("declare", name=kind_named(name), shape=shape_named(name, shape))
 
     def kinds(self) -> Dict[str, str]:
         self._all_shapes = dict(self.request("kinds")["kinds"])
