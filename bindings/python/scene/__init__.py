@@ -41,7 +41,7 @@ What goes wrong is a `SceneError`, but for the TypeError of a value whose type i
 - `Refused`: a rule of docs/MODEL.md refuses the call. The scene is as it was, and the frame of a commit is gone.
 - `BadLine`, a ValueError: what was asked names no kind, has a value out of range, or is out of place, as a read in an
   open frame. The scene is as it was. Of a bad request `path` tells the part.
-- `KindsDiffer`, a BadLine: a store has other kinds than `open` was asked for.
+- `KindsDiffer`, a BadLine: a store has a kind in another shape than `open` was asked for, or can't have it.
 - `Closed`, a ValueError: the call comes behind `close`.
 - `Ended`: the program has ended; `StoreError`, an Ended: since its store can't be read or written, or is in use. No
   call goes then any more, and the store has all that was answered.
@@ -116,7 +116,8 @@ def open(  # pylint: disable=redefined-builtin
     """Opens a scene, which `with` or `close` ends.
 
     - `store`: the path of a file that has each change before its call returns, and goes on where it ended
-    - `kinds`: shapes by the names of kinds, as `{"Health": "Int"}`; those that aren't there are declared
+    - `kinds`: shapes by the names of kinds, as `{"Health": "Int"}`; those that aren't there are declared, also in a
+      store that has frames
     - `program`: the program whose shell it is over; without it the one that SCENE_PROGRAM names, or `scene` on the path
     - `options`: more words for the shell, as `["--depth", "100"]`
     - `library`: the path of libscene.so, for a scene over that, which keeps nothing by itself: so with a store or
