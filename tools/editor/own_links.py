@@ -2,30 +2,68 @@
 the K-th spawn stands there when the request goes to the shell. No other call comes between."""
 import json
 import re
+import subprocess
+from typing import Any, Dict, List
 
 from commands import word_of
+from played_scene import Trouble
 
 OWN = re.compile(r"\+(0|[1-9][0-9]{0,8})")
 
 
-def with_own_links(model, lines):
-    """The lines with entities for `+K` in links of spawns, where these are requests."""
-    if model.world is None or not any('"+' in line for line in lines):
+def may_have_own_links(lines: List[str]) -> bool:
+    return any('"+' in line for line in lines)
+
+
+class OwnLinks:
+    """The spawns of a call that have such links, where they are requests; `found` has them by the lines' places."""
+
+    def __init__(self, shapes: Dict[str, str], lines: List[str]) -> None:
+        self.lines, self.found = lines, {}
+        for place, line in enumerate(lines):
+            if line.startswith("{") and word_of(line) == "spawn":
+                request = json.loads(line)
+                names = own_links(shapes, request.get("cells"))
+                if names:
+                    self.found[place] = request, names
+
+    def with_none(self) -> List[str]:
+        """The lines without these links: so they spawn the same entities."""
+        return self.with_links(lambda cells, name: cells.pop(name))
+
+    def with_entities(self, coming: List[str]) -> List[str]:
+        """The lines with the entities that will have come; one that doesn't come stays, and is a bad value."""
+
+        def put(cells: Dict[str, Any], name: str) -> None:
+            number = int(cells[name][1:])
+            cells[name] = coming[number] if number < len(coming) else cells[name]
+
+        return self.with_links(put)
+
+    def with_links(self, change: Any) -> List[str]:
+        lines = list(self.lines)
+        for place, (request, names) in self.found.items():
+            cells = dict(request["cells"])
+            for name in names:
+                change(cells, name)
+            lines[place] = json.dumps({**request, "cells": cells}, ensure_ascii=False, separators=(",", ":"))
         return lines
-    spawns = [word_of(line) == "spawn" for line in lines]
-    coming = model.world.coming(sum(spawns))
-    return [
-        with_links(model.shapes, line, coming) if spawn and line.startswith("{") else line
-        for line, spawn in zip(lines, spawns)
-    ]  # fmt: skip
 
 
-def with_links(shapes, line, coming):
-    request = json.loads(line)
-    cells = request.get("cells")
-    links = [name for name in cells if shapes.get(name) == "Link"] if isinstance(cells, dict) else []
-    for name in links:
-        match = OWN.fullmatch(cells[name]) if isinstance(cells[name], str) else None
-        if match and int(match[1]) < len(coming):
-            cells[name] = coming[int(match[1])]
-    return json.dumps(request, ensure_ascii=False, separators=(",", ":")) if links else line
+def own_links(shapes: Dict[str, str], cells: Any) -> List[str]:
+    """The names of the kinds under which cells have such a link."""
+    if not isinstance(cells, dict):
+        return []
+    texts = ((name, value) for name, value in cells.items() if shapes.get(name) == "Link" and isinstance(value, str))
+    return [name for name, value in texts if OWN.fullmatch(value)]
+
+
+def entities_of(program: str, world: str, lines: List[str]) -> List[str]:
+    """The entities that lines spawn in the world of a scene text: a shell without a store plays them there."""
+    given = "".join(f"{line}\n" for line in (f"load {world}", *lines)).encode()
+    try:
+        played = subprocess.run([program, "shell", "--json"], input=given, capture_output=True, check=False)
+    except OSError as error:
+        raise Trouble(f"{program} can't be run: {error.strerror}") from None
+    answers = map(json.loads, played.stdout.splitlines())
+    return [entity for answer in answers for entity in answer.get("entities", ())]

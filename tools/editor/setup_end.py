@@ -2,8 +2,7 @@
 import json
 import subprocess
 
-from commands import word_of
-from follower import SETUP
+from commands import SETUP, word_of
 from played_scene import Trouble
 
 NO_END = ("bad", "nothing")

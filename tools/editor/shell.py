@@ -1,5 +1,4 @@
 """The program's shell as a process: lines go in, and each is answered by a line of JSON (docs/SHELL.md, "JSON")."""
-import json
 import subprocess
 import sys
 import threading
@@ -9,6 +8,7 @@ from played_scene import Trouble
 
 SECONDS_TO_END = 5
 LINES_TOLD = 20
+BEGINNING = b'{"answer":"'
 
 
 class Gone(Exception):
@@ -67,21 +67,24 @@ class Shell:
                 pass_on(line)
 
     def next_line(self):
+        """The next answer as it came. What is none no shell has said."""
         with self.news:
             while not self.said:
                 if self.has_ended:
                     raise Gone
                 self.news.wait()
-            return self.said.popleft()
+            line = self.said.popleft()
+        if not line.startswith(BEGINNING):
+            raise ValueError
+        return line[:-1].decode()
 
     def ask(self, lines):
-        """The answers to lines, which go in one write."""
+        """The answers to lines, which go in one write, as JSON text."""
         try:
             self.process.stdin.write("".join(f"{line}\n" for line in lines).encode())
             self.process.stdin.flush()
-            return [json.loads(self.next_line()) for _ in lines]
+            return [self.next_line() for _ in lines]
         except (OSError, ValueError):
-            # what is no JSON no shell has said
             self.process.kill()
             raise Gone from None
 

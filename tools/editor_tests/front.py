@@ -27,7 +27,7 @@ def newest(stream):
 
 
 def try_words(asker, stream):
-    """A frame has the words that its call gives, and else those of its commands."""
+    """A frame has the words that its call gives, and else those of its deltas."""
     call(asker, "begin", "insert 0v1 Health=1", "insert 0v1 Health=2", "commit", words="heal the cat twice")
     assert newest(stream) == ["heal the cat twice"]
     call(asker, "insert 0v1 Health=3")
@@ -98,18 +98,21 @@ def try_requests(asker, stream):
 
 def try_places():
     """Frames are told by their places from now, also those whose records aren't held any more."""
-    empty = {name: [] for name in ("generations", "free", "tables", "children", "resources", "undo", "redo")}
-    world = Timeline({**empty, "kinds": [["A", "Int"]], "limit": 100, "tick": 0, "scene": 2}, ([], []))
+    timeline = Timeline()
     for number in range(1, 11):
-        world.begin()
-        world.spawn({"A": number})
-        world.add(world.finish(), Frame(1, [f"frame {number}"]), MOST_BYTES // 4)
-    assert len(world.older) == 6 and len(world.past) == 4, (len(world.older), len(world.past))
-    world.undo()
-    told = lambda first, count: [frame["words"][0] for frame in world.frames_from(first, count)[1]]  # noqa: E731
+        timeline.add(Frame(1, [f"frame {number}"], number - 1, 1, "x" * (MOST_BYTES // 4)))
+        timeline.shrink(timeline.past)
+    past = timeline.past
+    assert (past.far, past.held, past.size) == (6, 4, MOST_BYTES), (past.far, past.held)
+    timeline.future.push(past.pop())
+    places = timeline.places_from
+    told = lambda first, count: [timeline.frame_at(at).words[0] for at in places(first, count)]  # noqa: E731
     assert told(0, 1) == ["frame 9"] and told(1, 5) == ["frame 10"] and told(-8, 2) == ["frame 1", "frame 2"]
-    assert world.frames_from(-20, 14) == (-8, [{"session": 1, "words": [f"frame {at}"]} for at in range(1, 3)])
-    assert world.frames_from(-20, 5)[1] == [] and world.frames_from(2, 5)[1] == []
+    assert places(-20, 14).start == -8 and told(-20, 14) == ["frame 1", "frame 2"]
+    assert told(-20, 5) == [] and told(2, 5) == []
+    assert past.cut(3) == 0 and (past.far, past.held) == (0, 3) and past.cut(1) == 2 and past.held == 1
+    past.fit(3)
+    assert (past.far, past.held, past.size) == (2, 1, MOST_BYTES // 4)
 
 
 def try_frames(asker):

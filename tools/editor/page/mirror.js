@@ -37,7 +37,7 @@ export class Mirror {
   apply(event) {
     switch (event.sort) {
       case "frame": return this.frame(event);
-      case "undo": return this.step(-1);
+      case "undo": return this.undo(event);
       case "redo": return this.redo(event);
       case "phases": this.phases = event.phases; return new Set(["phases"]);
       case "sessions": this.sessions = event.sessions; return new Set(["sessions"]);
@@ -60,7 +60,28 @@ export class Mirror {
     return touched;
   }
 
-  redo({ dropped }) {
+  // Of a record that wasn't held the event tells it, and whose frame it is.
+  undo({ record, frame, dropped }) {
+    const { timeline, frames } = this;
+    if (timeline.position === 0) {
+      timeline.records.unshift(record);
+      frames.unshift(frame);
+      timeline.position = 1;
+      this.older -= 1;
+      this.known = null;
+    }
+    const touched = this.step(-1);
+    if (dropped > 0) this.dropLater(dropped);
+    return touched;
+  }
+
+  redo({ record, frame, dropped }) {
+    const { timeline, frames } = this;
+    if (timeline.position === timeline.records.length) {
+      timeline.records.push(record);
+      frames.push(frame);
+      this.later -= 1;
+    }
     const touched = this.step(1);
     if (dropped > 0) this.drop(dropped);
     return touched;
@@ -72,6 +93,14 @@ export class Mirror {
     this.timeline.position -= count;
     this.older += count;
     this.known = null;
+  }
+
+  // The farthest of the future are held no more.
+  dropLater(count) {
+    this.timeline.records.length -= count;
+    this.frames.length -= count;
+    this.later += count;
+    this.forget(this.records.length);
   }
 
   step(by) {
