@@ -1,4 +1,4 @@
-"""What lines ask for, as requests (docs/SHELL.md, "Requests"): a line of a script is read as the one that stands for it."""
+"""What lines ask for, as requests (docs/SHELL.md, "Requests"): a line of a script is read as the one it stands for."""
 import json
 from typing import Any, Dict, Iterable, List, Union
 

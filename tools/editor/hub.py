@@ -10,7 +10,7 @@ from calls import Call
 from events import Events, event_bytes
 from files import Files
 from model import FAR, Model
-from own_links import OwnLinks, entities_of, may_have_own_links
+from own_links import OwnLinks
 from played_scene import Trouble
 from questions import get_of
 from reading import read_all, read_words, scene_text, with_records
@@ -257,13 +257,11 @@ class Hub:
 
     def with_own_links(self, lines):
         """The lines with entities for links `+K` of a copy within itself."""
-        if not self.model.is_open or not may_have_own_links(lines):
-            return lines
         links = OwnLinks(self.model.shapes, lines)
-        if not links.found:
+        if not links.found or not self.model.is_open:
             return lines
         world = scene_text(self.shell, "dump")
-        return links.with_entities(entities_of(self.program, world, links.with_none()) if world is not None else [])
+        return lines if world is None else links.lines_in(self.program, world)
 
     def frames(self, after, first, count):
         """So many frames from one on, for a tab that has seen all events up to one: 0 is the newest of the past, and 1

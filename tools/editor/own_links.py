@@ -2,68 +2,47 @@
 the K-th spawn stands there when the request goes to the shell. No other call comes between."""
 import json
 import re
-import subprocess
-from typing import Any, Dict, List
+from typing import Any, Callable, Dict, List, Optional
 
 from commands import word_of
-from played_scene import Trouble
+from shell import played_alone
 
 OWN = re.compile(r"\+(0|[1-9][0-9]{0,8})")
-
-
-def may_have_own_links(lines: List[str]) -> bool:
-    return any('"+' in line for line in lines)
+NOBODY = "0v0"
 
 
 class OwnLinks:
-    """The spawns of a call that have such links, where they are requests; `found` has them by the lines' places."""
+    """The lines of a call, with the requests to spawn that have such links by their places."""
 
     def __init__(self, shapes: Dict[str, str], lines: List[str]) -> None:
-        self.lines, self.found = lines, {}
-        for place, line in enumerate(lines):
-            if line.startswith("{") and word_of(line) == "spawn":
-                request = json.loads(line)
-                names = own_links(shapes, request.get("cells"))
-                if names:
-                    self.found[place] = request, names
+        self.shapes, self.lines = shapes, lines
+        spawns = {place: json.loads(line) for place, line in enumerate(lines) if is_spawn_with_own(line)}
+        self.found = {place: spawn for place, spawn in spawns.items() if self.names_in(spawn.get("cells"))}
 
-    def with_none(self) -> List[str]:
-        """The lines without these links: so they spawn the same entities."""
-        return self.with_links(lambda cells, name: cells.pop(name))
+    def names_in(self, cells: Any) -> List[str]:
+        """The kinds under which cells have such a link."""
+        if not isinstance(cells, dict):
+            return []
+        links = ((name, value) for name, value in cells.items() if self.shapes.get(name) == "Link")
+        return [name for name, value in links if isinstance(value, str) and OWN.fullmatch(value)]
 
-    def with_entities(self, coming: List[str]) -> List[str]:
-        """The lines with the entities that will have come; one that doesn't come stays, and is a bad value."""
-
-        def put(cells: Dict[str, Any], name: str) -> None:
-            number = int(cells[name][1:])
-            cells[name] = coming[number] if number < len(coming) else cells[name]
-
-        return self.with_links(put)
-
-    def with_links(self, change: Any) -> List[str]:
+    def lines_with(self, entity_of: Callable[[int], Optional[str]]) -> List[str]:
+        """The lines with the entity of each spawn for the links to it; a link to none stays, and is a bad value."""
         lines = list(self.lines)
-        for place, (request, names) in self.found.items():
-            cells = dict(request["cells"])
-            for name in names:
-                change(cells, name)
-            lines[place] = json.dumps({**request, "cells": cells}, ensure_ascii=False, separators=(",", ":"))
+        for place, spawn in self.found.items():
+            cells = dict(spawn["cells"])
+            for name in self.names_in(cells):
+                cells[name] = entity_of(int(cells[name][1:])) or cells[name]
+            lines[place] = json.dumps({**spawn, "cells": cells}, ensure_ascii=False, separators=(",", ":"))
         return lines
 
+    def lines_in(self, program: str, world: str) -> List[str]:
+        """The lines with the entities that they spawn in the world of a scene text, as a shell without a store plays
+        them: which entities come isn't changed by where links go."""
+        answers = map(json.loads, played_alone(program, [f"load {world}", *self.lines_with(lambda _: NOBODY)]))
+        coming = [entity for answer in answers for entity in answer.get("entities", ())]
+        return self.lines_with(dict(enumerate(coming)).get)
 
-def own_links(shapes: Dict[str, str], cells: Any) -> List[str]:
-    """The names of the kinds under which cells have such a link."""
-    if not isinstance(cells, dict):
-        return []
-    texts = ((name, value) for name, value in cells.items() if shapes.get(name) == "Link" and isinstance(value, str))
-    return [name for name, value in texts if OWN.fullmatch(value)]
 
-
-def entities_of(program: str, world: str, lines: List[str]) -> List[str]:
-    """The entities that lines spawn in the world of a scene text: a shell without a store plays them there."""
-    given = "".join(f"{line}\n" for line in (f"load {world}", *lines)).encode()
-    try:
-        played = subprocess.run([program, "shell", "--json"], input=given, capture_output=True, check=False)
-    except OSError as error:
-        raise Trouble(f"{program} can't be run: {error.strerror}") from None
-    answers = map(json.loads, played.stdout.splitlines())
-    return [entity for answer in answers for entity in answer.get("entities", ())]
+def is_spawn_with_own(line: str) -> bool:
+    return line.startswith("{") and '"+' in line and word_of(line) == "spawn"

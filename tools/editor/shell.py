@@ -23,6 +23,16 @@ def pass_on(line):
         pass
 
 
+def played_alone(program, lines):
+    """The answers to lines of a shell without a store, so many as there are, as JSON text."""
+    given = "".join(f"{line}\n" for line in lines).encode(errors="replace")
+    try:
+        played = subprocess.run([program, "shell", "--json"], input=given, capture_output=True, check=False)
+    except OSError as error:
+        raise Trouble(f"{program} can't be run: {error.strerror}") from None
+    return played.stdout.decode(errors="replace").split("\n")[:-1]
+
+
 class Shell:
     """A shell on a store. Threads of its own read what it says, so that no pipe is ever full while lines are sent.
 

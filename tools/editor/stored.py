@@ -50,7 +50,8 @@ class Log:
         return dict(map(tuple, self.kinds))
 
     def follow(self, line: str, answer: str, behind: Sequence[str] = ()) -> None:
-        if answer in ("bad", "nothing"):
+        if answer in ("bad", "nothing", "queued"):
+            # (the `begin` before a command that is queued has ended the setup)
             return
         word = word_of(line)
         if self.in_setup:

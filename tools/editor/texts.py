@@ -1,6 +1,5 @@
 """JSON as the editor sends it."""
 import json
-import re
 import sys
 from pathlib import Path
 from typing import Any, List
@@ -9,8 +8,9 @@ sys.path.append(str(Path(__file__).resolve().parent.parent / "picture"))
 
 from page import exact  # noqa: E402
 
-# 2^53 has as many digits
-LONG_NUMBER = re.compile("[0-9]{16}")
+# 2^53 has as many digits. By a table all digits are one, so that such a number is found in texts of many megabytes.
+LONG_NUMBER = b"0" * 16
+AS_ZEROS = bytes(ord("0" if chr(byte) in "0123456789" else " ") for byte in range(256))
 DECODER = json.JSONDecoder()
 
 
@@ -21,7 +21,7 @@ def compact(value: Any) -> str:
 def exact_text(text: str) -> str:
     """The same JSON, with whole numbers as texts where a browser would round them."""
     # few scenes have such numbers, and to look for them in the text is quick
-    return compact(exact(json.loads(text))) if LONG_NUMBER.search(text) else text
+    return compact(exact(json.loads(text))) if LONG_NUMBER in text.encode().translate(AS_ZEROS) else text
 
 
 def json_text(value: Any) -> str:

@@ -60,7 +60,10 @@ def try_own_links(asker, stream):
     assert [row["Aim"][0] for row in rows] == [three, one, two], (answer, rows)
     assert rows[1]["Name"][0] == "+0"
     assert call(asker, '{"do":"spawn","cells":{"Aim":"+5"}}')["answers"][0]["answer"] == "bad", "no such spawn"
-    asker.call("undo", "undo", "undo", "undo", "undo")
+    lines = "begin", f"despawn {three}", '{"do":"spawn","cells":{"Aim":"+0"}}', "commit"
+    (again,) = call(asker, *lines)["answers"][-1]["entities"]
+    assert asker.call(f"get {again}")[0]["cells"]["Aim"][0] == again, "the index was free only within the frame"
+    asker.call(*["undo"] * 6)
     stream.until("undo")
 
 

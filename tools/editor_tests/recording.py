@@ -18,6 +18,7 @@ from hub import Hub  # noqa: E402
 from page import exact  # noqa: E402
 from random_scripts import ScriptWriter  # noqa: E402
 from request_forms import request_of  # noqa: E402
+from words import MOST_TEXTS, words_of_deltas  # noqa: E402
 
 SEED = 36
 CALLS_BETWEEN = 5
@@ -61,7 +62,7 @@ def as_request(chance, line, shapes):
     """The request that stands for a line, with other texts, where there is one."""
     try:
         request = request_of(line, shapes)
-    except (LookupError, ValueError):
+    except (LookupError, TypeError, ValueError):
         request = None
     if request is None or chance.random() < 0.5:
         return line
@@ -177,6 +178,19 @@ def hold(hub, clients):
     return 1
 
 
+def hold_words(hub, client):
+    """Holds the words of all frames, which are asked for when they are looked at, to those of their records."""
+    printed = exact(client.call("dumpall")[0]["text"])
+    records = [*printed["undo"], *printed["redo"]]
+    asked = hub.events.last, 1 - len(printed["undo"]), len(records)
+    told = [frame["words"] for frame in json.loads(hub.frames(*asked))["frames"]]
+    assert len(told) == len(records), (len(told), len(records))
+    for words, record in zip(told, records):
+        deltas = record["deltas"]
+        said = words_of_deltas(printed["kinds"], deltas[:MOST_TEXTS], len(deltas))
+        assert words == said or words[0].startswith("advance: "), (words, said)
+
+
 def play(chance, hub, clients, lines):
     """Plays lines by calls of the clients by turns, and answers how often all were held to the program."""
     held = 0
@@ -214,6 +228,7 @@ def try_script(program, room, number, texts):
         if timeline.MOST_BYTES != FEW_BYTES:
             assert frames_known(again) == known, "the store, opened again, has other frames"
         client = Client(again)
+        hold_words(again, client)
         held += play(chance, again, [client], ["undo", "spawn", "redo", "undo", "undo", "redo", "put again Int=1"])
     finally:
         again.close()
