@@ -4,8 +4,8 @@ import json
 from dataclasses import dataclass
 from typing import Callable, Dict, List, Optional, Tuple
 
-from commands import FRAMES, TURNS, read, word_of
-from questions import answer_word, behind
+from commands import FRAMES, TURNS, is_open_behind, read, word_of
+from questions import QUESTIONS, answer_word, behind
 from texts import compact
 
 KEPT_FROM_TABS = {
@@ -16,7 +16,7 @@ KEPT_FROM_TABS = {
 }
 UNBALANCED = "the lines aren't balanced: each begin needs its commit, and nothing was done"
 EndsAt = Callable[[List[str]], Optional[int]]
-ASKING = ("", "get", "show", "history", "dump", "dumpall")
+ASKING = QUESTIONS | {"", "get", "show", "history", "dump", "dumpall", "dropframe"}
 
 
 @dataclass
@@ -41,12 +41,12 @@ def refusal(line: str, word: str) -> Optional[str]:
 
 
 def is_balanced(words: List[str]) -> bool:
-    """Whether each `begin` has its `commit`, and there is no other `commit`."""
+    """Whether each `begin` has its `commit`, or is dropped, and there is no other `commit`."""
     is_open = False
     for word in words:
         if word == "begin" and is_open or word == "commit" and not is_open:
             return False
-        is_open = (is_open or word == "begin") and word != "commit"
+        is_open = is_open_behind(word, is_open)
     return not is_open
 
 
@@ -88,7 +88,7 @@ class Call:
         """The questions behind each line. While a frame is open none can be asked."""
         questions, is_open = [], False
         for word in (self.words[place] for place in places):
-            is_open = (is_open or word == "begin") and word != "commit"
+            is_open = is_open_behind(word, is_open)
             is_asked = not is_open and (word in FRAMES or word in TURNS)
             questions.append(behind(word, self.is_held(word)) if is_asked else ())
         return questions

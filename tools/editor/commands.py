@@ -10,6 +10,8 @@ COMMANDS = frozenset(
 SETUP = frozenset(("kind", "slots", "load", "calls", "depth"))
 FRAMES = COMMANDS | {"commit", "advance"}
 TURNS = ("undo", "redo")
+# These say nothing more, or are bad lines.
+BARE = ("begin", "commit", "dropframe")
 Kinds = Union[Dict[str, str], Iterable[List[str]]]
 
 
@@ -21,8 +23,8 @@ def read(line: str, kinds: Kinds) -> Dict[str, Any]:
 
 
 def word_of(line: str) -> str:
-    """The word of what a line asks for, whether it is good or not; "" where it is empty or no request, and for a
-    `begin` or `commit` with something more, which is a bad line."""
+    """The word of what a line asks for, whether it is good or not; "" where it is empty or no request, for a `begin`,
+    `commit` or `dropframe` with something more, and for a `dropframe` that is no request: these are bad lines."""
     if line.startswith("{"):
         try:
             request = json.loads(line)
@@ -31,9 +33,14 @@ def word_of(line: str) -> str:
         word, count = request.get("do"), len(request)
     else:
         words = [word for word in line.split(" ") if word]
-        word, count = words[0] if words else "", len(words)
-    has_more = word in ("begin", "commit") and count > 1
+        word, count = words[0] if words and words[0] != "dropframe" else "", len(words)
+    has_more = word in BARE and count > 1
     return word if isinstance(word, str) and not has_more else ""
+
+
+def is_open_behind(word: str, is_open: bool) -> bool:
+    """Whether a frame is open behind a line of this word."""
+    return (is_open or word == "begin") and word not in ("commit", "dropframe")
 
 
 def system_name(line: str) -> str:

@@ -5,6 +5,9 @@ from typing import Iterator, List, NamedTuple, Optional, Sequence, Tuple
 
 from texts import compact, exact_text
 
+QUESTIONS = frozenset(
+    "status kinds tables rows children parentof resources past future deltas step changedsince addedsince".split()
+)  # fmt: skip
 PAGE = 4096
 # How many deltas are asked for at once, but for those of a single step.
 MOST_DELTAS = 4096

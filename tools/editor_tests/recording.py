@@ -1,5 +1,5 @@
-"""The hub under random scripts, which two sessions play call by call: the scene of a client which applies the events has
-to be what the program prints."""
+"""The hub under random scripts, which two sessions play call by call: the scene of a client which applies the events
+has to be what the program prints."""
 import json
 import random
 import sys
@@ -12,9 +12,10 @@ sys.path[:0] = [str(TOOLS / "editor"), str(TOOLS)]
 import timeline  # noqa: E402
 from advancing import script  # noqa: E402
 from asking import TEXTS  # noqa: E402
-from commands import word_of  # noqa: E402
+from commands import is_open_behind, word_of  # noqa: E402
 from following import Followed  # noqa: E402
 from hub import Hub  # noqa: E402
+from mirrored import NODE, Mirrored  # noqa: E402
 from page import exact  # noqa: E402
 from random_scripts import ScriptWriter  # noqa: E402
 from request_forms import request_of  # noqa: E402
@@ -50,7 +51,7 @@ def calls_of(chance, lines):
     for line in lines:
         word = word_of(line)
         call.append(line)
-        is_open = (is_open or word == "begin") and word != "commit"
+        is_open = is_open_behind(word, is_open)
         if not is_open and chance.random() < 0.6:
             yield call
             call = []
@@ -74,10 +75,11 @@ def as_request(chance, line, shapes):
 
 
 class Client:
-    """What a tab knows: all at its join, and then by events alone."""
+    """What a tab knows: all at its join, and then by events alone. `page` may be a mirror that is told the same."""
 
-    def __init__(self, hub):
+    def __init__(self, hub, page=None):
         joined = json.loads(hub.join(None, None))
+        self.page = page
         self.hub, self.session = hub, joined["session"]
         self.take(joined["scene"])
 
@@ -86,6 +88,11 @@ class Client:
         self.sessions, self.frames = whole["sessions"], whole["frames"]
         self.older, self.later = whole["older"], whole["later"]
         self.world = None if whole["text"] is None else Followed(whole["text"])
+        self.show(whole=whole)
+
+    def show(self, **told):
+        if self.page is not None:
+            self.page.tell(**told)
 
     def call(self, *lines):
         return json.loads(self.hub.call(self.session, list(lines)))["answers"]
@@ -100,6 +107,8 @@ class Client:
 
     def apply(self, event):
         sort = event["sort"]
+        if sort != "whole":
+            self.show(event=event)
         if sort in ("frame", "undo", "redo"):
             getattr(self, sort)(event)
         elif sort in ("phases", "sessions"):
@@ -174,6 +183,8 @@ def hold(hub, clients):
         assert client.frames == whole["frames"] and world.position == whole["position"]
         assert client.later == whole["later"], (client.later, whole["later"])
         assert client.phases == whole["phases"] and client.sessions == whole["sessions"]
+        if client.page is not None:
+            client.page.hold(world, client)
     assert Followed(whole["text"]).scene() == clients[0].world.scene()
     return 1
 
@@ -208,30 +219,43 @@ def frames_known(hub):
     return {part: whole[part] for part in ("frames", "position", "phases", "text", "kinds", "older", "later")}
 
 
+@contextmanager
+def open_hub(program, store):
+    hub = Hub(program, store)
+    try:
+        yield hub
+    finally:
+        hub.close()
+
+
+@contextmanager
+def paged_client(hub):
+    """A client with the page's own mirror, where it can run."""
+    page = Mirrored() if NODE else None
+    try:
+        yield Client(hub, page)
+    finally:
+        if page is not None:
+            page.close()
+
+
 def try_script(program, room, number, texts):
     """One random script, and its store opened again; how often it was held to the program, and the frames made."""
     chance = random.Random(number)
     lines = script(chance) if number % 2 else list(text_lines(ScriptWriter(chance, texts).script(chance.choice(LINES))))
     store = room / f"{number}.db"
-    hub = Hub(program, store)
-    try:
-        clients = [Client(hub), Client(hub)]
+    with open_hub(program, store) as hub, paged_client(hub) as paged:
+        clients = [paged, Client(hub)]
         clients[0].catch_up()
         held = play(chance, hub, clients, lines)
         known = frames_known(hub)
-    finally:
-        hub.close()
     if hub.model.in_setup:
         return held, 0
-    again = Hub(program, store)
-    try:
+    with open_hub(program, store) as again, paged_client(again) as client:
         if timeline.MOST_BYTES != FEW_BYTES:
             assert frames_known(again) == known, "the store, opened again, has other frames"
-        client = Client(again)
         hold_words(again, client)
         held += play(chance, again, [client], ["undo", "spawn", "redo", "undo", "undo", "redo", "put again Int=1"])
-    finally:
-        again.close()
     return held, len(known["frames"])
 
 
@@ -258,4 +282,5 @@ def try_scripts(program, room, count):
         except AssertionError as error:
             raise AssertionError(f"random script {number}: {error}") from None
         held, frames = held + more[0], frames + more[1]
-    return f"{count} random scripts were held to the program {held} times, with {frames} frames left"
+    page = "the page's own scripts too" if NODE else "there is no node for the page's own scripts"
+    return f"{count} random scripts were held to the program {held} times, with {frames} frames left; {page}"

@@ -98,7 +98,8 @@ const ANSWERS = {
   bad: ({ reason }) => `bad line: ${reason}`,
 };
 
-// The answer as a script prints it (docs/SCRIPTS.md, "Output"), or nearly so.
+// The answer as a script prints it (docs/SCRIPTS.md, "Output"), or nearly so; that to a question stays JSON.
 export function answerText(answer, shapeOf) {
-  return (ANSWERS[answer.answer] ?? (() => answer.answer))(answer, shapeOf);
+  const plain = () => (Object.keys(answer).length === 1 ? answer.answer : JSON.stringify(answer));
+  return (ANSWERS[answer.answer] ?? plain)(answer, shapeOf);
 }
