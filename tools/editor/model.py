@@ -98,8 +98,7 @@ class Model(Log):
         frame = source.pop()
         event, record = {"sort": sort, "session": self.turn}, None
         if frame.deltas is None:
-            frame.tick, frame.count = moved.tick, moved.count
-            frame.deltas = moved.reversed() if sort == "undo" else moved.deltas
+            frame.tick, frame.count, frame.deltas = moved.tick, moved.count, moved.deltas
             if frame.deltas is None:
                 target.push(frame)
                 self.lose(FAR)

@@ -8,6 +8,8 @@ from texts import compact, exact_text
 QUESTIONS = frozenset(
     "status kinds tables rows children parentof resources past future deltas step changedsince addedsince".split()
 )  # fmt: skip
+# How each answer begins.
+BEGINNING = '{"answer":"'
 PAGE = 4096
 # How many deltas are asked for at once, but for those of a single step.
 MOST_DELTAS = 4096
@@ -17,23 +19,24 @@ def request(word: str, **keys: object) -> str:
     return compact({"do": word, **keys})
 
 
+def deltas_of(side: str, step: int) -> str:
+    return request("deltas", of=side, step=step)
+
+
 KINDS, STATUS = request("kinds"), request("status")
-FORTH, BACK = request("step", way="forth"), request("step", way="back")
+# (a step back has its deltas the other way about, and a record is held in the order in which it was made)
+FORTH, BACK = request("step", way="forth"), deltas_of("future", 0)
 NEWEST, NEXT = (request(side, **{"from": 0, "count": 1}) for side in ("past", "future"))
 
 
 class Moved(NamedTuple):
     """What one frame, undo or redo did: the tick before the frame, and how many deltas it has; how many frames the past
-    has then, or behind an undo the future; and the deltas in the order in which they were made, or taken back, where
-    they were asked for."""
+    has then, or behind an undo the future; and the frame's deltas, where they were asked for."""
 
     tick: int
     count: int
     length: int
     deltas: Optional[str]
-
-    def reversed(self) -> Optional[str]:
-        return self.deltas and compact(json.loads(self.deltas)[::-1])
 
 
 def behind(word: str, is_held: bool) -> Tuple[str, ...]:
@@ -48,12 +51,12 @@ def moved_of(answers: Sequence[str]) -> Optional[Moved]:
     if not nearest.get("steps"):
         return None
     step = nearest["steps"][0]
-    deltas = exact_text(answers[0].partition('"deltas":')[2][:-1]) if len(answers) > 1 else None
+    deltas = deltas_in(answers[0]) if len(answers) > 1 else None
     return Moved(step["tick"], step["deltas"], nearest["length"], deltas)
 
 
 def answer_word(answer: str) -> str:
-    return answer.split('"', 4)[3]
+    return answer[len(BEGINNING) : answer.index('"', len(BEGINNING))]
 
 
 def pages_of(length: int, side: str) -> List[str]:
@@ -61,13 +64,10 @@ def pages_of(length: int, side: str) -> List[str]:
     return [request(side, **{"from": first, "count": PAGE}) for first in range(0, length, PAGE)]
 
 
-def deltas_of(side: str, step: int) -> str:
-    return request("deltas", of=side, step=step)
-
-
-def record_deltas(answer: str) -> str:
-    """The deltas of a record that was asked for."""
-    return exact_text(answer.partition('"deltas":')[2].rpartition(',"tick":')[0])
+def deltas_in(answer: str) -> str:
+    """The deltas in the answer that tells a step, or a record."""
+    text = answer.partition('"deltas":')[2]
+    return exact_text(text[:-1] if answer_word(answer) == "step" else text.rpartition(',"tick":')[0])
 
 
 def get_of(entity: str) -> str:

@@ -5,7 +5,7 @@ from typing import Iterable, Optional
 
 from model import Model
 from played_scene import Trouble
-from questions import KINDS, STATUS, answer_word, batches, deltas_of, pages_of, record_deltas
+from questions import KINDS, STATUS, answer_word, batches, deltas_in, deltas_of, pages_of
 from shell import Shell
 from texts import exact_text, with_part
 from timeline import Side, Timeline
@@ -53,7 +53,7 @@ def read_records(shell: Shell, name: str, side: Side, timeline: Timeline) -> Non
     """Holds the nearest records of a side, so many as have room, but the nearest one always."""
     for places in batches([frame.count for frame in reversed(side.frames)]):
         for answer in shell.ask([deltas_of(name, place) for place in places]):
-            deltas = record_deltas(answer)
+            deltas = deltas_in(answer)
             if side.held > 0 and len(deltas) > timeline.room:
                 return
             side.hold(deltas)
@@ -68,4 +68,4 @@ def read_words(shell: Shell, model: Model, places: Iterable[int]) -> None:
         asked = [far[number] for number in batch]
         lines = [deltas_of("past", -place) if place <= 0 else deltas_of("future", place - 1) for place in asked]
         for place, answer in zip(asked, shell.ask(lines)):
-            timeline.frame_at(place).said(model.kinds, record_deltas(answer))
+            timeline.frame_at(place).said(model.kinds, deltas_in(answer))

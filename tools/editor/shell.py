@@ -5,10 +5,10 @@ import threading
 from collections import deque
 
 from played_scene import Trouble
+from questions import BEGINNING
 
 SECONDS_TO_END = 5
 LINES_TOLD = 20
-BEGINNING = b'{"answer":"'
 
 
 class Gone(Exception):
@@ -84,7 +84,7 @@ class Shell:
                     raise Gone
                 self.news.wait()
             line = self.said.popleft()
-        if not line.startswith(BEGINNING):
+        if not line.startswith(BEGINNING.encode()):
             raise ValueError
         return line[:-1].decode()
 

@@ -75,7 +75,8 @@ class Side:
 
     def forget(self, count: int) -> None:
         """Holds so many of the farthest no more."""
-        for frame in self.near()[:count]:
+        far = self.far
+        for frame in self.frames[far : far + count]:
             self.size -= len(frame.deltas)
             frame.deltas = None
         self.held -= count
