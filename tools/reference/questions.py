@@ -2,20 +2,16 @@
 reference works it out from a shell's other lines and their answers alone."""
 import json
 import re
-import sys
-from pathlib import Path
 
-sys.path.append(str(Path(__file__).resolve().parent / "editor"))
+from line_requests import COMMANDS
+from program_runs import NAME
+from reference.follower import Follower
+from reference.queues import apply_queue
+from reference.systems import advance, matching_rows, matching_sets
+from reference.timeline import Timeline
+from request_forms import DECLARE, DROP_FRAME, Bad, Reader
 
-from commands import COMMANDS, apply_queue  # noqa: E402
-from follower import Follower  # noqa: E402
-from program_runs import NAME  # noqa: E402
-from request_forms import DECLARE, DROP_FRAME, Bad, Reader  # noqa: E402
-from systems import advance, matching_rows, matching_sets  # noqa: E402
-from timeline import MOST_DEPTH, Frame, Timeline  # noqa: E402
-
-MOST_SLOTS, MOST_KINDS = 1_048_576, 64
-NO_WORDS = Frame(None, [])
+MOST_KINDS = 64
 CALLS = COMMANDS | {"commit", "advance", "undo", "redo"}
 
 
@@ -28,14 +24,13 @@ class Shell(Follower):
 
     def __init__(self):
         super().__init__()
-        self.loaded, self.limit = None, MOST_SLOTS
         self.world, self.rewinds, self.calls = None, 0, 0
 
     # Lines that aren't questions
 
     def hear(self, line, answer):
         """Follows a line that is no question and doesn't drop a frame, by its answer."""
-        request = self.follow(line, answer["answer"], answer.get("entities", ()))
+        request = self.follow(line, answer["answer"])
         self.calls += request is not None and is_call(request["do"], answer)
 
     def hear_compaction(self):
@@ -48,43 +43,20 @@ class Shell(Follower):
             self.world.declare(name, shape)
             self.calls = 0
 
-    def follow_setup(self, request, answer):
-        if answer == "ok" and request["do"] == "slots":
-            self.limit = request["limit"]
-        if answer == "ok" and request["do"] == "load":
-            self.loaded = json.loads(request["text"])
-        super().follow_setup(request, answer)
-
-    def on_setup(self):
-        if not self.in_setup:
-            self.begin_world()
-
-    def end_setup(self):
-        if self.in_setup:
-            self.in_setup = False
-            self.begin_world()
-
-    def begin_world(self):
+    def on_setup_end(self):
         # (behind a load more kinds may have been declared)
-        scene = {**(self.loaded or new_scene(self.limit)), "kinds": self.kinds}
-        frames = [[NO_WORDS] * len(scene.get(records, ())) for records in ("undo", "redo")]
-        self.world = Timeline(scene, frames, self.depth or MOST_DEPTH)
-        self.world.drop_beyond_depth()
+        self.world = Timeline({**(self.loaded or new_scene(self.limit)), "kinds": self.kinds}, self.depth)
 
-    def on_frame(self, queues, entities):
+    def on_frame(self, queues):
         self.world.begin()
         for queue in queues:
             apply_queue(self.world, queue)
-        self.keep_frame()
+        self.world.keep_frame()
 
-    def on_advance(self, entities):
+    def on_advance(self):
         self.world.begin()
         advance(self.world, self.phases)
-        self.keep_frame()
-
-    def keep_frame(self):
-        # As one of no size it is never forgotten.
-        self.world.add(self.world.finish(), NO_WORDS, 0)
+        self.world.keep_frame()
 
     def on_undo(self):
         self.world.undo()
@@ -130,7 +102,7 @@ class Shell(Follower):
 
     def records(self, side):
         """The records of the past, the newest first, or of the future, the next one first."""
-        return [held.record for held in reversed(getattr(self.world, side))]
+        return getattr(self.world, side)[::-1]
 
     def live(self, entity):
         if entity not in self.world.cells:

@@ -1,16 +1,11 @@
 """Which lines a store keeps, and what `scene log` tells of them (docs/SHELL.md, "A store")."""
 import json
-import sys
-from pathlib import Path
 
-sys.path.append(str(Path(__file__).resolve().parent / "editor"))
-
-from commands import read, word_of  # noqa: E402
-from follower import SETUP  # noqa: E402
-from request_forms import DROP_FRAME, QUESTIONS  # noqa: E402
+from line_requests import is_open_behind, read, word_of
+from reference.follower import SETUP
+from request_forms import QUESTIONS
 
 ASKING = frozenset(("get", "show", "changed", "added", "history", "dump", "dumpall", *QUESTIONS))
-ENDS = ("commit", DROP_FRAME)
 WITHOUT_FIELDS = ("answer", "number", "name", "place")
 
 
@@ -22,7 +17,7 @@ def log_of(lines, answers):
         if answer["answer"] in ("bad", "nothing") or word in ASKING and not in_setup:
             continue
         in_setup = in_setup and word in SETUP
-        is_open = (is_open or word == "begin") and word not in ENDS
+        is_open = is_open_behind(word, is_open)
         of_frame.append(f"as {session}: {line} -> {in_words(word, answer)}")
         if not is_open:
             # A frame is kept with its end, and with it all that was said in it.

@@ -2,13 +2,9 @@
 systems").
 
 A system is the request that adds it. Only an advance that the program made is followed, so nothing is tested."""
-from commands import apply_queue
+from reference.queues import apply_queue
 
 WRITING = ("addvec", "addint")
-
-
-def system_names(phases):
-    return [system["name"] for phase in phases for system in phase]
 
 
 def matching_sets(world, request):
