@@ -11,6 +11,7 @@ import jsonschema
 
 ROOT = Path(__file__).resolve().parent.parent
 EXAMPLES = ROOT / "examples"
+REQUESTS = ("requests_*.scene", "questions_*.scene", "kinds_*.scene")
 # NotJson is no text for a schema; the orders, the rules of a world and the records are more than a form.
 FORM = re.compile(r'fault (51 UnknownKey|52 BadField|53 BadVersion) (.*)')
 
@@ -54,7 +55,7 @@ def validator_of(name):
 
 def requests():
     """The requests of the examples, each with the path or the words by which it is bad, or None."""
-    for script in sorted(EXAMPLES.glob("requests_*.scene")):
+    for script in sorted(path for names in REQUESTS for path in EXAMPLES.glob(names)):
         for line, told in zip(lines_of(script), lines_of(script.with_suffix(".out"))):
             if line.startswith("{"):
                 answer = json.loads(told)

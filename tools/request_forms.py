@@ -1,5 +1,5 @@
-"""Requests (docs/SHELL.md, "Requests"), as the reference reads them: the request that stands for a line of a script, and why
-a text is a bad request, with the path of the first part that has no form."""
+"""Requests (docs/SHELL.md, "Requests", "Questions", "Kinds at any time"), as the reference reads them: the request that stands for a line of a
+script, and why a text is a bad request, with the path of the first part that has no form."""
 import json
 import math
 import re
@@ -14,6 +14,16 @@ KEYS |= {
     "remove": ("entity", "kind"), "parent": ("child", "parent"), "unparent": ("child",), "put": ("name", "shape", "value"),
     "drop": ("name",), "system": ("name", "need", "steps", "without"), "as": ("session",),
 }  # fmt: skip
+# Those that stand for no line of a script: questions, the end of a frame that is dropped, and a kind at any time.
+QUESTIONS = {"status": (), "kinds": (), "resources": (), "tables": ("need", "without"), "rows": ("count", "from", "need", "without")}
+QUESTIONS |= dict.fromkeys(("children", "parentof"), ("entity",))
+QUESTIONS |= dict.fromkeys(("past", "future"), ("count", "from")) | {"deltas": ("of", "step"), "step": ("way",)}
+QUESTIONS |= dict.fromkeys(("changedsince", "addedsince"), ("need", "rewinds", "tick", "without"))
+DROP_FRAME, DECLARE = "dropframe", "declare"
+ALL_KEYS = KEYS | QUESTIONS | {DROP_FRAME: (), DECLARE: KEYS["kind"]}
+CHOICES = {"shape": SHAPES, "of": ("past", "future"), "way": ("forth", "back")}
+RANGES = {"limit": (1, 1048576), "session": (0, 7)}
+RANGES |= dict.fromkeys(("from", "count", "step"), (0, 2**32 - 1)) | dict.fromkeys(("rewinds", "tick"), (0, 2**64 - 1))
 STEP_KEYS = {"addvec": ("by", "to"), "addint": ("by", "to"), "zero": ("kind",), "child": ("cells",), "count": ("name",)}
 NATURAL = re.compile(r"0|[1-9][0-9]{0,9}")
 MOST_LEVELS = 127
@@ -109,9 +119,9 @@ class Reader:
     def read(self, text):
         """The request of a text, or a `Bad`."""
         request = value_in(text)
-        word = self.key(request, "do", "", lambda value, _: value in KEYS if isinstance(value, str) else False)
-        object_of(request, ("do", *KEYS[word]), "")
-        for key in KEYS[word]:
+        word = self.key(request, "do", "", lambda value, _: value in ALL_KEYS if isinstance(value, str) else False)
+        object_of(request, ("do", *ALL_KEYS[word]), "")
+        for key in ALL_KEYS[word]:
             if key not in request:
                 raise Bad("BadField", key)
             self.field(word, key, request)
@@ -143,14 +153,12 @@ class Reader:
     def is_plain(self, word, key, value):
         """Whether a value without parts has its form."""
         if key in ("entity", "child", "parent"):
-            return is_entity(value) if word == "get" else is_target(value)
+            return is_entity(value) if word == "get" or word in QUESTIONS else is_target(value)
         if key == "kind":
             return self.is_kind(value)
-        if key == "shape":
-            return value in SHAPES if isinstance(value, str) else False
-        if key == "limit":
-            return is_whole(value, 1, 1048576)
-        return is_whole(value, 0, 7) if key == "session" else isinstance(value, str)
+        if key in CHOICES:
+            return value in CHOICES[key]
+        return is_whole(value, *RANGES[key]) if key in RANGES else isinstance(value, str)
 
     def is_kind(self, value):
         return isinstance(value, str) and value in self.kinds

@@ -5,8 +5,9 @@ from __future__ import annotations
 import random
 from typing import Any, Callable, Dict, List, Tuple
 
-from scene import AddInt, AddVec, BadLine, Calls, CountInto, DespawnAtZero, Entity, Refused, SceneError, SpawnChild
-from trying import KINDS, UNUSUAL, Begin, error_of, is_bad, refusal, spawned, to_come, told
+from scene import AddInt, AddVec, BadLine, Calls, CountInto, DespawnAtZero, Entity, Refused, SceneError
+from scene import SpawnChild, System
+from trying import KINDS, UNUSUAL, Begin, error_of, is_bad, is_set_up, refusal, spawned, to_come, told
 
 RESOURCES: Dict[str, Any] = {"seen": True, "left": -5, "at": (1, -2, 3), "title": "Big House \n", "door": Entity("7v9")}
 
@@ -121,6 +122,26 @@ def systems(begin: Begin) -> None:
         world.undo()
 
 
+def systems_as_objects(begin: Begin) -> None:
+    """A system by itself can be added to several scenes, and does what its steps say."""
+    age = System("age", [AddInt("Health", -1), CountInto("left")], need=["Health"], without="Name")
+    for count in (1, 2):
+        with begin() as world:
+            cats = [spawned(world, Health=9) for _ in range(count)]
+            spawned(world, Health=9, Name="cat")
+            world.add_system(age)
+            world.advance()
+            assert world.resource("left") == count and {world.get(cat, "Health") for cat in cats} == {8}
+            assert world.get(f"{count}v1", "Health") == 9
+            for more in ({"need": ["Health"]}, {"without": ["At"]}):
+                error_of(TypeError, world.add_system, age, **more)
+            error_of(TypeError, world.add_system, age, AddInt("Health", 1))
+            error_of(TypeError, world.add_system, System("age", AddInt("Health", 1)))  # type: ignore[arg-type]
+            assert is_bad(world.add_system, System("age", [AddInt("Nothing", 1)]))
+            assert world.advance() == [] and {world.get(cat, "Health") for cat in cats} == {7}
+    assert age == System("age", age.steps, ["Health"], "Name") != System("age", age.steps)
+
+
 def refused_systems(begin: Begin) -> None:
     """What makes no system is bad at once, and what makes no schedule is refused, and leaves the scene as it was."""
     with begin({"P": "Vec3", "N": "Int"}) as world:
@@ -226,7 +247,8 @@ def reading(world: Calls) -> List[Callable[[], Any]]:
     """The calls that only read."""
     named = (world.is_alive, world.parent_of, world.children_of)
     calls: List[Callable[[], Any]] = [lambda call=call: call("7v9") for call in named]  # type: ignore[misc]
-    return [*calls, world.roots, world.rows, world.resources, world.status, world.changed, world.added, world.show]
+    calls += [world.roots, world.rows, world.resources, world.status, world.changed, world.added, world.show]
+    return [*calls, world.kinds, world.past, world.future, lambda: list(world.each_row())]
 
 
 def setups_and_frames(begin: Begin) -> None:
@@ -236,12 +258,12 @@ def setups_and_frames(begin: Begin) -> None:
     for number in range(count):
         with begin() as world:
             world.declare("Late", "Tag")
-            assert reading(world)[number]() in (False, None, [], {}, world.status(), world.show())
-            assert str(error_of(BadLine, world.declare, "Later", "Tag")).startswith("the setup has ended")
+            assert reading(world)[number]() in (False, None, [], {}, world.status(), world.show(), world.kinds())
+            assert is_set_up(world)
     for call in (lambda it: it.get("7v9", "Name"), lambda it: it.cells("7v9"), lambda it: it.resource("left")):
         with begin() as world:
             refusal(call, world)
-            assert is_bad(world.declare, "Late", "Tag")
+            assert is_set_up(world)
     with begin() as world:
         cat = spawned(world, Name="cat")
         world.put("left", 1)
@@ -367,6 +389,7 @@ BOTH = (
     resources,
     resources_of_frames,
     systems,
+    systems_as_objects,
     refused_systems,
     steps_of_frames,
     steps_to_a_limit,
@@ -438,9 +461,12 @@ def both_alike(shell: Begin, library: Begin) -> None:
             assert came == outcome(lambda: call(other)), (step, came)
             refused += isinstance(came, tuple) and came[:1] == (Refused,)
             if step % 10 == 0:
-                for read in ("rows", "roots", "resources", "status", "show", "changed", "added", "save"):
+                reads = ("rows", "roots", "resources", "status", "show", "changed", "added", "save", "kinds", "tables")
+                for read in (*reads, "now", "past", "future", "past_step", "future_step"):
                     came = outcome(getattr(one, read))
                     assert came == outcome(getattr(other, read)), (step, read, came)
                 assert one.request("show") == other.request("show"), step
                 assert one.save(world_alone=True) == other.save(world_alone=True), step
+                found = [list(world.each_row("Health", without=["At"], page=3)) for world in (one, other)]
+                assert found[0] == found[1], step
         assert 100 < refused < 1400 and one.status().tick > 20, (refused, one.status())

@@ -1,5 +1,5 @@
-"""What try_scene.py tries over the library alone: columns, many entities in one call, moments, frames that are
-dropped, threads, and that the package knows all of scene.h."""
+"""What try_scene.py tries over the library alone: columns, many entities in one call, threads, and that the package
+knows all of scene.h."""
 from __future__ import annotations
 
 import ctypes
@@ -12,6 +12,7 @@ from typing import Any, Callable, Dict, List, Tuple
 from scene import AddInt, BadLine, Calls, Closed, Entity, OtherThread
 from scene import handle, header
 from scene.library import LibraryScene, Moment
+from scene.raw_deltas import LAYOUT
 from trying import KINDS, TOP, UNUSUAL, Begin, error_of, is_bad, over_library, refusal, spawned, told
 
 
@@ -154,37 +155,6 @@ def many_entities(begin: Begin) -> None:
         error_of(TypeError, world.values, [7], "Health")
 
 
-def moments(begin: Begin) -> None:
-    """Views follow by moments of their own, of which none disturbs another, nor the mark."""
-    with begin() as begun:
-        world = over_library(begun)
-        first = world.now()
-        assert first == Moment(0, 0) and world.changed_since(first) == []
-        cat, dog = spawned(world, Health=1), spawned(world, Health=2, Name="dog")
-        second = world.now()
-        world.mark()
-        world.insert(cat, Health=3)
-        world.insert(dog, At=(1, 2, 3))
-        everything = [(cat, "Health"), (dog, "Name"), (dog, "Health"), (dog, "At")]
-        assert world.changed_since(first) == world.added_since(first) == everything
-        assert world.changed_since(second) == world.changed() == [(cat, "Health"), (dog, "At")]
-        assert world.added_since(second) == world.added() == [(dog, "At")]
-        assert world.changed_since(first, need=["Name"]) == everything[1:]
-        assert world.changed_since(first, without=["Name"]) == world.added_since(first, (), "Name") == everything[:1]
-        assert world.changed_since(world.now()) == [] == world.changed_since(first, ["Hidden"])
-        assert isinstance(world.changed_since(second)[0][0], Entity)
-        assert is_bad(world.changed_since, first, ["Nothing"])
-        before = world.now()
-        world.undo()
-        for moment in (first, second, before):
-            assert told(refusal(world.changed_since, moment)) == (18, "Rewound", ["1"], None)
-            assert told(refusal(world.added_since, moment)) == (18, "Rewound", ["1"], None)
-        after = world.now()
-        assert after.rewinds == 1 and after.tick == before.tick - 1
-        world.redo()
-        assert world.changed_since(after) == [(dog, "At")] and world.now() == Moment(1, before.tick)
-
-
 def own_reads_in_frames(begin: Begin) -> None:
     """What a shell has no place for goes in an open frame, and tells the scene as it was before it."""
     with begin() as begun:
@@ -210,42 +180,6 @@ def reasons_of_reads(begin: Begin) -> None:
         some_rows(world)
         assert is_bad(world.line, "jump")
         assert "jump" not in str(error_of(BadLine, world.column, 1 << 40, "Health"))
-
-
-def dropped_frames(begin: Begin) -> None:
-    """A frame that is dropped does nothing, and isn't a call."""
-    with begin() as begun:
-        world = over_library(begun)
-        cat = spawned(world, Health=9)
-        before = world.show(), world.line("history")
-        assert not world.drop_frame()
-        for _ in range(2):
-            world.line("begin")
-            world.insert(cat, Health=5)
-            assert world.drop_frame() and not world.drop_frame()
-        error_of(ZeroDivisionError, fail_in_frame, world)
-        assert (world.show(), world.line("history")) == before
-        # Its `with` finds no frame any more.
-        error = error_of(BadLine, drop_in_frame, world)
-        assert "no frame is open" in str(error)
-        world.undo()
-        assert not world.rows()
-        world.close()
-        assert "closed" in str(error_of(Closed, world.drop_frame))
-
-
-def fail_in_frame(world: Calls) -> None:
-    """A frame that an error ends."""
-    with world.frame():
-        world.spawn(Health=1)
-        raise ZeroDivisionError
-
-
-def drop_in_frame(world: LibraryScene) -> None:
-    """A frame that is dropped before its end."""
-    with world.frame():
-        world.spawn(Health=1)
-        world.drop_frame()
 
 
 def resources_by_calls(begin: Begin) -> None:
@@ -366,10 +300,8 @@ LIBRARY = (
     columns_of_texts,
     buffers,
     many_entities,
-    moments,
     own_reads_in_frames,
     reasons_of_reads,
-    dropped_frames,
     resources_by_calls,
     advances_that_are_refused,
     other_threads,
@@ -398,7 +330,7 @@ def header_is_whole(library: str) -> None:
         ]
         found = getattr(header, f"Raw{names.get(name, name.title())}")._fields_
         assert [(field, width(kind)) for field, kind in wanted] == [(each[0], ctypes.sizeof(each[1])) for each in found]
-    assert len(structures) == 10
+    assert len(structures) == 10 and ctypes.sizeof(header.RawDelta) == LAYOUT.size
     numbered = re.findall(r"SCENE_(\w+) = (\d)", text)
     assert len(numbered) == 22 and {(name, str(getattr(header, name))) for name, _ in numbered} == set(numbered)
     one = handle.Library(library)

@@ -3,10 +3,12 @@ and its text."""
 from __future__ import annotations
 
 import json
+import tempfile
+from contextlib import suppress
 
 import scene
-from scene import AddInt, BadLine, KindsDiffer
-from trying import KINDS, Begin, error_of, is_bad, over_library, refusal, spawned, told
+from scene import AddInt, BadLine, KindsDiffer, Refused
+from trying import KINDS, Begin, error_of, is_bad, is_set_up, over_library, refusal, spawned, to_come, told
 
 
 def declared_kinds(begin: Begin) -> None:
@@ -28,14 +30,72 @@ def declared_kinds(begin: Begin) -> None:
         assert world.shape_of("Late") is None and world.shape_of("Kind63") == "Int"
         one = spawned(world, Health=1, Kind63=2)
         assert world.row(one).values() == {"Health": 1, "Kind63": 2} and world.status().kinds == 64
-        assert str(error_of(BadLine, world.declare, "Late", "Tag")).startswith("the setup has ended")
+        assert is_set_up(world)
         saved = world.save(world_alone=True)
     with begin({}) as other:
         other.load(saved)
         other.set_depth(5)
-        assert is_bad(other.declare, "Late", "Tag") and other.shape_of("Late") is None
+        assert is_set_up(other) and other.shape_of("LateKind") is None
         assert other.shape_of("Kind63") == "Int"
     assert error_of(KindsDiffer, begin, {"a b": "Tag"}).number == 30
+
+
+def kinds_at_any_time(program: str) -> None:
+    """Over the shell a kind is declared at any time: behind frames, in one, behind a load, and over undo and redo."""
+    with scene.open(kinds={"Health": "Int"}, program=program) as world:
+        cat = spawned(world, Health=9)
+        before = world.rows(), world.status()
+        assert world.kinds() == {"Health": "Int"}
+        world.declare("Mood", "Int")
+        assert world.shape_of("Mood") == "Int" and world.kinds() == {"Health": "Int", "Mood": "Int"}
+        assert (world.rows(), world.status()) == (before[0], before[1]._replace(kinds=2))
+        assert world.line("history") == ["history 0"]
+        for name, number in (("Mood", 31), ("a b", 30)):
+            assert refusal(world.declare, name, "Tag").number == number
+        assert is_bad(world.declare, "Late", "tag") and world.shape_of("Late") is None
+        world.insert(cat, Mood=3)
+        with world.frame() as made:
+            # (what was told of all kinds has this one too, which a frame can't ask for)
+            world.declare("Name", "Text")
+            assert world.shape_of("Name") == "Text" and world.in_frame
+            dog = to_come(world, Name="a dog")
+            world.insert(dog, Mood=5)
+        assert world.cells(made[0])["Name"].value == "a dog" and len(world.tables("Mood")) == 2
+        world.undo(3)
+        assert world.tables() == [] and list(world.kinds()) == ["Health", "Mood", "Name"]
+        world.redo(3)
+        step = world.past_step()
+        assert step is not None and step.deltas[0].cells == {"Name": "a dog"}
+        world.request("declare", name="At", shape="Vec3")
+        world.insert(cat, At=(1, 2, 3))
+        assert world.get(cat, "At") == (1, 2, 3) and world.kinds_of(0b1000) == ["At"]
+        saved = world.save()
+    with scene.open(kinds={}, program=program) as other:
+        other.load(saved)
+        other.declare("Late", "Link")
+        assert other.shape_of("Late") == "Link" and other.save(True).count('"Late"') == 1
+        other.insert(cat, Late=cat)
+        other.undo(2)
+        assert other.cells(cat) and other.status().redo == 2
+
+
+def kinds_in_frames_that_are_dropped(program: str) -> None:
+    """A kind that a frame declares stays where the frame is dropped or refused, also in a store."""
+    with tempfile.TemporaryDirectory() as room:
+        path = f"{room}/level.db"
+        with scene.open(path, {"A": "Int"}, program) as world:
+            with suppress(KeyError), world.frame():
+                world.spawn(A=1)
+                world.declare("B", "Int")
+                raise KeyError
+            with suppress(Refused), world.frame():
+                world.declare("C", "Tag")
+                world.insert("7v9", A=1)
+            assert list(world.kinds()) == ["A", "B", "C"] and world.rows() == []
+        with scene.open(path, {"D": "Text"}, program) as world:
+            assert list(world.kinds()) == ["A", "B", "C", "D"] and world.status().kinds == 4
+            world.spawn(B=1, C=True, D="a b")
+            assert world.cells("0v1")["D"].value == "a b"
 
 
 def depths(begin: Begin) -> None:
@@ -171,7 +231,8 @@ def saves_change_nothing(begin: Begin) -> None:
         world.insert(cat, Name="c")
         assert world.changed() == [(cat, "Name")] and world.save() and world.listed_last() == [(cat, "Name")]
         with begin({"A": "Int"}) as other:
-            assert json.loads(other.save())["kinds"] == [["A", "Int"]] and is_bad(other.declare, "B", "Int")
+            assert json.loads(other.save())["kinds"] == [["A", "Int"]]
+            assert "over the shell at any time" in str(error_of(BadLine, other.declare, "B", "Int"))
         world.put("title", "a" * 67_108_864)
         assert told(refusal(world.save)) == (56, "TooLong", [], None)
         world.undo()
@@ -180,4 +241,4 @@ def saves_change_nothing(begin: Begin) -> None:
 
 BOTH = (declared_kinds, depths, worlds_alone)
 LIBRARY = (depths_at_any_time, systems_that_go_together, saves_change_nothing)
-PROGRAMS = (depths_of_shells,)
+PROGRAMS = (depths_of_shells, kinds_at_any_time, kinds_in_frames_that_are_dropped)

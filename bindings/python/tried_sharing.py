@@ -9,7 +9,7 @@ from scene import AddInt, BadLine, Calls, Closed, OtherThread, SceneError, Share
 from scene.header import SHARED
 from scene.library import LibraryScene, Moment
 from tried_library import calls_of, some_rows
-from trying import KINDS, Begin, error_of, is_bad, over_library, refusal, spawned, to_come
+from trying import KINDS, Begin, error_of, is_bad, is_set_up, over_library, refusal, spawned, to_come
 
 THREADS, ROUNDS, SECONDS = 4, 5, 60
 # What a shared scene refuses: all that changes it, and what is a line or a request.
@@ -249,7 +249,7 @@ def sharing_in_the_setup(begin: Begin) -> None:
             assert {name: reader.shape_of(name) for name in KINDS} == KINDS
             assert reader.rows() == [] and reader.status().kinds == len(KINDS) and reader.past_step() is None
         world.unshare()
-        assert str(error_of(BadLine, world.declare, "Late", "Tag")).startswith("the setup has ended")
+        assert is_set_up(world) and is_bad(world.declare, "Late", "Tag")
         assert spawned(world, Health=1) == "0v1"
 
 

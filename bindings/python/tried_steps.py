@@ -1,25 +1,19 @@
-"""What try_scene.py tries of what each frame did: its deltas, and a view of the library's scene that follows by them
-alone."""
+"""What try_scene.py tries of what each frame did: its deltas, and a view that follows by them alone."""
 from __future__ import annotations
 
-import ctypes
 import random
 import time
 from collections import Counter
 from typing import Any, Callable, Dict, List, Optional, Tuple
 
-from scene import AddInt, CountInto, DespawnAtZero, Entity, Refused, SpawnChild
-from scene import header
-from scene.deltas import LAYOUT
-from scene.library import Delta, KeptStep, LibraryScene
+from scene import AddInt, Calls, CountInto, Delta, DespawnAtZero, Entity, KeptStep, Refused, SpawnChild, StepSummary
 from trying import KINDS, UNUSUAL, Begin, error_of, is_bad, over_library, spawned
 
 
 def kept_steps(begin: Begin) -> None:
     """What each frame did is told in its order, before and behind what is there, and the same backward."""
-    with begin() as begun:
-        world = over_library(begun)
-        assert ctypes.sizeof(header.RawDelta) == LAYOUT.size and world.past_step() is None is world.future_step()
+    with begin() as world:
+        assert world.past_step() is None is world.future_step() and world.past() == [] == world.future()
         with world.frame():
             world.spawn(Health=0, At=(1, -2, 3), Target="7v9", Hidden=True, Name="")
             world.spawn(Health=1)
@@ -43,7 +37,7 @@ def kept_steps(begin: Begin) -> None:
         assert back[-1] == Delta("set", cat, "Health", -(2**63), 0) and KeptStep(1, back).undone() == second.deltas
         world.undo()
         assert (world.future_step(), world.future_step(1), world.future_step(2)) == (first, second, None)
-        bad_places(world)
+        assert world.future() == [StepSummary(0, 4), StepSummary(1, 9)] and world.past() == []
 
 
 def first_deltas(cat: Entity, dog: Entity) -> List[Delta]:
@@ -56,7 +50,7 @@ def first_deltas(cat: Entity, dog: Entity) -> List[Delta]:
     ]
 
 
-def some_changes(world: LibraryScene, cat: Entity, dog: Entity) -> None:
+def some_changes(world: Calls, cat: Entity, dog: Entity) -> None:
     """A frame that does all that a delta tells, but a spawn."""
     with world.frame():
         world.insert(cat, Health=-(2**63), Name="a\u65e5\0")
@@ -83,24 +77,54 @@ def second_deltas(cat: Entity, dog: Entity) -> List[Delta]:
     ]
 
 
-def bad_places(world: LibraryScene) -> None:
-    """A place of a step is a whole number from 0, and may be greater than any; and an open frame hides none."""
-    for step in (world.past_step, world.future_step):
-        assert step(2**64) is step(2**32) is None and is_bad(step, -1)
-        for wrong in (None, "0", 0.5, True):
-            error_of(TypeError, step, wrong)
-    world.redo()
-    before = world.past_step()
-    with world.frame():
-        world.spawn()
-        assert world.past_step() == before is not None
-    assert world.past_step(1) == before
+def places_of_steps(begin: Begin) -> None:
+    """A place of a step is a whole number from 0, and may be greater than any."""
+    with begin() as world:
+        spawned(world)
+        for step in (world.past_step, world.future_step):
+            assert step(2**64) is step(2**32) is None and is_bad(step, -1)
+            for wrong in (None, "0", 0.5, True):
+                error_of(TypeError, step, wrong)
+        for listing in (world.past, world.future):
+            assert listing(2**64) == listing(1, 2**70) == listing(0, 0) == [] and is_bad(listing, -1)
+            assert is_bad(listing, 0, -1)
+            for wrong in (None, "0", 0.5, True):
+                error_of(TypeError, listing, wrong)
+                error_of(TypeError, listing, 0, wrong)
+
+
+def lists_of_steps(begin: Begin) -> None:
+    """The frames that are kept are listed with their ticks and the counts of their deltas, from any place on."""
+    with begin() as world:
+        for number in range(30):
+            with world.frame():
+                for _ in range(number):
+                    world.spawn(Health=number)
+        told = [StepSummary(number, number) for number in range(30)]
+        assert world.past() == told[:9:-1] and world.past(count=100) == world.past(0, 2**40) == told[::-1]
+        assert world.past(3, 2) == [StepSummary(26, 26), StepSummary(25, 25)] and world.past(29) == told[:1]
+        assert world.past(30) == [] == world.future()
+        world.undo(7)
+        assert world.past(0, 1) == told[22:23] and world.future() == told[23:] and world.future(5, 9) == told[28:]
+        kept = world.past_step(2)
+        assert kept is not None and (kept.tick, len(kept.deltas)) == world.past(2, 1)[0] == told[20]
+
+
+def steps_in_frames(begin: Begin) -> None:
+    """Over the library an open frame hides no step."""
+    with begin() as begun:
+        world = over_library(begun)
+        spawned(world, Health=1)
+        before = world.past_step()
+        with world.frame():
+            world.spawn()
+            assert world.past_step() == before is not None
+        assert world.past_step(1) == before
 
 
 def texts_of_steps(begin: Begin) -> None:
     """Each text of a step is that of its delta, whatever was written since, and whatever its characters."""
-    with begin({"Name": "Text", "More": "Text"}) as begun:
-        world = over_library(begun)
+    with begin({"Name": "Text", "More": "Text"}) as world:
         one = spawned(world)
         texts = [str(text) for text in (*UNUSUAL, "two words\n", "long \u00e9" * 10_000, "a", "")]
         with world.frame():
@@ -124,8 +148,8 @@ def texts_of_steps(begin: Begin) -> None:
 def steps_of_many(begin: Begin) -> None:
     """A step of many rows is told whole, with the texts of each kind, as it came and as it went; in little time, which
     would be some seconds if each row and each text took a way through those before it."""
-    with begin({"Name": "Text", "At": "Vec3", "More": "Text"}) as begun:
-        world, many = over_library(begun), 10_000
+    with begin({"Name": "Text", "At": "Vec3", "More": "Text"}) as world:
+        many = 10_000
         with world.frame() as made:
             for number in range(many):
                 more = {"More": f"more {number}"} if number % 3 == 0 else {}
@@ -152,8 +176,7 @@ def steps_of_many(begin: Begin) -> None:
 
 def values_of_resources(begin: Begin) -> None:
     """A resource is told before and after, of whatever shape it was and is."""
-    with begin() as begun:
-        world = over_library(begun)
+    with begin() as world:
         before: Any = None
         for value in (True, -5, (1, -2, 3), "a b", Entity("7v9"), "7v9", "", None):
             if value is None:
@@ -244,7 +267,7 @@ class Follower:
             self.parents[entity] = parent
             self.children.setdefault(parent, []).insert(place, entity)
 
-    def compare(self, world: LibraryScene) -> None:
+    def compare(self, world: Calls) -> None:
         """The scene has just what this knows, in the same order."""
         order = sorted(self.tables, key=lambda kinds: sum(1 << list(KINDS).index(kind) for kind in kinds))
         wanted = [
@@ -272,7 +295,7 @@ def random_value(any_of: random.Random, kind: str) -> Any:
     return values.get(kind, Entity(f"{numbers[0]}v1"))
 
 
-def random_frame(world: LibraryScene, any_of: random.Random) -> None:
+def random_frame(world: Calls, any_of: random.Random) -> None:
     """A frame of commands about entities that are there or were, which is refused where one of them can't be."""
     named = [f"{any_of.randrange(20)}v{any_of.choice((1, 1, 2))}" for _ in range(6)]
     kinds = any_of.sample(list(KINDS), 2)
@@ -293,7 +316,7 @@ def random_frame(world: LibraryScene, any_of: random.Random) -> None:
             command()
 
 
-def random_step(world: LibraryScene, any_of: random.Random, do: str, count: int) -> None:
+def random_step(world: Calls, any_of: random.Random, do: str, count: int) -> None:
     """A step: a frame, an advance, inserts to many, or several frames back or forth."""
     if do == "frame":
         random_frame(world, any_of)
@@ -307,7 +330,7 @@ def random_step(world: LibraryScene, any_of: random.Random, do: str, count: int)
         getattr(world, do)(count)
 
 
-def deltas_of(world: LibraryScene, do: str, count: int) -> List[Delta]:
+def deltas_of(world: Calls, do: str, count: int) -> List[Delta]:
     """The deltas that lead on from the scene before a step."""
     step = world.future_step if do == "undo" else world.past_step
     kept = [step(place) for place in reversed(range(count if do in ("undo", "redo") else 1))]
@@ -318,8 +341,8 @@ def deltas_of(world: LibraryScene, do: str, count: int) -> List[Delta]:
 
 def steps_are_followed(begin: Begin) -> None:
     """A view by deltas alone has what the scene has behind each of many frames, advances, undos and redos."""
-    with begin() as begun:
-        world, any_of = over_library(begun), random.Random(7)
+    with begin() as world:
+        any_of = random.Random(7)
         world.add_system("age", AddInt("Health", -1), DespawnAtZero("Health"), CountInto("left"), need=["Health"])
         world.add_phase()
         world.add_system("birth", SpawnChild({"Name": "a \u65e5", "Health": 2}), need=["Hidden", "At"])
@@ -340,4 +363,12 @@ def steps_are_followed(begin: Begin) -> None:
         assert sum(done.values()) - done["refused"] >= 300, done
 
 
-LIBRARY = (kept_steps, texts_of_steps, steps_of_many, values_of_resources, steps_are_followed)
+BOTH = (
+    kept_steps,
+    places_of_steps,
+    lists_of_steps,
+    texts_of_steps,
+    values_of_resources,
+    steps_are_followed,
+)
+LIBRARY = (steps_in_frames, steps_of_many)

@@ -23,10 +23,12 @@ from typing import Any, Callable, Dict, Iterator, List, Optional, Tuple
 
 import scene
 import tried_calls
+import tried_questions
 import tried_settings
+import tried_steps
 import tried_writes
 from scene import BadLine, Calls, Closed, Ended, Entity, KindsDiffer, Refused, StoreError
-from trying import KINDS, TOP, UNUSUAL, Begin, error_of, is_bad, refusal, spawned, to_come, told
+from trying import KINDS, TOP, UNUSUAL, Begin, error_of, is_bad, is_set_up, refusal, spawned, to_come, told, wrapped
 
 PROGRAM = str(TOP / "crates/scene/out/scene")
 EXAMPLES = TOP / "examples"
@@ -317,7 +319,7 @@ def saves(begin: Begin) -> None:
             assert other.save() == saved and other.show() == world.show()
             other.redo()
             assert other.get(cat, "Health") == 5
-            assert is_bad(other.declare, "Late", "Tag")
+            assert is_set_up(other)
             assert other.spawn(Name="dog", Target=cat) == "1v1"
         with begin({}) as other:
             other.line(f"load {saved}")
@@ -365,7 +367,7 @@ def reasons(begin: Begin) -> None:
         assert str(error_of(BadLine, world.line, "jump")) == "no command is named jump"
         assert str(error_of(BadLine, world.line, "get 7")) == "`7` is no entity, as 0v1"
         world.show()
-        assert str(error_of(BadLine, world.declare, "Late", "Tag")).startswith("the setup has ended")
+        assert is_set_up(world)
         with world.frame():
             assert str(error_of(BadLine, world.undo)).startswith("a frame is open")
             long = "x" * 300_000
@@ -397,16 +399,6 @@ def names_of_faults(library: str) -> None:
     scene_of.close()
 
 
-@contextmanager
-def wrapped(program: str, before: str) -> Iterator[Tuple[str, Path]]:
-    """A program that does something before it becomes another one, and a folder for stores."""
-    with tempfile.TemporaryDirectory() as room:
-        path = Path(room) / "wrapped"
-        path.write_text(f'#!/bin/sh\ncd {room}\n{before}\nexec {program} "$@"\n')
-        path.chmod(0o700)
-        yield str(path), Path(room)
-
-
 def stores(program: str) -> None:
     """What a scene has done is there when its store is opened again, and one of two that open it at once is refused."""
     with tempfile.TemporaryDirectory() as room:
@@ -431,7 +423,8 @@ def stores(program: str) -> None:
 
 
 def kinds_of_stores(program: str) -> None:
-    """Kinds that a store has are asked for again without a word; others are told, and leave it as it was."""
+    """Kinds that a store has are asked for again without a word, those that it lacks are declared, and those of other
+    shapes are told and leave it as it was."""
     with tempfile.TemporaryDirectory() as room:
         path = f"{room}/level.db"
         with scene.open(path, {"Health": "Int"}, program):
@@ -445,12 +438,19 @@ def kinds_of_stores(program: str) -> None:
             shown = world.show()
         differs = error_of(KindsDiffer, scene.open, path, {"Name": "Text", "Health": "Text"}, program)
         assert (differs.number, differs.name) == (31, "KindTaken") and "Health" in str(differs)
-        differs = error_of(KindsDiffer, scene.open, path, {**KINDS, "Late": "Tag"}, program)
-        assert (differs.number, differs.name) == (5, "NoSuchKind") and "Late" in str(differs)
+        differs = error_of(KindsDiffer, scene.open, path, {"Late": "Tag", **KINDS, "Health": "Link"}, program)
+        assert (differs.number, differs.name) == (31, "KindTaken") and "Health" in str(differs)
+        differs = error_of(KindsDiffer, scene.open, path, {**KINDS, "a b": "Tag"}, program)
+        assert (differs.number, differs.name) == (30, "BadName") and "a b" in str(differs)
         with scene.open(path, program=program) as world:
             assert world.show() == shown and world.shape_of("Late") is None
             assert "Helth" in str(error_of(BadLine, world.spawn, Helth=1))
             world.spawn(Health=2)
+        with scene.open(path, {**KINDS, "Late": "Tag"}, program) as world:
+            assert world.kinds() == {**KINDS, "Late": "Tag"} and len(world.rows()) == 2
+            world.spawn(Late=True)
+        with scene.open(path, program=program) as world:
+            assert world.get("2v1", "Late") is True and list(world.kinds())[-1] == "Late"
         # A scene that is loaded brings its own kinds.
         with scene.open(kinds={"A": "Int"}, program=program) as world:
             text = world.line("dump")[0]
@@ -680,7 +680,9 @@ BOTH = (
     reasons,
     refused_lines,
     *tried_calls.BOTH,
+    *tried_questions.BOTH,
     *tried_settings.BOTH,
+    *tried_steps.BOTH,
     *tried_writes.BOTH,
 )
 PROGRAMS = (
@@ -691,6 +693,7 @@ PROGRAMS = (
     interrupted_calls,
     notes,
     examples_twice,
+    *tried_questions.PROGRAMS,
     *tried_settings.PROGRAMS,
 )
 
@@ -700,10 +703,9 @@ def of_library(path: str, library: Begin) -> List[Tuple[str, Callable[..., None]
     # (a Python without ctypes has the shell)
     import tried_library  # pylint: disable=import-outside-toplevel
     import tried_sharing  # pylint: disable=import-outside-toplevel
-    import tried_steps  # pylint: disable=import-outside-toplevel
 
-    own = [one for tried in (tried_library, tried_sharing, tried_steps) for one in tried.LIBRARY]
-    own += [*tried_settings.LIBRARY, *tried_writes.LIBRARY]
+    modules = (tried_library, tried_sharing, tried_settings, tried_steps, tried_writes)
+    own = [one for tried in modules for one in tried.LIBRARY]
     of_path = (library_example, names_of_faults, tried_library.header_is_whole, frames_example)
     names = sorted(found.stem for found in EXAMPLES.glob("*.scene") if is_run(found.stem))
     return [

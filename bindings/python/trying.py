@@ -1,8 +1,10 @@
 """What the tests of the Python scenes share: how an error is asked for, and what is tried on the way."""
 from __future__ import annotations
 
+import tempfile
+from contextlib import contextmanager
 from pathlib import Path
-from typing import TYPE_CHECKING, Any, Callable, List, Optional, Tuple, Type, TypeVar
+from typing import TYPE_CHECKING, Any, Callable, Iterator, List, Optional, Tuple, Type, TypeVar
 
 from scene import BadLine, Calls, Entity, Refused, Spawned
 
@@ -43,6 +45,17 @@ def is_bad(call: Callable[..., Any], /, *words: Any, **cells: Any) -> bool:
     return False
 
 
+def is_set_up(world: Calls) -> bool:
+    """Whether the setup is over, or a scene is loaded: then a line `kind` is bad. Else it declares a kind."""
+    words = ("the setup has ended", "a scene is loaded")
+    try:
+        world.request("kind", name="LateKind", shape="Tag")
+    except BadLine as bad:
+        assert str(bad).startswith(words), bad
+        return True
+    return False
+
+
 def told(refused: Refused) -> Tuple[int, str, List[str], Optional[Tuple[int, ...]]]:
     """All that a refusal tells."""
     return refused.number, refused.name, refused.fields, refused.place
@@ -69,3 +82,13 @@ def to_come(world: Calls, **cells: Any) -> Spawned:
     entity = world.spawn(**cells)
     assert isinstance(entity, Spawned)
     return entity
+
+
+@contextmanager
+def wrapped(program: str, before: str) -> Iterator[Tuple[str, Path]]:
+    """A program that does something before it becomes another one, and a folder for stores."""
+    with tempfile.TemporaryDirectory() as room:
+        path = Path(room) / "wrapped"
+        path.write_text(f'#!/bin/sh\ncd {room}\n{before}\nexec {program} "$@"\n')
+        path.chmod(0o700)
+        yield str(path), Path(room)

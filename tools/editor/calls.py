@@ -1,8 +1,14 @@
-"""What of a session's call goes to the shell, and in which order: its own lines, and those by which the hub knows what
-they did."""
-from typing import NamedTuple, Optional
+"""What of a session's call goes to the shell, and in which order: its own lines, and behind each that may change the
+world the questions that tell what it did."""
+import json
+from dataclasses import dataclass
+from typing import Callable, Dict, List, Optional, Tuple
 
-from commands import COMMANDS, word_of
+from commands import FRAMES, TURNS
+from line_requests import is_open_behind, read, word_of
+from questions import answer_word, behind
+from request_forms import DROP_FRAME, QUESTIONS
+from texts import compact
 
 KEPT_FROM_TABS = {
     "as": "each tab is a session of its own",
@@ -11,19 +17,21 @@ KEPT_FROM_TABS = {
     "added": "the editor keeps the cursor",
 }
 UNBALANCED = "the lines aren't balanced: each begin needs its commit, and nothing was done"
-CURSOR = ("changed", "added", "mark")
-FRAMES = COMMANDS | {"commit", "advance"}
-ASKING = ("", "get", "show", "history", "dump", "dumpall")
+EndsAt = Callable[[List[str]], Optional[int]]
+ASKING = frozenset(("", "get", "show", "history", "dump", "dumpall", DROP_FRAME, *QUESTIONS))
 
 
-class Sent(NamedTuple):
-    """A line that goes to the shell, and its place in the call, or None for one of the hub's own."""
+@dataclass
+class Sent:
+    """A line that goes to the shell, its place in the call, or None for one of the hub's own, and the questions that go
+    behind it."""
 
     line: str
     place: Optional[int]
+    behind: Tuple[str, ...] = ()
 
 
-def refusal(line, word):
+def refusal(line: str, word: str) -> Optional[str]:
     """Why a line isn't sent, or None."""
     if "\n" in line:
         return "a line has no line break"
@@ -34,66 +42,105 @@ def refusal(line, word):
     return KEPT_FROM_TABS.get(word)
 
 
-def is_balanced(words):
-    """Whether each `begin` has its `commit`, and there is no other `commit`."""
+def is_balanced(words: List[str]) -> bool:
+    """Whether each `begin` has its `commit`, or is dropped, and there is no other `commit`."""
     is_open = False
     for word in words:
         if word == "begin" and is_open or word == "commit" and not is_open:
             return False
-        is_open = (is_open or word == "begin") and word != "commit"
+        is_open = is_open_behind(word, is_open)
     return not is_open
 
 
 class Call:
-    """A call's lines: what is sent of them, and its answers. `turn` is a line to send before those that do more than
-    ask, if one is needed; it is kept in the store, as they are. `ends_at` is for the setup alone: it gives of lines the
-    place of that which ends it, before which there can be no turn."""
+    """A call's lines: what is sent of them, and its answers as JSON. `turn` is a line to send before those that do more
+    than ask, if one is needed; it is kept in the store, as they are. `held` says how many frames can be undone, and
+    redone, whose records are held. `ends_at` is for the setup alone: it gives of lines the place of that which ends it,
+    before which there can be no turn."""
 
-    def __init__(self, lines, turn=None, ends_at=None):
+    def __init__(self, lines: List[str], turn: Optional[str], held: Tuple[int, int], ends_at: Optional[EndsAt]) -> None:
+        self.held = dict(zip(TURNS, held))
         # The shell drops a carriage return at the end of a line, but for a space behind it.
-        lines = [f"{line} " if line.endswith("\r") else line for line in lines]
-        words = list(map(word_of, lines))
-        self.answers = [refused(line, word) for line, word in zip(lines, words)]
-        self.sent = []
+        self.lines = [f"{line} " if line.endswith("\r") else line for line in lines]
+        self.words = list(map(word_of, self.lines))
+        self.answers = [refused(line, word) for line, word in zip(self.lines, self.words)]
+        self.sent: List[Sent] = []
         if self.answers and self.answers[0]:
             self.answers = self.answers[:1] * len(lines)
-        elif not is_balanced(words):
+        elif not is_balanced(self.words):
             self.answers = [bad(UNBALANCED)] * len(lines)
         else:
-            own = [place for place, answer in enumerate(self.answers) if answer is None]
-            setup, own = self.parted(own, lines, ends_at)
-            turns = turn is not None and any(words[place] not in ASKING for place in own)
-            sent = [Sent(lines[place], place) for place in setup] + [Sent(turn, None)] * turns
-            # in the setup the hub asks nothing, since that would end it
-            self.send(sent, own, lines, words, () if ends_at else CURSOR)
+            self.send([place for place, answer in enumerate(self.answers) if answer is None], turn, ends_at)
 
-    @staticmethod
-    def parted(own, lines, ends_at):
+    def send(self, own: List[int], turn: Optional[str], ends_at: Optional[EndsAt]) -> None:
+        setup, rest = ([], own) if ends_at is None else self.parted(own, ends_at)
+        self.sent = [Sent(self.lines[place], place) for place in setup]
+        if turn is not None and any(self.words[place] not in ASKING for place in rest):
+            self.sent.append(Sent(turn, None))
+        # in the setup the hub asks nothing, since that would end it
+        questions = self.questions(rest) if ends_at is None else [()] * len(rest)
+        self.sent += [Sent(self.lines[place], place, asked) for place, asked in zip(rest, questions)]
+
+    def parted(self, own: List[int], ends_at: EndsAt) -> Tuple[List[int], List[int]]:
         """The places of the lines of the setup, and of those behind it."""
-        if ends_at is None:
-            return [], own
-        place = ends_at([lines[place] for place in own])
-        return (own, []) if place is None else (own[:place], own[place:])
+        end = ends_at([self.lines[place] for place in own])
+        return (own, []) if end is None else (own[:end], own[end:])
 
-    def send(self, sent, own, lines, words, cursor):
-        """Looks by the cursor behind frames, before an undo or a redo spoils it and at the end, and marks anew then."""
-        asks = [Sent(line, None) for line in cursor]
-        frames = False
-        for place in own:
-            if words[place] in ("undo", "redo"):
-                sent += asks * frames
-                frames = False
-            sent.append(Sent(lines[place], place))
-            if words[place] in ("undo", "redo"):
-                sent += asks[-1:]
-            frames = frames or words[place] in FRAMES
-        self.sent = sent + asks * frames
+    def questions(self, places: List[int]) -> List[Tuple[str, ...]]:
+        """The questions behind each line. While a frame is open none can be asked."""
+        questions, is_open = [], False
+        for word in (self.words[place] for place in places):
+            is_open = is_open_behind(word, is_open)
+            is_asked = not is_open and (word in FRAMES or word in TURNS)
+            questions.append(behind(word, self.is_held(word)) if is_asked else ())
+        return questions
+
+    def is_held(self, word: str) -> bool:
+        """Whether an undo or a redo comes to a record that is held, as far as is known before."""
+        if word not in TURNS:
+            return False
+        self.held[word] -= 1
+        return self.held[word] >= 0
+
+    def to_ask(self) -> List[str]:
+        return [line for sent in self.sent for line in (sent.line, *sent.behind)]
+
+    def answer(self, sent: Sent, answer: str) -> None:
+        if sent.place is not None:
+            self.answers[sent.place] = answer
+
+    # Refusals
+
+    def name_refused(self, shapes: Dict[str, str]) -> None:
+        """Gives each refusal the request that it came at."""
+        for place, text in enumerate(self.answers):
+            if answer_word(text) == "refused":
+                answer = json.loads(text)
+                answer["request"] = read(self.refused_line(place, answer.get("place")), shapes)
+                self.answers[place] = compact(answer)
+
+    def refused_line(self, place: int, at: Optional[Dict[str, int]]) -> str:
+        """The line at fault of one that was refused: of a `commit` the command of its frame."""
+        if self.words[place] != "commit" or at is None:
+            return self.lines[place]
+        return self.queues_before(place)[at["queue"]][at["command"]]
+
+    def queues_before(self, commit: int) -> List[List[str]]:
+        queues: List[List[str]] = [[]]
+        begin = max(place for place in range(commit) if self.words[place] == "begin")
+        for place in range(begin + 1, commit):
+            answer = answer_word(self.answers[place])
+            if answer == "queued":
+                queues[-1].append(self.lines[place])
+            elif answer == "ok" and self.words[place] == "queue":
+                queues.append([])
+        return queues
 
 
-def bad(reason):
-    return {"answer": "bad", "reason": reason}
+def bad(reason: str) -> str:
+    return compact({"answer": "bad", "reason": reason})
 
 
-def refused(line, word):
+def refused(line: str, word: str) -> Optional[str]:
     reason = refusal(line, word)
     return None if reason is None else bad(reason)

@@ -1,42 +1,35 @@
-"""Between tabs and the shell: one lock, one shell, and the model of its scene."""
+"""Between tabs and the shell: one lock, one shell, and what is known of its scene."""
+import json
 import sys
 import threading
 import time
 from collections import deque
+from itertools import islice
 
 from calls import Call
 from events import Events, event_bytes
 from files import Files
-from model import Model
-from own_links import with_own_links
+from model import FAR, Model
+from own_links import OwnLinks
 from played_scene import Trouble
+from questions import get_of
+from reading import read_all, read_words, scene_text, with_records
 from sessions import Sessions
 from setup_end import place_of_end
 from shell import Gone, Shell
 from stored import log_of, store_fault
-from texts import compact, json_text
+from texts import exact_text, json_text, with_part
+from timeline import Timeline
 
 MOST_BEGUN, SECONDS_BEGUN = 2, 10
 SECONDS_TO_CLOSE = 5
-READS = ("dumpall", "dump")
 SCRIPTS_TURN = "as 0"
-
-
-def read_all(shell, model):
-    """Has a model read the whole scene, or the world alone where the text of all would be too long; and marks this
-    moment."""
-    for line in READS:
-        scene, _ = shell.ask([line, "mark"])
-        if scene["answer"] == "scene":
-            model.load(scene["text"])
-            return
-    raise Trouble("the world's text is too long for the editor")
 
 
 def end_loaded_setup(shell, model):
     """Ends a setup in which a scene was loaded: its kinds are complete, and it is to be seen."""
     if model.in_setup and model.is_loaded:
-        model.hear_own(SCRIPTS_TURN, *shell.ask([SCRIPTS_TURN]))
+        model.hear(SCRIPTS_TURN, *shell.ask([SCRIPTS_TURN]), ())
 
 
 class Hub:
@@ -142,23 +135,37 @@ class Hub:
         text = f'{{"sort":"whole","words":{json_text(words)},"scene":{self.whole(self.events.last + 1)}}}'
         self.events.add(text)
 
+    def world_text(self):
+        """The text of the world, or None where there is none now."""
+        model = self.model
+        if model.text is None and model.is_open and self.is_here:
+            try:
+                text = scene_text(self.shell, "dump")
+                model.text = text and exact_text(text)
+            except Gone:
+                # who listens for its end tells it
+                pass
+        return model.text
+
     def whole(self, sequence):
         """All that a tab has to know, as JSON."""
-        model, world = self.model, self.model.world
-        return json_text({
+        model, world = self.model, self.world_text()
+        timeline = model.timeline if world is not None else Timeline()
+        past, future = timeline.past, timeline.future
+        told = json_text({
             "sequence": sequence,
-            "kinds": model.kinds if world is None else world.kinds,
+            "kinds": model.kinds,
             "setup": model.in_setup,
-            "text": None if world is None else world.scene(),
-            "frames": [] if world is None else world.frames(),
-            "position": 0 if world is None else len(world.past),
-            "older": 0 if world is None else len(world.older),
-            "later": 0 if world is None else len(world.later),
-            "phases": model.phases,
+            "frames": [frame.said(model.kinds) for frame in timeline.near()],
+            "position": past.held,
+            "older": past.far,
+            "later": future.far,
+            "phases": model.requests_of_phases(),
             "sessions": self.sessions.numbers(),
             "shell": "here" if self.is_here else "gone",
             "store": self.store.name,
         })  # fmt: skip
+        return with_part(told, "text", "null" if world is None else with_records(world, timeline))
 
     def whole_event(self):
         """All, for a stream whose cursor is too old, and the cursor of it."""
@@ -223,15 +230,11 @@ class Hub:
             self.seat(session)
             if not self.is_here:
                 return json_text({"gone": True})
-            stale = self.model.is_stale(seen)
-            if stale:
-                return json_text({"stale": stale})
-            lines = with_own_links(self.model, lines)
-            self.model.call_words = words
-            turn = f"as {session}" if session != self.model.turn else None
             try:
-                call = Call(lines, turn, self.place_of_end if self.model.in_setup else None)
-                self.play(call)
+                stale = self.first_stale(seen)
+                if stale is not None:
+                    return json_text({"stale": stale})
+                answers = self.play(self.with_own_links(lines), session, words)
             except Gone:
                 return json_text({"gone": True})
             except Trouble as trouble:
@@ -239,15 +242,40 @@ class Hub:
                 self.is_gone(f"{trouble}; it isn't begun again")
                 shell.close()
                 return json_text({"gone": True})
-            return json_text({"answers": call.answers})
+            return f'{{"answers":[{",".join(map(exact_text, answers))}]}}'
+
+    def first_stale(self, seen):
+        """The first of cells, each an entity, a kind and the tick of its change, that has changed since; or None."""
+        if not self.model.is_open:
+            return None
+        rows = self.shell.ask([get_of(entity) for entity, _, _ in seen])
+        for (entity, kind, tick), row in zip(seen, rows):
+            cell = json.loads(row).get("cells", {}).get(kind)
+            if cell is not None and str(cell[2]) != str(tick):
+                return entity, kind
+        return None
+
+    def with_own_links(self, lines):
+        """The lines with entities for links `+K` of a copy within itself."""
+        links = OwnLinks(self.model.shapes, lines)
+        if not links.found or not self.model.is_open:
+            return lines
+        world = scene_text(self.shell, "dump")
+        return lines if world is None else links.lines_in(self.program, world)
 
     def frames(self, after, first, count):
-        """Frames as `Timeline.frames_from` has them, for a tab that has seen all events up to one."""
+        """So many frames from one on, for a tab that has seen all events up to one: 0 is the newest of the past, and 1
+        the next of the future. Tells which is the first of those that there are, too."""
         with self.lock:
-            if after != self.events.last or self.model.world is None:
+            if after != self.events.last or not self.model.is_open or not self.is_here:
                 return json_text({"again": True})
-            begin, frames = self.model.world.frames_from(first, count)
-            return json_text({"first": begin, "frames": frames})
+            places = self.model.timeline.places_from(first, count)
+            try:
+                read_words(self.shell, self.model, places)
+            except Gone:
+                return json_text({"again": True})
+            frames = [self.model.timeline.frame_at(place).said(self.model.kinds) for place in places]
+            return json_text({"first": places.start, "frames": frames})
 
     def scene_text(self, line):
         """The scene text that a line prints, or None where there is none."""
@@ -255,42 +283,44 @@ class Hub:
             if not self.is_here or self.model.in_setup:
                 return None
             try:
-                answer = self.shell.ask([line])[0]
+                return scene_text(self.shell, line)
             except Gone:
                 return None
-            return compact(answer["text"]) if answer["answer"] == "scene" else None
 
     def place_of_end(self, lines):
         return place_of_end(self.program, self.model.kinds, lines)
 
-    def play(self, call):
-        if not call.sent:
-            return
-        answers = self.shell.ask([sent.line for sent in call.sent])
-        for (line, place), answer in zip(call.sent, answers):
-            if place is None:
-                self.model.hear_own(line, answer)
-            else:
-                self.model.hear(line, answer)
-                call.answers[place] = answer
-        end_loaded_setup(self.shell, self.model)
-        gets = self.model.to_get()
-        for line, answer in zip(gets, self.shell.ask(gets)):
-            self.model.hold_row(line, answer)
-        self.settle()
+    def play(self, lines, session, words):
+        """Plays the lines of a session, and answers them as JSON."""
+        model, timeline = self.model, self.model.timeline
+        turn = f"as {session}" if session != model.turn else None
+        held = timeline.past.held, timeline.future.held
+        call = Call(lines, turn, held, self.place_of_end if model.in_setup else None)
+        if call.sent:
+            model.call_words = words
+            answers = iter(self.shell.ask(call.to_ask()))
+            for sent in call.sent:
+                answer, *behind = islice(answers, 1 + len(sent.behind))
+                model.hear(sent.line, answer, behind)
+                call.answer(sent, answer)
+            end_loaded_setup(self.shell, model)
+            self.settle()
+        call.name_refused(model.shapes)
+        return call.answers
 
     def settle(self):
-        """Tells what happened; where the model isn't what it has to be, all is read and told again."""
-        for event in self.model.take_events():
+        """Tells what happened; where it isn't known, all is read and told again."""
+        model = self.model
+        for event in model.take_events():
             self.events.add(event)
-        words = self.model.difference or self.model.news
+        words = model.difference or model.news
         if words is None:
             return
-        if self.model.difference:
+        if model.difference not in (None, FAR):
             print(f"scene: edit: {words}; all is read again", file=sys.stderr, flush=True)
-        if not self.model.in_setup:
-            read_all(self.shell, self.model)
-        self.model.news = None
+        if not model.in_setup:
+            read_all(self.shell, model)
+        model.news = None
         self.tell_whole(words)
 
     def close(self):

@@ -1,183 +1,126 @@
-"""The scene as the editor knows it: it follows what lines came to, makes each frame's record, and is held to what the
-program says by its cursor."""
-from commands import apply_queue
-from stored import Log
-from systems import advance
-from texts import json_text
-from timeline import MOST_DEPTH, Frame, Timeline
-from words import words_of_advance, words_of_frame
+"""The scene as the editor follows it: what each step did, as the shell tells it, goes on to the tabs. The world itself
+is the shell's alone."""
+from typing import List, Optional, Sequence
 
-MOST_GOT = 500
-# What a model that differs from the program may stumble over.
-STUMBLES = (LookupError, TypeError, ValueError, AttributeError)
+from line_requests import read
+from questions import Moved, answer_word, moved_of
+from stored import Log
+from texts import json_text, with_part
+from timeline import Frame, Side
+
+FAR = "frames farther off are read again"
 
 
 class Model(Log):
-    """In the setup, and where it was lost, there is no world, and only the frames' words are followed, as of a log.
+    """In the setup, and until it is opened, only what a log tells is followed.
 
-    `events` has what happened since they were taken, as JSON. All has to be read again where there are `news` of the
-    setup or of records that aren't held, or a `difference` between the world and that of the program."""
+    `events` has what happened since they were taken, as JSON. All has to be told anew where there are `news` of the
+    setup, or a `difference` between what the shell says and what is known. `text` is that of the world, or None where
+    it isn't known any more."""
 
-    def __init__(self):
+    def __init__(self) -> None:
         super().__init__()
-        self.world, self.events, self.news, self.difference = None, [], None, None
-        self.unmarked, self.marked_tick, self.touched = [], 0, {}
-        self.call_words = None
+        self.is_open, self.text = False, None
+        self.events: List[str] = []
+        self.news: Optional[str] = None
+        self.difference: Optional[str] = None
+        self.call_words: Optional[str] = None
 
-    def load(self, scene):
-        """Takes the world of a scene text, with the frames' words as far as they are known."""
-        self.keep_frames()
-        self.world = Timeline(scene, self.frames_of(scene), self.depth or MOST_DEPTH)
-        self.set_kinds(self.world.kinds)
-        self.mark()
-        self.touched, self.news, self.difference = {}, None, None
+    def opened(self, kinds: List[List[str]], text: str) -> None:
+        """All is read, and frames are followed by their steps from now on."""
+        self.kinds, self.text, self.is_open = kinds, text, True
+        self.news = self.difference = None
 
-    def keep_frames(self):
-        if self.world is not None:
-            self.past, self.future = self.world.all_frames()
-        self.world = None
+    def lose(self, why: str) -> None:
+        """Follows no steps until all is read again."""
+        self.difference, self.is_open = why, False
 
-    def lose(self, why):
-        """Goes on without a world until all is read again."""
-        self.keep_frames()
-        self.difference = why
+    def requests_of_phases(self) -> List[List[dict]]:
+        return [[read(line, self.shapes) for line in phase] for phase in self.phases]
 
     # What happens
 
-    def on_setup(self):
+    def hear(self, line: str, answer: str, behind: Sequence[str]) -> None:
+        """Follows a line and its answer."""
+        self.follow(line, answer_word(answer), behind)
+
+    def on_setup(self) -> None:
         self.news = "the setup changed" if self.in_setup else "the setup has ended"
 
-    def on_phases(self):
-        if self.world is not None:
-            self.tell(sort="phases", session=self.turn, phases=self.phases)
+    def on_kind(self) -> None:
+        # (the world's text has the kinds)
+        self.text = None
+        if self.is_open:
+            self.tell({"sort": "kinds", "session": self.turn, "kinds": self.kinds})
 
-    def on_frame(self, queues, entities):
-        words = [self.call_words] if self.call_words else words_of_frame(self.shapes, queues, entities)
-        frame = Frame(self.turn, words)
-        self.made(frame, entities, lambda: [apply_queue(self.world, queue) for queue in queues])
+    def on_phases(self) -> None:
+        if self.is_open:
+            self.tell({"sort": "phases", "session": self.turn, "phases": self.requests_of_phases()})
 
-    def on_advance(self, entities):
-        self.made(Frame(self.turn, words_of_advance(self.phases)), entities, lambda: advance(self.world, self.phases))
+    def tell(self, event: dict, record: Optional[str] = None) -> None:
+        text = json_text(event)
+        self.events.append(text if record is None else with_part(text, "record", record))
 
-    def made(self, frame, entities, do):
-        """A frame was accepted: the world does it too, and its record is told."""
-        if self.world is not None:
-            try:
-                self.world.begin()
-                do()
-                record = self.world.finish()
-            except STUMBLES as stumble:
-                self.lose(f"the editor couldn't follow a frame ({type(stumble).__name__} {stumble})")
-            else:
-                self.tell_frame(frame, record)
-                self.hold(entities, spawned(record), "the entities spawned")
-                return
-        self.past.append(frame)
-        self.future = []
+    def moved(self, behind: Sequence[str]) -> Optional[Moved]:
+        """What a step did; None where the model isn't open, or has to be read anew."""
+        self.text = None
+        if not self.is_open:
+            return None
+        moved = moved_of(behind) if behind else None
+        if moved is None:
+            self.lose("a step wasn't told")
+        return moved
 
-    def tell(self, **event):
-        self.events.append(json_text(event))
-
-    def tell_frame(self, frame, record):
-        """The record, which may be large, is made a text once."""
-        text = json_text(record)
-        dropped = self.world.add(record, frame, len(text))
-        event = json_text({"sort": "frame", "session": frame.session, "words": frame.words, "dropped": dropped})
-        self.events.append(f'{event[:-1]},"record":{text}}}')
-        self.unmarked.append(record)
-
-    def on_undo(self):
-        if self.world is not None and self.world.past:
-            self.world.undo()
-            self.tell(sort="undo", session=self.turn)
-        else:
-            self.read_far()
-            super().on_undo()
-
-    def on_redo(self):
-        if self.world is not None and self.world.future:
-            self.tell(sort="redo", session=self.turn, dropped=self.world.redo())
-        else:
-            self.read_far()
-            super().on_redo()
-
-    def read_far(self):
-        """A record is needed that isn't held."""
-        if self.world is not None:
-            self.keep_frames()
-            self.news = "frames farther off are read again"
-
-    # What the program says
-
-    def hold(self, said, known, what):
-        """Loses the world where the program says otherwise than it."""
-        if list(said) != list(known) and self.world is not None:
-            self.lose(f"the editor and the program differed in {what}")
-
-    def mark(self):
-        """The program has marked this moment; what was touched since the mark before is to be got."""
-        for record in self.unmarked:
-            self.touched.update(dict.fromkeys(delta["entity"] for delta in record["deltas"] if "entity" in delta))
-        self.unmarked = []
-        self.marked_tick = self.world.tick if self.world is not None else 0
-
-    def hold_cells(self, answer):
-        """Holds the cells that records wrote since the mark to those of the cursor, if no undo came between."""
-        if self.world is None or answer["answer"] not in ("changed", "added"):
+    def on_done(self, words: Optional[List[str]], behind: Sequence[str]) -> None:
+        moved = self.moved(behind)
+        if moved is None or moved.deltas is None:
+            super().on_done(words, behind)
             return
-        tick_at = 2 if answer["answer"] == "changed" else 1
-        entities = {delta["entity"] for record in self.unmarked for delta in record["deltas"] if "entity" in delta}
-        known = {
-            (entity, name) for entity in entities for name, cell in self.world.cells.get(entity, {}).items()
-            if cell[tick_at] > self.marked_tick
-        }  # fmt: skip
-        said = {(cell["entity"], cell["kind"]) for cell in answer["cells"]}
-        self.hold(sorted(said), sorted(known), f"the cells {answer['answer']}")
+        words = [self.call_words] if self.call_words else words
+        frame = Frame(self.turn, words, moved.tick, moved.count, moved.deltas)
+        said = frame.said(self.kinds)
+        record, past = frame.record(), self.timeline.past
+        self.timeline.add(frame)
+        dropped = self.timeline.shrink(past) + past.cut(moved.length)
+        self.tell({"sort": "frame", **said, "dropped": dropped}, record)
+        self.hold(past, moved)
 
-    def hear(self, line, answer):
-        """Follows a line of a session and its answer; a refusal gets the request that it came at."""
-        frame, place = self.frame, answer.get("place")
-        try:
-            request = self.follow(line, answer["answer"], answer.get("entities", ()))
-            if answer["answer"] == "refused":
-                is_of_frame = frame is not None and place is not None
-                answer["request"] = frame[place["queue"]][place["command"]] if is_of_frame else request
-        except STUMBLES as stumble:
-            self.lose(f"the editor couldn't follow a line ({type(stumble).__name__} {stumble})")
-
-    def hear_own(self, line, answer):
-        """Follows a line of the hub's own."""
-        if answer["answer"] == "mark":
-            self.mark()
-        elif line in ("changed", "added"):
-            self.hold_cells(answer)
+    def on_undone(self, behind: Sequence[str]) -> None:
+        moved, timeline = self.moved(behind), self.timeline
+        if moved is None:
+            super().on_undone(behind)
         else:
-            self.hear(line, answer)
+            self.turned("undo", timeline.past, timeline.future, moved)
 
-    def to_get(self):
-        """The lines that get what was touched, so many at most."""
-        entities = list(self.touched)[:MOST_GOT] if self.world is not None else []
-        self.touched = {}
-        return [f"get {entity}" for entity in entities]
+    def on_redone(self, behind: Sequence[str]) -> None:
+        moved, timeline = self.moved(behind), self.timeline
+        if moved is None:
+            super().on_redone(behind)
+        else:
+            self.turned("redo", timeline.future, timeline.past, moved)
 
-    def hold_row(self, line, answer):
-        """Holds a row to that of the program, or its being gone."""
-        if self.world is not None:
-            entity = line.split()[1]
-            self.hold([answer.get("cells")], [self.world.cells.get(entity)], f"the row of {entity}")
+    def turned(self, sort: str, source: Side, target: Side, moved: Moved) -> None:
+        """A frame went from one side to the other. Tabs hold the record of one that is held."""
+        frame = source.pop()
+        event, record = {"sort": sort, "session": self.turn}, None
+        if frame.deltas is None:
+            frame.tick, frame.count, frame.deltas = moved.tick, moved.count, moved.deltas
+            if frame.deltas is None:
+                target.push(frame)
+                self.lose(FAR)
+                return
+            event["frame"], record = frame.said(self.kinds), frame.record()
+        target.push(frame)
+        dropped = self.timeline.shrink(target) + target.cut(moved.length)
+        self.tell({**event, "dropped": dropped}, record)
+        self.hold(target, moved)
 
-    def is_stale(self, seen):
-        """The first of cells, each an entity, a kind and the tick of its change, that has changed since; or None."""
-        for entity, kind, tick in seen if self.world is not None else ():
-            cell = self.world.cells.get(entity, {}).get(kind)
-            if cell is not None and str(cell[2]) != str(tick):
-                return entity, kind
-        return None
+    def hold(self, side: Side, moved: Moved) -> None:
+        """Holds what is known to what the shell says."""
+        nearest = side.frames[-1]
+        if (len(side.frames), nearest.tick, nearest.count) != (moved.length, moved.tick, moved.count):
+            self.lose("the editor and the program differed in a frame")
 
-    def take_events(self):
+    def take_events(self) -> List[str]:
         events, self.events = self.events, []
         return events
-
-
-def spawned(record):
-    return [delta["entity"] for delta in record["deltas"] if delta["op"] == "spawned"]

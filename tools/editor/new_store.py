@@ -5,7 +5,7 @@ import sys
 import tempfile
 from pathlib import Path
 
-from commands import word_of
+from line_requests import word_of
 from played_scene import Trouble, is_scene_text, load_line
 from stored import StoreFault, store_fault
 

@@ -1,10 +1,9 @@
 """Which line ends the setup. Before that one a tab says who it is, since to say so ends the setup too."""
-import json
-import subprocess
-
-from commands import word_of
-from follower import SETUP
+from commands import SETUP
+from line_requests import word_of
 from played_scene import Trouble
+from questions import answer_word
+from shell import played_alone
 
 NO_END = ("bad", "nothing")
 
@@ -15,15 +14,10 @@ def place_of_end(program, kinds, lines):
     if all(word_of(line) in SETUP for line in lines):
         return None
     known = [f"kind {name} {shape}" for name, shape in kinds]
-    given = "".join(f"{line}\n" for line in (*known, *lines)).encode()
-    try:
-        played = subprocess.run([program, "shell", "--json"], input=given, capture_output=True, check=False)
-    except OSError as error:
-        raise Trouble(f"{program} can't be run: {error.strerror}") from None
-    answers = played.stdout.split(b"\n")[len(known) : -1]
+    answers = played_alone(program, [*known, *lines])[len(known) :]
     if len(answers) != len(lines):
         raise Trouble("the program can't say which line ends the setup")
     for place, (line, answer) in enumerate(zip(lines, answers)):
-        if word_of(line) not in SETUP and json.loads(answer)["answer"] not in NO_END:
+        if word_of(line) not in SETUP and answer_word(answer) not in NO_END:
             return place
     return None

@@ -1,11 +1,11 @@
 """The program's shell as a process: lines go in, and each is answered by a line of JSON (docs/SHELL.md, "JSON")."""
-import json
 import subprocess
 import sys
 import threading
 from collections import deque
 
 from played_scene import Trouble
+from questions import BEGINNING
 
 SECONDS_TO_END = 5
 LINES_TOLD = 20
@@ -21,6 +21,16 @@ def pass_on(line):
         print(line.decode(errors="replace").rstrip("\n"), file=sys.stderr, flush=True)
     except (OSError, ValueError):
         pass
+
+
+def played_alone(program, lines):
+    """The answers to lines of a shell without a store, so many as there are, as JSON text."""
+    given = "".join(f"{line}\n" for line in lines).encode(errors="replace")
+    try:
+        played = subprocess.run([program, "shell", "--json"], input=given, capture_output=True, check=False)
+    except OSError as error:
+        raise Trouble(f"{program} can't be run: {error.strerror}") from None
+    return played.stdout.decode(errors="replace").split("\n")[:-1]
 
 
 class Shell:
@@ -67,21 +77,24 @@ class Shell:
                 pass_on(line)
 
     def next_line(self):
+        """The next answer as it came. What is none no shell has said."""
         with self.news:
             while not self.said:
                 if self.has_ended:
                     raise Gone
                 self.news.wait()
-            return self.said.popleft()
+            line = self.said.popleft()
+        if not line.startswith(BEGINNING.encode()):
+            raise ValueError
+        return line[:-1].decode()
 
     def ask(self, lines):
-        """The answers to lines, which go in one write."""
+        """The answers to lines, which go in one write, as JSON text."""
         try:
             self.process.stdin.write("".join(f"{line}\n" for line in lines).encode())
             self.process.stdin.flush()
-            return [json.loads(self.next_line()) for _ in lines]
+            return [self.next_line() for _ in lines]
         except (OSError, ValueError):
-            # what is no JSON no shell has said
             self.process.kill()
             raise Gone from None
 

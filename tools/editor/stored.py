@@ -1,15 +1,17 @@
-"""What a store has before its shell begins: whether it is in its setup, its phases, and who made each frame, in which
-words."""
+"""What a store has that no question tells: whether it is in its setup, its systems, and who made each frame."""
 import re
 import subprocess
+from pathlib import Path
+from typing import List, Optional, Sequence
 
-from follower import Follower
+from commands import SETUP, system_name
+from line_requests import read, word_of
 from played_scene import Trouble
-from timeline import Frame
-from words import words_of_advance, words_of_frame, words_of_record
+from request_forms import DECLARE
+from timeline import Frame, Timeline
+from words import words_of_advance
 
 ENTRY = re.compile(r"[0-9]+ as ([0-7]): (.*) -> (.*)", re.DOTALL)
-UNKNOWN = Frame(None, ["an older frame"])
 FAULTS = {
     "60": "{} is in use by another shell",
     "61": "{} is no store of a scene",
@@ -26,7 +28,7 @@ class StoreFault(Trouble):
     """That a store can't be used: the shell's own line, and the same in words."""
 
 
-def store_fault(store, told):
+def store_fault(store: Path, told: bytes) -> StoreFault:
     """The fault that the program told on standard error."""
     lines = [line for line in told.decode(errors="replace").split("\n") if line and not line.startswith("scene: line ")]
     line = next((line for line in lines if line.startswith("scene: fault ")), lines[-1] if lines else "")
@@ -35,53 +37,106 @@ def store_fault(store, told):
     return StoreFault(f"{line}\n{words}" if line else words)
 
 
-class Log(Follower):
-    """The lines of a store, and their frames as two stacks. A frame of a scene that was loaded is None."""
+class Log:
+    """What lines have come to, in a store or as they are played. An answer is its word; `behind` are those to the
+    questions behind the line, if any were asked."""
 
-    def __init__(self):
-        super().__init__()
-        self.past, self.future = [], []
+    def __init__(self) -> None:
+        self.in_setup, self.is_loaded = True, False
+        self.kinds: List[List[str]] = []
+        self.phases: List[List[str]] = []
+        self.turn, self.timeline = 0, Timeline()
 
-    def on_frame(self, queues, entities):
-        self.past.append(Frame(self.turn, words_of_frame(self.shapes, queues, entities)))
-        self.future = []
+    @property
+    def shapes(self) -> dict:
+        return dict(map(tuple, self.kinds))
 
-    def on_advance(self, entities):
-        self.past.append(Frame(self.turn, words_of_advance(self.phases)))
-        self.future = []
+    def follow(self, line: str, answer: str, behind: Sequence[str] = ()) -> None:
+        if answer in ("bad", "nothing", "queued"):
+            # (the `begin` before a command that is queued has ended the setup)
+            return
+        word = word_of(line)
+        if self.in_setup:
+            self.follow_setup(word, line, answer)
+        if answer == "ok":
+            self.follow_ok(word, line)
+        elif answer == "done":
+            self.on_done(self.words_of_systems() if word == "advance" else None, behind)
+        elif answer == "undone":
+            self.on_undone(behind)
+        elif answer == "redone":
+            self.on_redone(behind)
 
-    def on_undo(self):
-        self.future.append(self.past.pop() if self.past else None)
+    def follow_setup(self, word: str, line: str, answer: str) -> None:
+        """A line that isn't bad ends the setup, where it is none that may come in it."""
+        if word not in SETUP:
+            self.in_setup = False
+        elif answer != "ok":
+            return
+        elif word == "kind":
+            self.declare(line)
+        elif word == "load":
+            self.is_loaded = True
+        self.on_setup()
 
-    def on_redo(self):
-        self.past.append(self.future.pop() if self.future else None)
+    def follow_ok(self, word: str, line: str) -> None:
+        if word == "as":
+            self.turn = read(line, ())["session"]
+        elif word == DECLARE:
+            self.declare(line)
+            self.on_kind()
+        elif word in ("phase", "system", "clear"):
+            self.phases = phases_after(self.phases, word, line)
+            self.on_phases()
 
-    def read(self, text):
+    def declare(self, line: str) -> None:
+        """A kind comes last."""
+        request = read(line, ())
+        self.kinds = [*self.kinds, [request["name"], request["shape"]]]
+
+    def words_of_systems(self) -> List[str]:
+        return words_of_advance([system_name(line) for phase in self.phases for line in phase])
+
+    # What happens
+
+    def on_setup(self) -> None:
+        """The setup changed, or ended."""
+
+    def on_kind(self) -> None:
+        """A kind came by a declaration, in the setup or behind it."""
+
+    def on_phases(self) -> None:
+        """The phases changed."""
+
+    def on_done(self, words: Optional[List[str]], _: Sequence[str]) -> None:
+        """A frame was accepted."""
+        self.timeline.add(Frame(self.turn, words))
+
+    def on_undone(self, _: Sequence[str]) -> None:
+        self.timeline.future.push(self.timeline.past.pop())
+
+    def on_redone(self, _: Sequence[str]) -> None:
+        self.timeline.past.push(self.timeline.future.pop())
+
+    def read(self, text: str) -> None:
         """Follows the text of a log, whose last line counts."""
         for entry in text.split("\n"):
             if match := ENTRY.fullmatch(entry):
                 # a word of the answer may itself have the arrow only in the path of a fault, where nothing is followed
-                word, *entities = match[3].split(" ")
-                self.follow(match[2], word, entities)
-
-    def frames_of(self, scene):
-        """The frames of the past and of the future of a scene, the nearest last. Those of a record whose lines are
-        gone have the words of its deltas. Of a scene of version 1, which has no records, all are given that the lines
-        tell."""
-        if scene["scene"] == 1:
-            return [frame or UNKNOWN for frame in self.past], [frame or UNKNOWN for frame in self.future]
-        records = scene["undo"], scene["redo"][::-1]
-        return tuple(known(scene["kinds"], *each) for each in zip(records, (self.past, self.future)))
+                self.follow(match[2], match[3].split(" ", 1)[0])
 
 
-def known(kinds, records, frames):
-    """A frame for each record, the nearest last."""
-    count = len(records)
-    fitted = [*[None] * (count - len(frames)), *frames[max(0, len(frames) - count) :]]
-    return [frame or Frame(None, words_of_record(kinds, record)) for record, frame in zip(records, fitted)]
+def phases_after(phases: List[List[str]], word: str, line: str) -> List[List[str]]:
+    """The phases, as lists of the lines that added their systems, with one line more."""
+    if word == "clear":
+        return []
+    if word == "phase":
+        return [*phases, []]
+    *before, last = phases or [[]]
+    return [*before, [*last, line]]
 
 
-def log_of(program, store, log):
+def log_of(program: str, store: Path, log: Log) -> None:
     """Has a log read the lines of a store. Where there is no file, it stays that of a new one."""
     if not store.exists():
         return

@@ -1,135 +1,135 @@
-"""The world with its past and its future, as the program has them, each frame with who made it and in which words.
+"""The frames of the past and of the future, each with who made it and in which words.
 
-Records of many deltas are large. Only the nearest ones up to a limit are held; of those farther off the frames alone
-are known, and an undo or a redo that needs one reads the scene again."""
-from typing import NamedTuple, Optional
+Records of many deltas are large. Only the nearest ones up to a limit are held; of those farther off the shell is asked
+when they are looked at."""
+from dataclasses import dataclass, field
+from typing import List, Optional
 
-from recorder import Recorder
-from texts import compact
+from texts import first_items, json_text
+from words import MOST_TEXTS, words_of_deltas
 
-MOST_DEPTH = 1_048_576
 MOST_BYTES = 16 * 2**20
 
 
-class Frame(NamedTuple):
-    """Whose frame it is, or None where that isn't known, and what it did, a text for each command."""
+@dataclass
+class Frame:
+    """A frame: whose it is and its words, where these are known; and its record. The deltas are JSON text, and None
+    where they aren't held."""
 
-    session: Optional[int]
-    words: list
+    session: Optional[int] = None
+    words: Optional[List[str]] = None
+    tick: int = 0
+    count: int = 0
+    deltas: Optional[str] = None
+
+    def said(self, kinds: List[List[str]], deltas: Optional[str] = None) -> dict:
+        """Whose it is, and its words: where they aren't known, those of its deltas."""
+        if self.words is None:
+            self.words = words_of_deltas(kinds, first_items(deltas or self.deltas, MOST_TEXTS), self.count)
+        return {"session": self.session, "words": self.words}
+
+    def record(self) -> str:
+        """The record as JSON, with the tick behind it too, which saves who reads it a sum of large numbers."""
+        return f'{{"tick":{json_text(self.tick)},"after":{json_text(self.tick + 1)},"deltas":{self.deltas}}}'
 
 
-class Held(NamedTuple):
-    """A frame with its record, and how long that is as a text."""
+@dataclass
+class Side:
+    """The frames of the past, or those of the future, the nearest last. So many of the nearest are held, and their
+    deltas have so many characters."""
 
-    record: dict
-    frame: Frame
-    size: int
+    frames: List[Frame] = field(default_factory=list)
+    held: int = 0
+    size: int = 0
 
+    @property
+    def far(self) -> int:
+        return len(self.frames) - self.held
 
-def held(records, frames):
-    for record, frame in zip(records, frames):
-        record["after"] = record["tick"] + 1
-        yield Held(record, frame, len(compact(record)))
+    def near(self) -> List[Frame]:
+        return self.frames[self.far :]
 
+    def push(self, frame: Frame) -> None:
+        if frame.deltas is None:
+            self.forget(self.held)
+        else:
+            self.held += 1
+            self.size += len(frame.deltas)
+        self.frames.append(frame)
 
-class Timeline(Recorder):
-    """`past` and `future` have what is held, the nearest frame last; `older` and `later` so the frames farther off."""
+    def pop(self) -> Frame:
+        """The nearest frame. Of a scene that was loaded a log doesn't know the frames."""
+        if not self.frames:
+            return Frame()
+        frame = self.frames.pop()
+        if frame.deltas is not None:
+            self.held -= 1
+            self.size -= len(frame.deltas)
+        return frame
 
-    def __init__(self, scene, frames, depth=MOST_DEPTH):
-        """The world of a scene text of version 2, or of 1, of which no record is known. `frames` are those of the past
-        and of the future, the nearest last, at least as many as there are records."""
-        super().__init__(scene)
-        self.depth = depth
-        past, future = frames
-        undo, redo = scene.get("undo", []), scene.get("redo", [])
-        self.older, self.later = past[: len(past) - len(undo)], future[: len(future) - len(redo)]
-        self.past = list(held(undo, past[len(self.older) :]))
-        self.future = list(held(redo[::-1], future[len(self.later) :]))
-        self.size = sum(each.size for each in (*self.past, *self.future))
-        self.forget(self.past, self.older)
-        self.forget(self.future, self.later)
+    def hold(self, deltas: str) -> None:
+        """Holds the nearest of those farther off too."""
+        self.frames[self.far - 1].deltas = deltas
+        self.held += 1
+        self.size += len(deltas)
 
-    def forget(self, near, far):
-        """Forgets the farthest records until those that are held are small enough, and answers how many; never the
-        nearest one."""
-        count = 0
-        while self.size > MOST_BYTES and count + 1 < len(near):
-            self.size -= near[count].size
-            far.append(near[count].frame)
-            count += 1
-        del near[:count]
-        return count
+    def forget(self, count: int) -> None:
+        """Holds so many of the farthest no more."""
+        far = self.far
+        for frame in self.frames[far : far + count]:
+            self.size -= len(frame.deltas)
+            frame.deltas = None
+        self.held -= count
 
-    def add(self, record, frame, size):
-        """A frame was accepted. How many of the past that were held are no more."""
-        self.size += size - sum(each.size for each in self.future)
-        self.past.append(Held(record, frame, size))
-        self.future, self.later = [], []
-        return self.forget(self.past, self.older) + self.drop_beyond_depth()
-
-    def drop_beyond_depth(self):
-        """Drops what the depth leaves no room for, the oldest first, and answers how many of these were held."""
-        more = max(0, len(self.older) + len(self.past) - self.depth)
-        dropped = max(0, more - len(self.older))
-        del self.older[:more]
-        self.size -= sum(each.size for each in self.past[:dropped])
-        del self.past[:dropped]
+    def cut(self, length: int) -> int:
+        """Drops the farthest frames but so many, and answers how many of these were held."""
+        more = max(0, len(self.frames) - length)
+        dropped = max(0, more - self.far)
+        self.forget(dropped)
+        del self.frames[:more]
         return dropped
 
-    def undo(self):
-        self.future.append(self.past.pop())
-        self.take_back(self.future[-1].record)
+    def fit(self, length: int) -> None:
+        """Has so many frames: of those that aren't known nothing is known but that they are there."""
+        self.cut(length)
+        self.frames[:0] = [Frame() for _ in range(length - len(self.frames))]
 
-    def redo(self):
-        """Makes the next frame again, and answers how many of the past it drops, as of a scene that was loaded."""
-        self.past.append(self.future.pop())
-        self.make(self.past[-1].record)
-        return self.drop_beyond_depth()
 
-    def all_frames(self):
-        """The frames of the past and of the future, the nearest last, also of those that aren't held."""
-        return [*self.older, *(each.frame for each in self.past)], [*self.later, *(each.frame for each in self.future)]
+class Timeline:
+    """The frames of both sides."""
 
-    def frames_from(self, first, count):
-        """So many frames from one on, of those of the past and then of the future: 0 is the newest of the past. Gives
-        which is the first of those that there are, too."""
-        past, future = self.all_frames()
-        frames = [*past, *reversed(future)]
-        begin = max(0, len(past) - 1 + first)
-        found = frames[begin : max(0, len(past) - 1 + first + count)]
-        return begin - len(past) + 1, [{"session": frame.session, "words": frame.words} for frame in found]
+    def __init__(self) -> None:
+        self.past, self.future = Side(), Side()
 
-    def frames(self):
+    def add(self, frame: Frame) -> None:
+        """A frame was accepted."""
+        self.past.push(frame)
+        self.future = Side()
+
+    @property
+    def room(self) -> int:
+        """How many characters of records more may be held."""
+        return MOST_BYTES - self.past.size - self.future.size
+
+    def shrink(self, side: Side) -> int:
+        """Forgets the farthest records of a side until those that are held are small enough, and answers how many;
+        never the nearest one."""
+        count, room = 0, self.room
+        while room < 0 and count + 1 < side.held:
+            room += len(side.frames[side.far + count].deltas)
+            count += 1
+        side.forget(count)
+        return count
+
+    def near(self) -> List[Frame]:
         """The frames that are held, of the past, oldest first, and then of the future, next one first."""
-        near = [each.frame for each in (*self.past, *reversed(self.future))]
-        return [{"session": frame.session, "words": frame.words} for frame in near]
+        return [*self.past.near(), *reversed(self.future.near())]
 
-    # The scene text
+    def places_from(self, first: int, count: int) -> range:
+        """The places of those frames that there are of so many from one on, of the past and then of the future: 0 is
+        the newest of the past, and 1 the next of the future."""
+        least, most = 1 - len(self.past.frames), len(self.future.frames)
+        return range(max(least, first), max(least, min(first + count, most + 1)))
 
-    def kind_sets(self):
-        """The archetypes by ascending kind set."""
-        return sorted(self.tables, key=lambda kinds: sum(1 << self.numbers[name] for name in kinds))
-
-    def table_text(self, kinds):
-        names = sorted(kinds, key=self.numbers.get)
-        rows = [
-            {"cells": [self.cells[entity][name] for name in names], "entity": entity} for entity in self.tables[kinds]
-        ]  # fmt: skip
-        return {"kinds": [self.numbers[name] for name in names], "rows": rows}
-
-    def scene(self):
-        """The scene text of version 2, with the records that are held, and in each the tick behind it too."""
-        parents = sorted(self.children, key=lambda parent: int(parent.partition("v")[0]))
-        return {
-            "children": [{"list": self.children[parent], "parent": parent} for parent in parents],
-            "free": self.free,
-            "generations": self.generations,
-            "kinds": self.kinds,
-            "limit": self.limit,
-            "redo": [each.record for each in reversed(self.future)],
-            "resources": [{"cell": self.resources[name], "name": name} for name in sorted(self.resources)],
-            "scene": 2,
-            "tables": [self.table_text(kinds) for kinds in self.kind_sets()],
-            "tick": self.tick,
-            "undo": [each.record for each in self.past],
-        }
+    def frame_at(self, place: int) -> Frame:
+        return self.past.frames[place - 1] if place <= 0 else self.future.frames[-place]

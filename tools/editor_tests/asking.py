@@ -70,6 +70,10 @@ class Stream:
 
     def next(self):
         """The number and the data of the next event."""
+        number, text = self.next_text()
+        return number, json.loads(text)
+
+    def next_text(self):
         parts = {}
         while True:
             line = self.answer.readline().decode()
@@ -77,7 +81,7 @@ class Stream:
             name, _, text = line.rstrip("\n").partition(": ")
             parts[name] = text
             if line == "\n" and "data" in parts:
-                return int(parts["id"]), json.loads(parts["data"])
+                return int(parts["id"]), parts["data"]
 
     def until(self, *sorts):
         """The events up to the first of these sorts, which is the last."""

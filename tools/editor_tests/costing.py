@@ -1,4 +1,5 @@
-"""What the editor costs: a call of one command by HTTP, from its sending to its event; a join; and memory."""
+"""What the editor costs: calls by HTTP, from their sending to their events: an edit, an undo, a redo, an advance; a join;
+a store that is opened again; and memory."""
 import statistics
 import tempfile
 import time
@@ -8,7 +9,9 @@ from asking import Asker
 from editor_process import EditorProcess
 
 SIZES = (100, 10_000, 100_000)
-CALLS = 200
+CALLS, ADVANCES = 200, 10
+TOLD = tuple(f'{{"sort":"{sort}"' for sort in ("frame", "undo", "redo", "whole"))
+SYSTEM = "system age need=Health addint:Health:1"
 
 
 def script_of(entities):
@@ -39,36 +42,61 @@ def calls_of(asker, stream, lines):
         since = time.perf_counter()
         asker.call(line)
         answered.append(time.perf_counter() - since)
-        stream.until("frame", "undo")
+        # (to read a large one as JSON would be the page's cost)
+        while not stream.next_text()[1].startswith(TOLD):
+            pass
         told.append(time.perf_counter() - since)
     return answered, told
 
 
+def asks_of(asker, lines):
+    """How long each line took to its answer."""
+    for line in lines:
+        since = time.perf_counter()
+        asker.call(line)
+        yield time.perf_counter() - since
+
+
+def costs_of_calls(asker, stream, entities):
+    """What is spent for edits, turns and advances, in words. Each advance writes a cell of all entities."""
+    edits = [f"insert {at * 7 % entities}v1 Health={at}" for at in range(CALLS)]
+    answered, told = calls_of(asker, stream, edits)
+    yield f"a call of one insert {milliseconds(answered)}; its event {milliseconds(told)}"
+    for word, what in (("undo", "an undo"), ("redo", "a redo")):
+        yield f"{what} to its event {milliseconds(calls_of(asker, stream, [word] * CALLS)[1])}"
+    gets = [f"get {at * 7 % entities}v1" for at in range(CALLS)]
+    yield f"a call that only asks {milliseconds(asks_of(asker, gets))}"
+    asker.call(SYSTEM)
+    for word, what in (("advance", "an advance"), ("undo", "its undo"), ("redo", "its redo")):
+        yield f"{what} to its event {milliseconds(calls_of(asker, stream, [word] * ADVANCES)[1])}"
+
+
+def joined(editor):
+    """A tab that joined, how long that took, and how long the answer was."""
+    asker = Asker(editor.address)
+    since = time.perf_counter()
+    status, _, content = asker.ask("POST", "join", {})
+    assert status == 200
+    return asker, f"a join {1000 * (time.perf_counter() - since):.0f} ms and {len(content) / 1e6:.1f} MB"
+
+
 def cost_of(program, room, entities):
-    script = room / f"{entities}.scene"
+    script, store = room / f"{entities}.scene", room / f"{entities}.db"
     script.write_text(script_of(entities))
     since = time.perf_counter()
-    with EditorProcess(program, room / f"{entities}.db", script) as editor:
-        begun = time.perf_counter() - since
-        asker = Asker(editor.address)
-        since = time.perf_counter()
-        status, _, joined = asker.ask("POST", "join", {})
-        assert status == 200
-        join = time.perf_counter() - since
+    with EditorProcess(program, store, script) as editor:
+        yield f"{entities:,} entities: begun with a script in {time.perf_counter() - since:.1f} s"
+        asker, told = joined(editor)
+        yield f"  {told}"
         asker.join()
-        stream = asker.events(asker.scene["sequence"])
-        lines = [f"insert {at * 7 % entities}v1 Health={at}" for at in range(CALLS)]
-        answered, told = calls_of(asker, stream, lines)
-        asked = []
-        for at in range(CALLS):
-            since = time.perf_counter()
-            asker.call(f"get {at * 7 % entities}v1")
-            asked.append(time.perf_counter() - since)
+        for told in costs_of_calls(asker, asker.events(asker.scene["sequence"]), entities):
+            yield f"  {told}"
         resident, most = memory_of(editor.process.pid)
-    yield f"{entities:,} entities: begun with a script in {begun:.1f} s"
-    yield f"  a join {1000 * join:.0f} ms and {len(joined) / 1e6:.1f} MB"
-    yield f"  a call of one insert {milliseconds(answered)}; its event {milliseconds(told)}"
-    yield f"  a call that only asks {milliseconds(asked)}; the server has {resident:.0f} MB, {most:.0f} at most"
+        yield f"  the server has {resident:.0f} MB, {most:.0f} at most"
+    since = time.perf_counter()
+    with EditorProcess(program, store) as editor:
+        opened = time.perf_counter() - since
+        yield f"  opened again in {opened:.1f} s, {joined(editor)[1]}, {memory_of(editor.process.pid)[0]:.0f} MB"
 
 
 def costs(program):

@@ -27,7 +27,7 @@ def newest(stream):
 
 
 def try_words(asker, stream):
-    """A frame has the words that its call gives, and else those of its commands."""
+    """A frame has the words that its call gives, and else those of its deltas."""
     call(asker, "begin", "insert 0v1 Health=1", "insert 0v1 Health=2", "commit", words="heal the cat twice")
     assert newest(stream) == ["heal the cat twice"]
     call(asker, "insert 0v1 Health=3")
@@ -60,7 +60,10 @@ def try_own_links(asker, stream):
     assert [row["Aim"][0] for row in rows] == [three, one, two], (answer, rows)
     assert rows[1]["Name"][0] == "+0"
     assert call(asker, '{"do":"spawn","cells":{"Aim":"+5"}}')["answers"][0]["answer"] == "bad", "no such spawn"
-    asker.call("undo", "undo", "undo", "undo", "undo")
+    lines = "begin", f"despawn {three}", '{"do":"spawn","cells":{"Aim":"+0"}}', "commit"
+    (again,) = call(asker, *lines)["answers"][-1]["entities"]
+    assert asker.call(f"get {again}")[0]["cells"]["Aim"][0] == again, "the index was free only within the frame"
+    asker.call(*["undo"] * 6)
     stream.until("undo")
 
 
@@ -96,20 +99,40 @@ def try_requests(asker, stream):
     stream.until("undo")
 
 
+def try_kinds(asker, stream):
+    """A kind comes at any time, also in a frame that is dropped: it makes no frame, tabs are told, and no undo takes
+    it."""
+    declare = [request("declare", name=name, shape="Int") for name in ("Mood", "Age", "Luck")]
+    assert asker.told(declare[0], "insert 0v1 Mood=3") == ["ok", "done"]
+    assert stream.until("kinds")[-1]["kinds"][-1] == ["Mood", "Int"]
+    assert newest(stream) == ["Mood of 0v1 is 3"]
+    assert asker.told("begin", declare[1], request("dropframe"), "undo") == ["ok", "ok", "ok", "undone"]
+    assert stream.until("undo")[-2]["kinds"][-2:] == [["Mood", "Int"], ["Age", "Int"]]
+    refused = asker.call("begin", "queue", declare[2], "put a Int=1", "despawn 7v7", "commit")[-1]
+    assert refused["request"] == {"do": "despawn", "entity": "7v7"}, "a kind begins no queue"
+    refused = asker.call(declare[0])[0]
+    assert refused["name"] == "KindTaken" and refused["request"]["name"] == "Mood", refused
+    scene = asker.join(tab="front")["scene"]
+    assert [name for name, _ in scene["text"]["kinds"]] == ["Name", "Health", "Aim", "Mood", "Age", "Luck"]
+
+
 def try_places():
     """Frames are told by their places from now, also those whose records aren't held any more."""
-    empty = {name: [] for name in ("generations", "free", "tables", "children", "resources", "undo", "redo")}
-    world = Timeline({**empty, "kinds": [["A", "Int"]], "limit": 100, "tick": 0, "scene": 2}, ([], []))
+    timeline = Timeline()
     for number in range(1, 11):
-        world.begin()
-        world.spawn({"A": number})
-        world.add(world.finish(), Frame(1, [f"frame {number}"]), MOST_BYTES // 4)
-    assert len(world.older) == 6 and len(world.past) == 4, (len(world.older), len(world.past))
-    world.undo()
-    told = lambda first, count: [frame["words"][0] for frame in world.frames_from(first, count)[1]]  # noqa: E731
+        timeline.add(Frame(1, [f"frame {number}"], number - 1, 1, "x" * (MOST_BYTES // 4)))
+        timeline.shrink(timeline.past)
+    past = timeline.past
+    assert (past.far, past.held, past.size) == (6, 4, MOST_BYTES), (past.far, past.held)
+    timeline.future.push(past.pop())
+    places = timeline.places_from
+    told = lambda first, count: [timeline.frame_at(at).words[0] for at in places(first, count)]  # noqa: E731
     assert told(0, 1) == ["frame 9"] and told(1, 5) == ["frame 10"] and told(-8, 2) == ["frame 1", "frame 2"]
-    assert world.frames_from(-20, 14) == (-8, [{"session": 1, "words": [f"frame {at}"]} for at in range(1, 3)])
-    assert world.frames_from(-20, 5)[1] == [] and world.frames_from(2, 5)[1] == []
+    assert places(-20, 14).start == -8 and told(-20, 14) == ["frame 1", "frame 2"]
+    assert told(-20, 5) == [] and told(2, 5) == []
+    assert past.cut(3) == 0 and (past.far, past.held) == (0, 3) and past.cut(1) == 2 and past.held == 1
+    past.fit(3)
+    assert (past.far, past.held, past.size) == (2, 1, MOST_BYTES // 4)
 
 
 def try_frames(asker):
@@ -164,7 +187,7 @@ def try_front(program, room):
     with EditorProcess(program, store, script) as editor:
         asker = Asker(editor.address)
         stream = asker.events(asker.join(tab="front")["scene"]["sequence"])
-        for tried in (try_words, try_seen, try_own_links, try_texts, try_requests):
+        for tried in (try_words, try_seen, try_own_links, try_texts, try_requests, try_kinds):
             tried(asker, stream)
         stream.close()
         try_names(asker, room)

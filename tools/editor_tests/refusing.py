@@ -111,6 +111,11 @@ def try_lines_not_sent(asker):
         assert asker.told(*lines) == ["bad"] * len(lines), lines
     assert asker.told("get 0v1", "mark", "as 2", "get 0v1") == ["row", "bad", "bad", "row"]
     assert asker.told("calls 5", "depth 5", "kind A Int", "load {}") == ["bad"] * 4
+    drop = '{"do":"dropframe"}'
+    assert asker.told("begin", "spawn Name=dog", drop, '{"do":"status"}') == ["ok", "queued", "ok", "status"]
+    assert asker.told(drop, "dropframe") == ["bad", "bad"]
+    for lines in (("begin", "dropframe"), ("begin", '{"do":"dropframe","x":1}'), ("begin", drop, "commit")):
+        assert asker.told(*lines) == ["bad"] * len(lines), lines
 
 
 def try_refusals(program, room):

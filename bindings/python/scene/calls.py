@@ -1,6 +1,7 @@
 """What a scene can do, whatever it stands on."""
 from __future__ import annotations
 
+import json
 import reprlib
 from abc import ABC, abstractmethod
 from contextlib import contextmanager
@@ -8,12 +9,20 @@ from types import TracebackType
 from typing import Any, Dict, Iterable, Iterator, List, Mapping, Optional, Sequence, Tuple, Type, TypeVar, Union
 from typing import overload
 
+from scene.deltas import KeptStep, StepSummary
 from scene.errors import BadLine, KindsDiffer, Refused, SceneError
-from scene.systems import Step, step_asked
-from scene.values import SHAPES, Cell, Entity, Given, Named, Row, Spawned, Spawns, Status, Value, fitting, kind_named
-from scene.values import entity_named, resource_value, shape_named, target_named, text_named
+from scene.systems import Step, System, step_asked
+from scene.values import PAGE, SHAPES, Cell, Entity, Given, Moment, Named, Row, Spawned, Spawns, Status, Value
+from scene.values import count_named, fitting, place_named, resource_value, shape_named, target_named
+from scene.values import text_named
 
 Own = TypeVar("Own", bound="Calls")
+
+
+def request_sent(request: Mapping[str, Any]) -> bytes:
+    """A request as it is sent: without escapes, which would make a text up to three times as long. What is no text goes
+    as it is, so that it is told where all is told that is no JSON."""
+    return json.dumps(request, separators=(",", ":"), ensure_ascii=False).encode("utf-8", "surrogatepass")
 
 
 class Calls(ABC):
@@ -23,12 +32,15 @@ class Calls(ABC):
     names no kind; TypeError, where a value is of a type that can't be; `Closed`; `NoMemory`, `OtherThread` and `Shared`
     over the library, and `Ended` over the shell. But for `NoMemory` and `Ended` the scene is then as it was.
 
+    A command is refused as NoSuchEntity where an entity isn't alive, as BadLocal where the frame has no such spawn, and
+    as HistoryFull where the limit of the line `calls` is reached; in a frame that is told at its end.
+
     An entity may be given as the text of one, as what a `spawn` in a frame gave, and, in an open frame, as `+K`: the
     K-th that it spawns, from 0.
 
-    What only reads is out of place in an open frame, and ends the setup. Over the shell `row`, `rows`, `parent_of`,
-    `children_of`, `roots` and the resources ask for the whole world, and `status` for all of a `save`; over the library
-    each costs what it gives.
+    What only reads is out of place in an open frame, and ends the setup; over the library `tables`, `now`,
+    `changed_since`, `added_since`, `past_step`, `future_step` and `depth` also go in one, and tell of the scene before
+    it. Each costs what it gives, but that over the shell `roots` asks for the whole world, and `resource` for all.
     """
 
     # What the open frame of a `with` spawns.
@@ -80,16 +92,30 @@ class Calls(ABC):
     # ---- kinds
 
     @abstractmethod
-    def shape_of(self, kind: str) -> Optional[str]:
-        """The shape of a kind; None where no kind has the name."""
+    def kinds(self) -> Dict[str, str]:
+        """The shapes of all kinds by their names, in the order in which they were declared."""
 
+    @abstractmethod
+    def shape_of(self, kind: str) -> Optional[str]:
+        """The shape of a kind; None where no kind has the name. It also goes in the setup and in an open frame."""
+
+    @abstractmethod
+    def _kind_names(self) -> Sequence[str]:
+        """The names of all kinds by their numbers."""
+
+    def kinds_of(self, mask: int) -> List[str]:
+        """The names of the kinds of a set, as `tables` gives it, by their numbers."""
+        return [name for number, name in enumerate(self._kind_names()) if mask >> number & 1]
+
+    @abstractmethod
     def declare(self, name: str, shape: str) -> None:
         """Declares a kind by its name and its shape, Tag, Int, Vec3, Text or Link.
 
-        That goes in the setup alone, which the first call of any other kind ends. A name that isn't good, or is taken,
-        is refused.
+        Over the shell that goes at any time, also in an open frame. It is no frame, and no undo takes the kind; behind
+        the setup it begins the count of the line `history` anew. Over the library it goes in the setup alone, which the
+        first call of any other kind ends, and not behind a `load`: there it is a BadLine, as another shape is at both.
+        A name that isn't good is refused as BadName, one that is taken as KindTaken, a 65th as KindsFull.
         """
-        self.request("kind", name=kind_named(name), shape=shape_named(name, shape))
 
     def _declare_all(self, kinds: Optional[Mapping[str, str]]) -> None:
         """Declares those of the kinds that aren't there. All are looked at before the first one is declared."""
@@ -113,10 +139,7 @@ class Calls(ABC):
     def _declare_missing(self, name: str, shape: str) -> None:
         """Declares a kind that isn't there."""
         if self.shape_of(name) is None:
-            try:
-                self.declare(name, shape)
-            except BadLine as bad:
-                raise KindsDiffer(str(bad), 5, "NoSuchKind") from None
+            self.declare(name, shape)
 
     def _known_shape(self, kind: str) -> str:
         """The shape of a kind that has to be there."""
@@ -163,7 +186,7 @@ class Calls(ABC):
         """Spawns an entity with components, given by the names of their kinds, as `spawn(Health=9)`.
 
         In the `with` of a `frame` it gives a `Spawned`, which later commands take for the entity; in a frame that a
-        line began, None.
+        line began, None. Where there are as many as there can be, it is refused as EntitiesFull.
         """
 
     @abstractmethod
@@ -173,6 +196,7 @@ class Calls(ABC):
         Each is a frame of its own where none is open. All values are read before the first one is given.
         """
 
+    @abstractmethod
     def insert_all(self, entities: Iterable[Named], /, **columns: Iterable[Given]) -> None:
         """Gives many entities components, or other values to those that they have, as one frame: all, or none.
 
@@ -181,20 +205,14 @@ class Calls(ABC):
         one is given. Another count of values, and an open frame, are a BadLine; where one is refused, its `place` tells
         the number of the write.
         """
-        named = [entity_named(entity) for entity in entities]
-        writes = [(kind, self._fitting_column(kind, values, len(named))) for kind, values in columns.items()]
-        with self.frame():
-            for kind, values in writes:
-                for entity, value in zip(named, values):
-                    self.request("insert", entity=entity, kind=kind, value=value)
 
     def remove(self, entity: Named, kind: str) -> None:
-        """Takes the component of a kind from an entity. Where it has none, that is refused."""
+        """Takes the component of a kind from an entity. Where it has none, that is refused as NotPresent."""
         self._known(kind)
         self.request("remove", entity=target_named(entity), kind=kind)
 
     def despawn(self, entity: Named) -> None:
-        """Despawns an entity. One with children is refused."""
+        """Despawns an entity. One with children is refused as HasChildren."""
         self.request("despawn", entity=target_named(entity))
 
     def despawn_all(self, entity: Named) -> None:
@@ -204,7 +222,7 @@ class Calls(ABC):
     def set_parent(self, child: Named, parent: Optional[Named]) -> None:
         """Makes an entity the last child of another; with None, takes it from its parent.
 
-        An entity below itself is refused.
+        An entity below itself is refused as Cycle, and None for one without a parent as NoParent.
         """
         below = target_named(child)
         if parent is None:
@@ -220,13 +238,14 @@ class Calls(ABC):
         """Puts a resource, as `put("title", "Level 1")`, in place of the one of that name, if there is one.
 
         Its shape is that of the value: an `Entity`, or what a `spawn` in a frame gave, is a Link, and another text a
-        Text. A name that isn't good is refused.
+        Text. A name that isn't good is refused as BadName; another shape, or a value that isn't of the shape, is a
+        BadLine or a TypeError.
         """
         asked, read = resource_value(name, value, shape)
         self.request("put", name=name, shape=asked, value=read)
 
     def drop(self, name: str) -> None:
-        """Takes a resource away. Where none has the name, that is refused."""
+        """Takes a resource away. Where none has the name, that is refused as NoSuchResource."""
         self.request("drop", name=text_named("the name of a resource", name))
 
     # ---- frames
@@ -236,8 +255,8 @@ class Calls(ABC):
         """A frame of all commands of a `with`, done whole or not at all. Its list then has the entities spawned.
 
         What a `spawn` gives names the entity to the frame's later commands, and behind it to all calls. An error in the
-        `with` leaves the scene as it was. Where a command is refused, so is the frame, at its end, and nothing of it is
-        done.
+        `with` drops the frame, and leaves the scene as it was. Where a command is refused, so is the frame, at its end,
+        and nothing of it is done. A frame in a frame is a BadLine.
         """
         self._begin()
         spawns = self._spawns = Spawns()
@@ -262,18 +281,32 @@ class Calls(ABC):
         """Ends the open frame by doing it, and gives what it spawned."""
 
     @abstractmethod
+    def drop_frame(self) -> bool:
+        """Drops the open frame: nothing of it is done, and no call is made. Whether one was open.
+
+        An error in the `with` of a `frame` does it by itself. Where it is called there, the end of the `with` is a
+        BadLine, as no frame is open any more.
+        """
+
+    @abstractmethod
     def _drop_frame(self) -> None:
-        """Ends the open frame, if one is open, without doing it."""
+        """Drops the open frame, if one is open, behind an error, which no other one may hide."""
+
+    @property
+    @abstractmethod
+    def in_frame(self) -> bool:
+        """Whether a frame is open."""
 
     def undo(self, count: int = 1) -> None:
-        """Takes the newest frames back, so many. Refused, where there are fewer, and none is taken back.
+        """Takes the newest frames back, so many. Refused as NothingToUndo, where there are fewer, and none is.
 
         Where a limit of calls is reached on the way, that is refused, and those before are taken back.
         """
         self._steps("undo", count)
 
     def redo(self, count: int = 1) -> None:
-        """Does the last frames that were taken back again. Refused, where there are fewer, as behind a new frame."""
+        """Does the last frames that were taken back again. Refused as NothingToRedo, where there are fewer: so behind a
+        new frame."""
         self._steps("redo", count)
 
     @abstractmethod
@@ -292,7 +325,7 @@ class Calls(ABC):
     def get(self, entity: Named, kind: Optional[str] = None) -> Value:
         """The value of a component; without a kind, the row of an entity as a line writes it.
 
-        Refused, where the entity isn't alive, or has no component of the kind.
+        Refused as NoSuchEntity, where the entity isn't alive, and as NotPresent, where it has no component of the kind.
         """
 
     @abstractmethod
@@ -301,11 +334,31 @@ class Calls(ABC):
 
     @abstractmethod
     def row(self, entity: Named) -> Row:
-        """The row of an entity: its components, its parent and its children. Refused, where it isn't alive."""
+        """The row of an entity: its components, its parent and its children. Refused as `get` is."""
 
     @abstractmethod
     def rows(self) -> List[Row]:
         """The rows of all entities, by table and then by place."""
+
+    @abstractmethod
+    def each_row(self, *need: str, without: Sequence[str] = (), page: int = PAGE) -> Iterator[Row]:
+        """The rows of the entities that have all kinds of `need` and none of `without`, in the order of `rows`, one
+        after the other: `for row in level.each_row("Health", without=["Hidden"])`.
+
+        So many rows as a page has are asked for at once; over the library a page is a table. Where the scene is changed
+        before the last page, the next one is a BadLine: places of rows may be others then. A page that is no whole
+        number from 1 is a TypeError or a BadLine.
+        """
+
+    def _check_moment(self, began: Moment, now: Moment) -> None:
+        """Raises that rows can't be read on, where the scene was changed since."""
+        if now != began:
+            raise BadLine("the scene was changed while its rows were read")
+
+    @abstractmethod
+    def tables(self, *need: str, without: Sequence[str] = ()) -> List[Tuple[int, int]]:
+        """The kind sets that some entities have, of those with all kinds of `need` and none of `without`: ascending,
+        each with the count of its entities. The kind of number k is bit k; `kinds_of` names them."""
 
     @abstractmethod
     def is_alive(self, entity: Named) -> bool:
@@ -335,11 +388,43 @@ class Calls(ABC):
     def status(self) -> Status:
         """The numbers of the scene."""
 
+    @property
+    @abstractmethod
+    def depth(self) -> int:
+        """How many frames are kept at most, to be undone."""
+
     def show(self) -> str:
         """The text of the world: all that the line `show` answers."""
         return "\n".join(self.line("show"))
 
-    # ---- following
+    # ---- following, by moments
+
+    @abstractmethod
+    def now(self) -> Moment:
+        """This moment, which a view keeps to ask by `changed_since` what was written since."""
+
+    def changed_since(
+        self, moment: Moment, need: Sequence[str] = (), without: Sequence[str] = ()
+    ) -> List[Tuple[Entity, str]]:
+        """The components that were changed since a moment, those included that were added: of the entities that have
+        all kinds of `need` and none of `without`, in the order of `rows`, then by kind.
+
+        Refused as Rewound, where something was undone since, so that a view reads all anew. What is no moment is a
+        TypeError or a BadLine. The mark stays.
+        """
+        return self._since("changed", moment, need, without)
+
+    def added_since(
+        self, moment: Moment, need: Sequence[str] = (), without: Sequence[str] = ()
+    ) -> List[Tuple[Entity, str]]:
+        """The components that were added since a moment, and are there; else as `changed_since`."""
+        return self._since("added", moment, need, without)
+
+    @abstractmethod
+    def _since(
+        self, what: str, moment: Moment, need: Sequence[str], without: Sequence[str]
+    ) -> List[Tuple[Entity, str]]:
+        """The components that were `changed` or `added` since a moment."""
 
     def mark(self) -> None:
         """Notes this moment, from which `changed` and `added` look."""
@@ -357,9 +442,50 @@ class Calls(ABC):
         """The components that were added since the mark, or the beginning. Refused as `changed` is."""
         return self._cells_named("added")
 
-    def _cells_named(self, do: str) -> List[Tuple[Entity, str]]:
-        """The components that an answer lists."""
-        return [(Entity(cell["entity"]), cell["kind"]) for cell in self.request(do)["cells"]]
+    def _cells_named(self, do: str, **keys: Any) -> List[Tuple[Entity, str]]:
+        """The components that the answer to a request lists."""
+        return [(Entity(cell["entity"]), cell["kind"]) for cell in self.request(do, **keys)["cells"]]
+
+    # ---- following, by what each frame did
+
+    def past_step(self, place: int = 0) -> Optional[KeptStep]:
+        """What a frame did that can be undone: the newest one for place 0, the one before it for 1, and so on; None
+        where there are fewer. A place that is no whole number from 0 is a TypeError or a BadLine.
+
+        So a view follows a frame, or a redo, by `past_step().deltas`, and a redo of several frames by those of the
+        places `count - 1` down to 0. An advance is a frame too. It costs what it gives: over the library a few calls,
+        however many deltas there are, over the shell one request.
+        """
+        return self._kept_step("past", place_named(place))
+
+    def future_step(self, place: int = 0) -> Optional[KeptStep]:
+        """What a frame did that can be redone: the next one for place 0, the one behind it for 1, and so on; else as
+        `past_step`.
+
+        So a view follows an undo by `future_step().undone()`, and one of several frames by those of the places
+        `count - 1` down to 0.
+        """
+        return self._kept_step("future", place_named(place))
+
+    @abstractmethod
+    def _kept_step(self, way: str, place: int) -> Optional[KeptStep]:
+        """A frame of the `past` or the `future`."""
+
+    def past(self, first: int = 0, count: int = 20) -> List[StepSummary]:
+        """The frames that can be undone, each by its tick and the count of its deltas: the newest first, so many from
+        that of place `first` on, or as many as there are. `status().undo` tells how many there are in all.
+
+        A place or a count that is no whole number from 0 is a TypeError or a BadLine.
+        """
+        return self._summaries("past", place_named(first), count_named(count))
+
+    def future(self, first: int = 0, count: int = 20) -> List[StepSummary]:
+        """The frames that can be redone, the next one first; else as `past`. `status().redo` tells how many."""
+        return self._summaries("future", place_named(first), count_named(count))
+
+    @abstractmethod
+    def _summaries(self, way: str, first: int, count: int) -> List[StepSummary]:
+        """Frames of the `past` or the `future`, from a place on."""
 
     # ---- systems
 
@@ -367,16 +493,22 @@ class Calls(ABC):
         """Adds a phase, empty as yet, behind the others."""
         self.request("phase")
 
-    def add_system(self, name: str, *steps: Step, need: Sequence[str] = (), without: Sequence[str] = ()) -> None:
+    def add_system(
+        self, name: Union[str, System], *steps: Step, need: Sequence[str] = (), without: Sequence[str] = ()
+    ) -> None:
         """Adds a system to the last phase, and makes one where there is none.
 
         Its steps are done to each entity that has all kinds of `need` and none of `without`, as
-        `add_system("age", AddInt("Health", -1), need=["Health"])`. What breaks a rule, `advance` refuses.
+        `add_system("age", AddInt("Health", -1), need=["Health"])`; or it is a `System`, which has all that. What breaks
+        a rule, `advance` refuses. A kind that isn't there is a BadLine, and what is no step a TypeError.
         """
-        asked = [step_asked(step, self._known, self._fitting) for step in steps]
-        text_named("the name of a system", name)
-        needed, barred = self._all_known(need), self._all_known(without)
-        self.request("system", name=name, need=needed, without=barred, steps=asked)
+        system = name if isinstance(name, System) else System(name, steps, need, without)
+        if system is name and (steps or need or without):
+            raise TypeError("a System has its own steps, need and without")
+        asked = [step_asked(step, self._known, self._fitting) for step in system.steps]
+        text_named("the name of a system", system.name)
+        needed, barred = self._all_known(system.need), self._all_known(system.without)
+        self.request("system", name=system.name, need=needed, without=barred, steps=asked)
 
     def clear_systems(self) -> None:
         """Drops all phases, with their systems."""
@@ -400,4 +532,8 @@ class Calls(ABC):
 
     @abstractmethod
     def load(self, text: str) -> None:
-        """Loads the text of a `save`, or of a world alone, in the setup. The kinds are then those of the text."""
+        """Loads the text of a `save`, or of a world alone, in the setup. The kinds are then those of the text.
+
+        Behind the setup it is a BadLine. A text that is none of a scene is refused as NotJson, UnknownKey, BadField,
+        BadVersion, BadWorld or BadRecord (docs/SCENE_FILES.md, "Reading"), with the path or the place.
+        """

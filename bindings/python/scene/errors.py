@@ -49,7 +49,7 @@ class BadLine(SceneError, ValueError):
 
 
 class KindsDiffer(BadLine):
-    """A kind of `kinds=` is there with another shape (KindTaken), or isn't there behind the setup (NoSuchKind)."""
+    """A kind of `kinds=` is there with another shape (KindTaken), or can't be declared (BadName, KindsFull)."""
 
 
 def told_in_json(answer: Mapping[str, Any]) -> Optional[SceneError]:

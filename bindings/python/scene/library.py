@@ -11,8 +11,8 @@
 `./scene library FOLDER` makes the library. Without a path, it is the one that the variable SCENE_LIBRARY names, or else
 libscene.so in the folder that SCENE_LIB_DIR names.
 
-Columns, many entities read in one call, moments, what each kept frame did, a check of systems, and sharing are its own,
-beside those calls. A column is a ctypes array, which numpy takes without a copy; one of texts is a list.
+Columns, many entities read in one call, a check of systems, and sharing are its own, beside those calls. A column is a
+ctypes array, which numpy takes without a copy; one of texts is a list.
 
 Behind `share` nothing changes a scene, and several threads read it at once, each by a `reader` of its own; `unshare`
 ends that.
@@ -26,20 +26,22 @@ from pathlib import Path
 from typing import Any, Dict, Iterable, List, Mapping, Optional, Tuple, Union
 
 from scene.answers import ASK_TEXT, BAD_LINE, answer_to, bad_request
+from scene.calls import request_sent
 from scene.cells import packed_cells, raw_component
 from scene.deltas import Delta, KeptStep
 from scene.errors import BadLine, Lost, Refused, Shared, Untold
 from scene.handle import Library, Played
 from scene.header import BAD, CLOSED, DONE, LOST, NO_MEMORY, REFUSED, SHARED, UNTOLD, RawEntity, RawRefusal
 from scene.header import load_library
-from scene.reads import IN_FRAME, SHAPE_NAMES, Moment, Reads, raw_entity, shown
-from scene.values import SHAPES, Entity, Given, Named, Spawned, Value, count_named, depth_named, fitting, kind_named
-from scene.values import read_text, resource_value, shape_named, target_named, text_named
+from scene.reads import IN_FRAME, SHAPE_NAMES, Reads, raw_entity, shown
+from scene.values import SHAPES, Entity, Given, Moment, Named, Spawned, Value, count_named, depth_named, fitting
+from scene.values import kind_named, line_named, read_text, resource_value, shape_named, target_named, text_named
 
 __all__ = ["BAD", "CLOSED", "DONE", "Delta", "KeptStep", "LOST", "Library", "LibraryScene", "Lost", "Moment"]
 __all__ += ["NO_MEMORY", "Played", "REFUSED", "SHARED", "UNTOLD", "Untold", "load_library"]
 
 HISTORY_FULL, REWOUND = 17, 18
+DECLARED_LATE = "over the library a kind is declared in the setup alone, before a load: over the shell at any time"
 # What a scene text has, by its version.
 WORLD_ALONE, WITH_HISTORY = 1, 2
 # As many as a count can tell; no scene has so many frames.
@@ -144,9 +146,7 @@ class LibraryScene(Reads):
         return played
 
     def line(self, text: str) -> List[str]:
-        if "\n" in text:
-            raise BadLine("a line has no line break")
-        code, answer = self.play(text.encode())
+        code, answer = self.play(line_named(text).encode())
         lines = answer.decode().split("\n")[:-1]
         if code == REFUSED:
             raise Refused(lines[0])
@@ -154,8 +154,7 @@ class LibraryScene(Reads):
         return lines
 
     def request(self, do: str, **keys: Any) -> Dict[str, Any]:
-        sent = json.dumps({"do": do, **keys}, separators=(",", ":")).encode()
-        code, answer = self._played(sent, "request")
+        code, answer = self._played(request_sent({"do": do, **keys}), "request")
         text = answer.decode()
         if code == REFUSED:
             raise Refused(text.rstrip("\n"))
@@ -207,7 +206,10 @@ class LibraryScene(Reads):
     def declare(self, name: str, shape: str) -> None:
         asked, number = SHAPE_NAMES.index(shape_named(kind_named(name), shape)), c_uint32(0)
         named = in_bytes("the name of a kind", name)
-        self._call("declare", named, len(named), asked, byref(number))
+        try:
+            self._call("declare", named, len(named), asked, byref(number))
+        except BadLine:
+            raise BadLine(DECLARED_LATE) from None
         self._names.append(name)
         self._kinds[name] = number.value, shape
 
@@ -323,12 +325,12 @@ class LibraryScene(Reads):
         return self.spawned_last()
 
     def drop_frame(self) -> bool:
-        """Drops the open frame: nothing of it is done, and no call is made. Whether one was open."""
         code = self._scene.call("drop_frame")
         # (that of a shared scene stays open)
         self._in_frame = self._in_frame and code == SHARED
         if code != BAD:
             self._came(code, "drop_frame")
+            self._noted("dropframe")
         return code == DONE
 
     def _drop_frame(self) -> None:
@@ -363,6 +365,6 @@ class LibraryScene(Reads):
         return text.rstrip("\n")
 
     def load(self, text: str) -> None:
-        data = text.encode()
+        data = in_bytes("a scene text", text)
         self._call("load", data, len(data))
         self._look()

@@ -7,14 +7,28 @@ import re
 import select
 import subprocess
 from pathlib import Path
-from typing import IO, List, Optional, Sequence, Set, Union
+from typing import IO, Iterable, Iterator, List, Optional, Sequence, Set, Union
 
 from scene.errors import BadLine, Closed, Ended, ended
 
 # For how many milliseconds an answer is awaited before what the program says beside it is passed on.
 PATIENCE = 1000
+# So many bytes every pipe holds, also while the program reads none of them before its answers are read.
+HELD = select.PIPE_BUF
 REASON = re.compile(r"scene: line \d+: (.*)")
 LOG = logging.getLogger("scene")
+
+
+def batches(lines: Iterable[bytes]) -> Iterator[List[bytes]]:
+    """Lines that can be written together: those that a pipe holds, or else one alone."""
+    batch: List[bytes] = []
+    for line in lines:
+        if batch and sum(map(len, batch)) + len(line) > HELD:
+            yield batch
+            batch = []
+        batch.append(line)
+    if batch:
+        yield batch
 
 
 class Program:
@@ -38,15 +52,26 @@ class Program:
 
     def ask(self, line: bytes) -> List[str]:
         """The lines of the answer to a line, which is given with its line break."""
+        answer = self._told([line])[0]
+        if answer == ["bad line"]:
+            raise BadLine(self._reason or line.decode().strip())
+        return answer
+
+    def ask_all(self, requests: Iterable[bytes]) -> List[str]:
+        """The answers to requests, each of one line. They are sent together, which takes less time than one by one."""
+        return [answer[0] for batch in batches(requests) for answer in self._told(batch)]
+
+    def _told(self, lines: Sequence[bytes]) -> List[List[str]]:
+        """The lines of each answer to lines that a pipe holds, or to one alone."""
         if self._is_closed:
             raise Closed("the scene is closed")
         if self._end:
             raise ended(str(self._end), self._end.status)
         self._reason = ""
         try:
-            self._to.write(line)
+            self._to.write(b"".join(lines))
             self._to.flush()
-            answer = self._answer()
+            answers = self._answers_heard(len(lines))
         except (BrokenPipeError, EOFError):
             self._end = self._ended()
             raise self._end from None
@@ -55,14 +80,13 @@ class Program:
             self._process.kill()
             raise
         self._pass_on()
-        if answer == ["bad line"]:
-            raise BadLine(self._reason or line.decode().strip())
-        return answer
+        return answers
 
-    def _answer(self) -> List[str]:
-        """The lines of the next answer, behind which an empty one stands."""
+    def _answers_heard(self, count: int) -> List[List[str]]:
+        """The lines of the next answers, behind each of which an empty one stands; of several none is empty itself."""
         heard = self._heard[self._answers]
-        while heard != b"\n" and not heard.endswith(b"\n\n"):
+        # (its end is looked at first: long answers come in many parts)
+        while heard != b"\n" and not (heard.endswith(b"\n\n") and heard.count(b"\n\n") == count):
             if self._answers in self._silent:
                 raise EOFError
             if not self._hear(PATIENCE):
@@ -70,9 +94,9 @@ class Program:
         # Why a line is bad is said before its answer.
         while self._hear(0):
             pass
-        answer = heard.decode().split("\n")[:-2]
+        answers = heard.decode()[:-2].split("\n\n")
         heard.clear()
-        return answer
+        return [answer.split("\n") if answer else [] for answer in answers]
 
     def _hear(self, patience: int) -> bool:
         """Takes what the program says within so many milliseconds. Whether it said anything."""

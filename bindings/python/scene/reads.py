@@ -6,16 +6,17 @@ from array import array
 from ctypes import byref, c_int64, c_uint32, c_uint64
 from functools import partial
 from itertools import repeat
-from typing import Any, Dict, Iterable, List, NamedTuple, Optional, Sequence, Tuple, Union, overload
+from typing import Any, Dict, Iterable, Iterator, List, Optional, Sequence, Tuple, Union, overload
 
 from scene.calls import Calls
-from scene.deltas import DeltasOfStep, KeptStep
+from scene.deltas import KeptStep, StepSummary
 from scene.errors import BadLine, Closed, Lost, NoMemory, Refused, Shared, Untold
 from scene.handle import Library
 from scene.header import ABSENT, BACK, BAD, CLOSED, DONE, INT, LINK, LOST, NOBODY, ON, REFUSED, SHARED, TEXT, UNTOLD
 from scene.header import VEC3, RawCell, RawDelta, RawEntity, RawInfo, RawMoment, RawName, RawTable, RawTicks, RawVec3
-from scene.values import ENTITY, SHAPES, Cell, Entity, Named, Row, Status, Value, entity_named, fitting, kind_named
-from scene.values import read_count, text_named
+from scene.raw_deltas import DeltasOfStep
+from scene.values import ENTITY, PAGE, SHAPES, Cell, Entity, Moment, Named, Row, Status, Value, entity_named
+from scene.values import kind_named, moment_named, page_named, text_named
 
 IN_FRAME = "a frame is open: only commands and queue come before its commit"
 SHAPE_NAMES = tuple(SHAPES)
@@ -26,18 +27,12 @@ COLUMNS: Dict[Optional[str], Tuple[str, Any]] = {
     "Link": ("links", RawEntity),
 }
 ADDED, CHANGED = range(2)
+WAYS = {"past": BACK, "future": ON}
 # The greatest number of 32 bits, and the greatest place of a list.
 MOST = 2**32 - 1
 LAST = 2**64 - 1
 # So many children are read at once; of an entity with more, all are asked for again.
 FEW = 16
-
-
-class Moment(NamedTuple):
-    """A moment of a scene, from which a view looks for what was written since. It can be kept as long as one likes."""
-
-    rewinds: int
-    tick: int
 
 
 def shown(entity: RawEntity) -> Entity:
@@ -82,7 +77,7 @@ class Reads(Calls):
         self._kinds: Dict[str, Tuple[int, str]] = {}
         self._names: List[str] = []
         self._in_frame = False
-        # Whether the setup is over, behind which no kind is declared.
+        # Whether the setup is over, behind which the library declares no kind.
         self._is_ready = False
         # What calls write into: a scene has one thread, and one call at a time.
         self._cell, self._ticks, self._info = RawCell(), RawTicks(), RawInfo()
@@ -164,6 +159,15 @@ class Reads(Calls):
 
     # ---- kinds
 
+    def kinds(self) -> Dict[str, str]:
+        self._asked()
+        # (a scene that is closed, or another thread's, tells none)
+        self._numbers_of_scene()
+        return {name: self._kinds[name][1] for name in self._names}
+
+    def _kind_names(self) -> Sequence[str]:
+        return self._names
+
     def shape_of(self, kind: str) -> Optional[str]:
         self._scene.check_thread()
         found = self._kinds.get(kind_named(kind))
@@ -179,10 +183,6 @@ class Reads(Calls):
     def _mask(self, kinds: Sequence[str]) -> int:
         """A kind set as the library takes it."""
         return sum({1 << self._number(kind) for kind in self._all_known(kinds)})
-
-    def kinds_of(self, mask: int) -> List[str]:
-        """The names of the kinds of a set, by their numbers."""
-        return [name for number, name in enumerate(self._names) if mask >> number & 1]
 
     # ---- one entity
 
@@ -278,14 +278,33 @@ class Reads(Calls):
         found: List[Tuple[Entity, Dict[str, Cell]]] = []
         children: Dict[Entity, Tuple[Entity, ...]] = {}
         for mask, _ in self.tables():
-            raw = self.entities(mask)
-            columns = {kind: self._column_of_cells(mask, kind) for kind in self.kinds_of(mask)}
-            for place, entity in enumerate(raw):
+            for entity, cells in self._cells_of_rows(mask):
                 named = shown(entity)
-                found.append((named, {kind: column[place] for kind, column in columns.items()}))
+                found.append((named, cells))
                 children[named] = tuple(self._children(entity))
         parents = {child: parent for parent, below in children.items() for child in below}
         return [Row(entity, cells, parents.get(entity), children[entity]) for entity, cells in found]
+
+    def each_row(self, *need: str, without: Sequence[str] = (), page: int = PAGE) -> Iterator[Row]:
+        page_named(page)
+        self._asked()
+        masks = [mask for mask, _ in self.tables(*need, without=without)]
+        return self._rows_of_tables(masks, self.now())
+
+    def _rows_of_tables(self, masks: Sequence[int], began: Moment) -> Iterator[Row]:
+        """The rows of kind sets, table by table."""
+        for mask in masks:
+            self._check_moment(began, self.now())
+            yield from [
+                Row(shown(entity), cells, self.parent_of(shown(entity)), tuple(self._children(entity)))
+                for entity, cells in self._cells_of_rows(mask)
+            ]
+
+    def _cells_of_rows(self, mask: int) -> Iterator[Tuple[RawEntity, Dict[str, Cell]]]:
+        """The entities of a kind set, each with its components."""
+        columns = {kind: self._column_of_cells(mask, kind) for kind in self.kinds_of(mask)}
+        for place, entity in enumerate(self.entities(mask)):
+            yield entity, {kind: column[place] for kind, column in columns.items()}
 
     def _column_of_cells(self, mask: int, kind: str) -> List[Cell]:
         """The components of a kind in the rows of a kind set."""
@@ -342,12 +361,10 @@ class Reads(Calls):
 
     @property
     def depth(self) -> int:
-        """How many frames are kept at most, to be undone."""
         return int(self._numbers_of_scene().depth)
 
     @property
     def in_frame(self) -> bool:
-        """Whether a frame is open."""
         self._scene.check_thread()
         return self._in_frame
 
@@ -372,8 +389,6 @@ class Reads(Calls):
     # ---- by columns: each is a ctypes array, which is a buffer that `numpy.frombuffer` takes without a copy
 
     def tables(self, *need: str, without: Sequence[str] = ()) -> List[Tuple[int, int]]:
-        """The kind sets that some entities have, of those with all kinds of `need` and none of `without`: ascending,
-        each with the count of its entities. The kind of number k is bit k."""
         found = self._listed("tables", RawTable, self._mask(need), self._mask(without))
         return [(table.mask, table.rows) for table in found]
 
@@ -461,34 +476,17 @@ class Reads(Calls):
     # ---- following, by a moment of each view's own
 
     def now(self) -> Moment:
-        """This moment."""
         found = RawMoment()
         self._ready()
         self._told(self._scene.call("now", byref(found)), "now")
         return Moment(found.rewinds, found.tick)
 
-    def changed_since(
-        self, moment: Moment, need: Sequence[str] = (), without: Sequence[str] = ()
-    ) -> List[Tuple[Entity, str]]:
-        """The components that were changed since a moment, those included that were added: of the entities that have
-        all kinds of `need` and none of `without`, in the order of `tables` and `entities`, then by kind.
-
-        Refused as Rewound, where something was undone since, so that a view reads all anew.
-        """
-        return self._since("changed_since", moment, need, without)
-
-    def added_since(
-        self, moment: Moment, need: Sequence[str] = (), without: Sequence[str] = ()
-    ) -> List[Tuple[Entity, str]]:
-        """The components that were added since a moment, and are there; else as `changed_since`."""
-        return self._since("added_since", moment, need, without)
-
     def _since(
-        self, name: str, moment: Moment, need: Sequence[str], without: Sequence[str]
+        self, what: str, moment: Moment, need: Sequence[str], without: Sequence[str]
     ) -> List[Tuple[Entity, str]]:
         self._ready()
-        raw, needed, barred = RawMoment(*moment), self._mask(need), self._mask(without)
-        code, names = self._scene.listed(name, RawName, raw, needed, barred)
+        name, raw = f"{what}_since", RawMoment(*moment_named(moment))
+        code, names = self._scene.listed(name, RawName, raw, self._mask(need), self._mask(without))
         self._told(code, name)
         if code == REFUSED:
             raise Refused(f"refused 18 Rewound {self._numbers_of_scene().rewinds}")
@@ -496,38 +494,30 @@ class Reads(Calls):
 
     # ---- following, by what each frame did
 
-    def past_step(self, place: int = 0) -> Optional[KeptStep]:
-        """What a frame did that can be undone: the newest one for place 0, the one before it for 1, and so on; None
-        where there are fewer. A place that is no whole number from 0 is a TypeError or a BadLine.
-
-        So a view follows a frame, or a redo, by `past_step().deltas`, and a redo of several frames by those of the
-        places `count - 1` down to 0. An advance is a frame too. In an open frame it tells nothing of that. It costs
-        what it gives: a few calls, however many deltas there are.
-        """
-        return self._kept_step(BACK, place)
-
-    def future_step(self, place: int = 0) -> Optional[KeptStep]:
-        """What a frame did that can be redone: the next one for place 0, the one behind it for 1, and so on; else as
-        `past_step`.
-
-        So a view follows an undo by `future_step().undone()`, and one of several frames by those of the places
-        `count - 1` down to 0.
-        """
-        return self._kept_step(ON, place)
-
-    def _kept_step(self, way: int, place: int) -> Optional[KeptStep]:
-        asked = min(fitting("the place of a frame", read_count, "a whole number from 0", place), LAST)
-        tick = c_uint64(0)
+    def _kept_step(self, way: str, place: int) -> Optional[KeptStep]:
+        asked, tick = (WAYS[way], min(place, LAST)), c_uint64(0)
         self._ready()
-        code, raw = self._scene.listed("step", RawDelta, way, asked, byref(tick))
+        code, raw = self._scene.listed("step", RawDelta, *asked, byref(tick))
         self._told(code, "step")
         if code == REFUSED:
             return None
 
         def runs(name: str, size: int, *which: int) -> List[bytes]:
             # (each call goes through the deltas from the first one on, so all are asked for at once)
-            came, found = self._scene.runs(name, size, way, asked, *which, places=len(raw))
+            came, found = self._scene.runs(name, size, *asked, *which, places=len(raw))
             self._told(came, name)
             return found
 
         return KeptStep(tick.value, DeltasOfStep(self._names, runs).all_in(raw))
+
+    def _summaries(self, way: str, first: int, count: int) -> List[StepSummary]:
+        self._asked()
+        none, tick = (RawDelta * 0)(), c_uint64(0)
+        found: List[StepSummary] = []
+        for place in range(min(first, LAST), min(first + count, LAST)):
+            code, total = self._scene.some("step", none, WAYS[way], place, byref(tick))
+            self._told(code, "step")
+            if code == REFUSED:
+                break
+            found.append(StepSummary(tick.value, total))
+        return found

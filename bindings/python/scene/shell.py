@@ -3,17 +3,22 @@ from __future__ import annotations
 
 import json
 from contextlib import suppress
+from itertools import count as counting
 from pathlib import Path
-from typing import Any, Dict, List, Mapping, Optional, Sequence, Union, overload
+from typing import Any, Dict, Iterable, Iterator, List, Mapping, Optional, Sequence, Tuple, Union, overload
 
-from scene.calls import Calls
+from scene.calls import Calls, request_sent
+from scene.deltas import KeptStep, StepSummary
 from scene.errors import BadLine, Refused, SceneError, told_in_json
 from scene.program import Program, program_named
-from scene.values import KIND, Cell, Entity, Given, Named, Row, Spawned, Status, Value, count_named, depth_named
-from scene.values import entity_named, kind_named, target_named, text_named
+from scene.told import deltas_told, entities_told, entity_told, resources_told, value_told
+from scene.values import KIND, PAGE, Cell, Entity, Given, Moment, Named, Row, Spawned, Status, Value, count_named
+from scene.values import depth_named, entity_named, kind_named, line_named, moment_named, page_named, shape_named
+from scene.values import target_named, text_named
 
-# An entity that is never alive: a command about it is refused.
-NOBODY = "4294967295v4294967295"
+# The greatest place, and the greatest count, that a request can name.
+MOST = 2**32 - 1
+NO_SUCH_ENTITY = 1
 # In which words a line is bad whose value is `?` for a kind of each shape.
 BAD_VALUES = {
     "Tag": "is a Tag, and so has no =",
@@ -25,12 +30,9 @@ BAD_VALUES = {
 TOO_FEW = {"undo": "refused 15 NothingToUndo", "redo": "refused 16 NothingToRedo"}
 
 
-def value_in(shape: Optional[str], value: Any) -> Value:
-    """A value of an answer in JSON, by its shape."""
-    if isinstance(value, list):
-        return (value[0], value[1], value[2])
-    known: Value = Entity(value) if shape == "Link" else value
-    return known
+def moment_told(status: Mapping[str, Any]) -> Moment:
+    """The moment of an answer to `status`."""
+    return Moment(status["rewinds"], status["tick"])
 
 
 class World:
@@ -38,9 +40,8 @@ class World:
 
     def __init__(self, answer: Mapping[str, Any]) -> None:
         self.tables: List[Dict[str, Any]] = answer["tables"]
-        self.resources: Dict[str, List[Any]] = answer["resources"]
         self.children: Dict[str, List[Entity]] = {
-            parent: [Entity(child) for child in children] for parent, children in answer["children"].items()
+            parent: entities_told(children) for parent, children in answer["children"].items()
         }
         self.parents = {child: Entity(parent) for parent, children in self.children.items() for child in children}
 
@@ -58,11 +59,11 @@ class Scene(Calls):
     """A scene in a shell of its own, kept in the store at a path, if one is given. `with` ends the shell.
 
     The arguments are those of `scene.open`. A program that isn't there is the OSError that says so, as
-    FileNotFoundError; one that ends at once, an `Ended`; a store that can't be opened, a `StoreError`; other kinds than
-    the store's, `KindsDiffer`.
+    FileNotFoundError; one that ends at once, an `Ended`; a store that can't be opened, a `StoreError`; kinds that the
+    store has in other shapes, `KindsDiffer`.
 
-    It has no columns, no moments as values, no deltas of frames, no check of systems, no readers in other threads, and
-    no frame that is dropped without a call: those are `LibraryScene`'s own.
+    It has no columns, no check of systems, and no readers in other threads: those are `LibraryScene`'s own. A call that
+    another exception interrupts, as a KeyboardInterrupt, ends the program, and each later one is an `Ended`.
     """
 
     def __init__(
@@ -74,10 +75,11 @@ class Scene(Calls):
     ) -> None:
         kept = [] if store is None else ["--store", str(store)]
         self._program = Program([program_named(program), "shell", "--framed", *options, *kept])
-        # The shapes of the kinds that were asked for.
+        # The shapes of the kinds that were asked for; and of all, once they are told: behind the setup they stay, but
+        # for those that are declared.
         self._shapes: Dict[str, str] = {}
-        # How many frames were taken back; no request tells that of a store.
-        self._rewinds = 0
+        self._all_shapes: Optional[Dict[str, str]] = None
+        self._in_frame = False
         try:
             # The answer to an empty line comes when the store is open, or else the reason why it isn't.
             self.line("")
@@ -94,36 +96,58 @@ class Scene(Calls):
     # ---- lines and requests
 
     def line(self, text: str) -> List[str]:
-        if "\n" in text:
-            raise BadLine("a line has no line break")
-        if text.startswith("{"):
+        if line_named(text).startswith("{"):
             raise BadLine("a request is no line of a script: `request` sends one")
         # The shell drops a carriage return at the end of a line, and takes spaces there for none.
         end = " \n" if text.endswith("\r") else "\n"
         answer = self._program.ask((text + end).encode())
-        if answer and answer[0].startswith(("refused ", "fault ")):
-            raise Refused(answer[0])
-        self._answered(text.lstrip(" ").partition(" ")[0])
+        is_refused = bool(answer) and answer[0].startswith(("refused ", "fault "))
+        self._came(text.lstrip(" ").partition(" ")[0], Refused(answer[0]) if is_refused else None)
         return answer
 
     def request(self, do: str, **keys: Any) -> Dict[str, Any]:
-        sent = json.dumps({"do": do, **keys}, separators=(",", ":"))
-        answer: Dict[str, Any] = json.loads(self._program.ask(f"{sent}\n".encode())[0])
-        error = told_in_json(answer)
+        return self._request_all([{"do": do, **keys}])[0]
+
+    def _request_all(self, requests: Sequence[Mapping[str, Any]]) -> List[Dict[str, Any]]:
+        """The answers to requests that are sent together. Where several are errors, the first one is raised."""
+        sent = [request_sent(keys) + b"\n" for keys in requests]
+        answers: List[Dict[str, Any]] = [json.loads(answer) for answer in self._program.ask_all(sent)]
+        for keys, answer in zip(requests, answers):
+            self._came(keys["do"], told_in_json(answer))
+            if keys["do"] == "declare" and self._all_shapes is not None:
+                self._all_shapes[keys["name"]] = keys["shape"]
+        return answers
+
+    def _came(self, word: str, error: Optional[SceneError]) -> None:
+        """Keeps what this side has to know of a line or a request, by its first word, and raises why it wasn't done."""
+        if word in ("begin", "commit", "dropframe") and not isinstance(error, BadLine):
+            # (a commit that is refused ends the frame too)
+            self._in_frame = word == "begin"
         if error:
             raise error
-        self._answered(do)
-        return answer
-
-    def _answered(self, word: str) -> None:
-        """Keeps what this side has to know of a line or a request that was answered, by its first word."""
         if word == "load":
             self._shapes.clear()
-        elif word == "undo":
-            self._rewinds += 1
         self._noted(word)
 
+    # ---- kinds
+
+    def declare(self, name: str, shape: str) -> None:
+        self.request("declare", name=kind_named(name), shape=shape_named(name, shape))
+
+    def kinds(self) -> Dict[str, str]:
+        self._all_shapes = dict(self.request("kinds")["kinds"])
+        return dict(self._all_shapes)
+
+    def _shapes_now(self) -> Dict[str, str]:
+        """The shapes of all kinds, which are asked for once."""
+        return self.kinds() if self._all_shapes is None else self._all_shapes
+
+    def _kind_names(self) -> Sequence[str]:
+        return list(self._shapes_now())
+
     def shape_of(self, kind: str) -> Optional[str]:
+        if self._all_shapes is not None:
+            return self._all_shapes.get(kind_named(kind))
         if kind not in self._shapes and KIND.fullmatch(kind_named(kind)):
             try:
                 # It is bad for any shape, does nothing, and is said to be bad in the words of the shape.
@@ -154,25 +178,45 @@ class Scene(Calls):
         for kind, value in self._fitting(cells).items():
             self.request("insert", entity=named, kind=kind, value=value)
 
+    def insert_all(self, entities: Iterable[Named], /, **columns: Iterable[Given]) -> None:
+        named = [entity_named(entity) for entity in entities]
+        writes = [(kind, self._fitting_column(kind, values, len(named))) for kind, values in columns.items()]
+        with self.frame():
+            self._request_all(
+                [
+                    {"do": "insert", "entity": entity, "kind": kind, "value": value}
+                    for kind, values in writes
+                    for entity, value in zip(named, values)
+                ]
+            )
+
     def _begin(self) -> None:
         self.request("begin")
 
     def _committed(self) -> List[Entity]:
-        return [Entity(entity) for entity in self.request("commit")["entities"]]
+        return entities_told(self.request("commit")["entities"])
+
+    def drop_frame(self) -> bool:
+        try:
+            self.request("dropframe")
+        except BadLine:
+            return False
+        return True
 
     def _drop_frame(self) -> None:
-        # No line drops a frame, so it gets a command that is always refused. It is gone already where the shell is, or
-        # where a line has committed it.
-        with suppress(SceneError, ValueError):
-            self.line(f"despawn {NOBODY}")
-            self.line("commit")
+        # It is gone already where the shell is, or where a line has committed it.
+        with suppress(SceneError):
+            self.drop_frame()
+
+    @property
+    def in_frame(self) -> bool:
+        return self._in_frame
 
     def _steps(self, do: str, count: int) -> None:
         # All or none: so it is asked first whether there are so many.
         if count_named(count) != 1 and getattr(self.status(), do) < count:
             raise Refused(TOO_FEW[do])
-        for _ in range(count):
-            self.request(do)
+        self._request_all([{"do": do}] * count)
 
     # ---- reading
 
@@ -190,48 +234,85 @@ class Scene(Calls):
         cells = self.request("get", entity=named)["cells"]
         if kind not in cells:
             raise Refused("refused 3 NotPresent")
-        return value_in(shape, cells[kind][0])
+        return value_told(shape, cells[kind][0])
 
     def cells(self, entity: Named) -> Dict[str, Cell]:
         return self._cells(self.request("get", entity=entity_named(entity))["cells"])
 
     def _cells(self, told: Mapping[str, List[Any]]) -> Dict[str, Cell]:
         """The components that an answer tells."""
-        return {name: Cell(value_in(self.shape_of(name), value), *ticks) for name, (value, *ticks) in told.items()}
+        shapes = self._shapes_now()
+        return {name: Cell(value_told(shapes[name], value), *ticks) for name, (value, *ticks) in told.items()}
+
+    def _rows(self, told: Sequence[Tuple[Entity, Dict[str, Cell]]]) -> List[Row]:
+        """The rows of entities with these components, whose parents and children are asked for together."""
+        asked = [{"do": do, "entity": entity} for entity, _ in told for do in ("parentof", "children")]
+        answers = self._request_all(asked)
+        return [
+            Row(entity, cells, entity_told(above["entity"]), tuple(entities_told(below["entities"])))
+            for (entity, cells), above, below in zip(told, answers[::2], answers[1::2])
+        ]
 
     def _world(self) -> World:
         return World(self.request("show"))
 
     def row(self, entity: Named) -> Row:
-        cells = self.cells(entity)
-        return self._world().row(entity_named(entity), cells)
+        return self._rows([(entity_named(entity), self.cells(entity))])[0]
 
     def rows(self) -> List[Row]:
         world = self._world()
         told = (row for table in world.tables for row in table["rows"])
         return [world.row(Entity(row["entity"]), self._cells(row["cells"])) for row in told]
 
-    def is_alive(self, entity: Named) -> bool:
+    def each_row(self, *need: str, without: Sequence[str] = (), page: int = PAGE) -> Iterator[Row]:
+        wanted, size = self._filter(need, without), page_named(page)
+        return self._pages(wanted, size, self.now())
+
+    def _filter(self, need: Sequence[str], without: Sequence[str]) -> Dict[str, List[str]]:
+        """A filter as a request has it."""
+        return {"need": self._all_known(need), "without": self._all_known(without)}
+
+    def _pages(self, wanted: Mapping[str, Any], size: int, began: Moment) -> Iterator[Row]:
+        """The rows that a filter matches, of which so many are asked for at once."""
+        for first in counting(0, size):
+            page = {"do": "rows", **wanted, "from": first, "count": size}
+            status, answer = self._request_all([{"do": "status"}, page])
+            self._check_moment(began, moment_told(status))
+            rows = [(Entity(row["entity"]), self._cells(row["cells"])) for row in answer["rows"]]
+            yield from self._rows(rows)
+            if len(rows) < size:
+                return
+
+    def tables(self, *need: str, without: Sequence[str] = ()) -> List[Tuple[int, int]]:
+        told = self.request("tables", **self._filter(need, without))["tables"]
+        bits = {kind: 1 << number for number, kind in enumerate(self._kind_names())}
+        return [(sum(bits[kind] for kind in table["kinds"]), table["rows"]) for table in told]
+
+    def _about(self, do: str, entity: Named) -> Optional[Dict[str, Any]]:
+        """What a request tells about an entity; None where that isn't alive."""
         try:
-            self.request("get", entity=entity_named(entity))
-        except Refused:
-            return False
-        return True
+            return self.request(do, entity=entity_named(entity))
+        except Refused as refused:
+            if refused.number != NO_SUCH_ENTITY:
+                raise
+            return None
+
+    def is_alive(self, entity: Named) -> bool:
+        return self._about("parentof", entity) is not None
 
     def parent_of(self, entity: Named) -> Optional[Entity]:
-        named = entity_named(entity)
-        return self._world().parents.get(named)
+        told = self._about("parentof", entity)
+        return None if told is None else entity_told(told["entity"])
 
     def children_of(self, entity: Named) -> List[Entity]:
-        named = entity_named(entity)
-        return self._world().children.get(named, [])
+        told = self._about("children", entity)
+        return [] if told is None else entities_told(told["entities"])
 
     def roots(self) -> List[Entity]:
         return self._world().roots()
 
     def resources(self) -> Dict[str, Cell]:
-        told = self._world().resources
-        return {name: Cell(value_in(shape, value), *ticks) for name, (shape, value, *ticks) in told.items()}
+        return resources_told(self.request("resources")["resources"])
 
     def resource(self, name: str) -> Value:
         text_named("the name of a resource", name)
@@ -241,12 +322,37 @@ class Scene(Calls):
         return found.value
 
     def status(self) -> Status:
-        text = self.request("dumpall")["text"]
-        counts = (len(text[part]) for part in ("undo", "redo", "generations"))
-        return Status(text["tick"], self._rewinds, *counts, text["limit"], len(text["kinds"]))
+        told = self.request("status")
+        numbers = (told[name] for name in ("tick", "rewinds", "past", "future", "slots", "limit"))
+        return Status(*numbers, len(self._shapes_now()))
+
+    @property
+    def depth(self) -> int:
+        return int(self.request("status")["depth"])
+
+    # ---- following
+
+    def now(self) -> Moment:
+        return moment_told(self.request("status"))
+
+    def _since(
+        self, what: str, moment: Moment, need: Sequence[str], without: Sequence[str]
+    ) -> List[Tuple[Entity, str]]:
+        wanted = {**self._filter(need, without), **moment_named(moment)._asdict()}
+        return self._cells_named(f"{what}since", **wanted)
+
+    def _kept_step(self, way: str, place: int) -> Optional[KeptStep]:
+        record = self.request("deltas", of=way, step=min(place, MOST))["record"]
+        if record is None:
+            return None
+        return KeptStep(record["tick"], deltas_told(list(self._shapes_now().items()), record["deltas"]))
+
+    def _summaries(self, way: str, first: int, count: int) -> List[StepSummary]:
+        told = self.request(way, **{"from": min(first, MOST), "count": min(count, MOST)})["steps"]
+        return [StepSummary(step["tick"], step["deltas"]) for step in told]
 
     # ---- texts
 
     def load(self, text: str) -> None:
         # A line break is white space of JSON, as a tab is, and neither can stand within a string.
-        self.line("load " + text.replace("\n", "\t"))
+        self.line("load " + text_named("a scene text", text).replace("\n", "\t"))

@@ -2,7 +2,8 @@
 from __future__ import annotations
 
 import reprlib
-from typing import Any, Callable, Dict, Mapping, NamedTuple, Union
+from dataclasses import dataclass
+from typing import Any, Callable, Dict, Mapping, NamedTuple, Sequence, Union
 
 from scene.values import Given, Value, fitting, read_whole, text_named
 
@@ -40,6 +41,19 @@ class CountInto(NamedTuple):
 
 
 Step = Union[AddVec, AddInt, DespawnAtZero, SpawnChild, CountInto]
+
+
+@dataclass(frozen=True)
+class System:
+    """A system by itself, which can be added to any scene, as `System("age", [AddInt("Health", -1)], ["Health"])`."""
+
+    name: str
+    steps: Sequence[Step]
+    """What is done to each entity of its filter, in this order."""
+    need: Sequence[str] = ()
+    """The kinds of which an entity has to have all."""
+    without: Sequence[str] = ()
+    """The kinds of which it may have none."""
 
 
 def step_asked(

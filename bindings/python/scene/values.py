@@ -69,7 +69,7 @@ class Spawns:
             self._all.append(Spawned(self, len(self._all)))
         elif word == "queue":
             self._first = len(self._all)
-        elif word == "commit":
+        elif word in ("commit", "dropframe"):
             self.is_over = True
 
     def newest(self) -> Optional[Spawned]:
@@ -116,13 +116,22 @@ class Row(NamedTuple):
         return {name: cell.value for name, cell in self.cells.items()}
 
 
+class Moment(NamedTuple):
+    """A moment of a scene, from which a view looks for what was written since. It can be kept as long as one likes."""
+
+    rewinds: int
+    """How many frames were taken back before it."""
+    tick: int
+    """How many frames there were, as the last one's number."""
+
+
 class Status(NamedTuple):
     """The numbers of a scene."""
 
     tick: int
     """How many frames there were, as the last one's number."""
     rewinds: int
-    """How many frames were taken back; over the shell, since it was opened. With the tick it tells what was done."""
+    """How many frames were taken back. With the tick it tells what was done."""
     undo: int
     """How many frames can be undone."""
     redo: int
@@ -135,8 +144,10 @@ class Status(NamedTuple):
     """How many kinds there are."""
 
 
-# No scene keeps a record of more frames.
-MOST_DEPTH = 2**20
+# No scene keeps a record of more frames, or has more rows.
+MOST_DEPTH = MOST_ROWS = 2**20
+# How many rows are asked for at once, where a caller doesn't say.
+PAGE = 1000
 
 WHOLE = re.compile(r"0|-?[1-9][0-9]{0,18}")
 ENTITY = re.compile(r"(0|[1-9][0-9]{0,9})v(0|[1-9][0-9]{0,9})")
@@ -267,6 +278,39 @@ def count_named(value: object) -> int:
     return fitting("the count of frames", read_count, "a whole number from 0", value)
 
 
+def place_named(value: object) -> int:
+    """The place of a frame, among those that are kept, that a caller gives."""
+    return fitting("the place of a frame", read_count, "a whole number from 0", value)
+
+
+def read_page(value: object) -> int:
+    """How many rows are asked for at once."""
+    number = read_count(value)
+    if number == 0:
+        raise ValueError
+    return min(number, MOST_ROWS)
+
+
+def page_named(value: object) -> int:
+    """The length of a page that a caller gives."""
+    return fitting("a page", read_page, "a whole number of rows from 1", value)
+
+
+def read_moment(value: object) -> Moment:
+    """A moment, which is two whole numbers of 64 bits."""
+    if not isinstance(value, tuple):
+        raise TypeError
+    rewinds, tick = map(read_count, value)
+    if max(rewinds, tick) >= 2**64:
+        raise ValueError
+    return Moment(rewinds, tick)
+
+
+def moment_named(value: object) -> Moment:
+    """The moment that a caller gives."""
+    return fitting("a moment", read_moment, "what `now` gave", value)
+
+
 def read_depth(value: object) -> int:
     """Of how many frames a record is kept."""
     number = read_count(value)
@@ -295,6 +339,14 @@ def text_named(what: str, name: object) -> str:
     if not isinstance(name, str):
         raise TypeError(f"{what} is a text, and {reprlib.repr(name)} isn't")
     return name
+
+
+def line_named(line: object) -> str:
+    """The line that a caller gives."""
+    text = fitting("a line", read_text, "a text", text_named("a line", line))
+    if "\n" in text:
+        raise BadLine("a line has no line break")
+    return text
 
 
 def kind_named(name: object) -> str:

@@ -269,7 +269,7 @@ class Editor {
     const has = (...names) => names.some((name) => touched.has(name));
     const { records, position } = this.mirror;
     if (has("frames", "all")) this.marks = marksOf(records[position - 1]);
-    if (has("all")) this.searching.showKinds();
+    if (has("kinds", "all")) this.searching.showKinds();
     const isSearched = this.showFound(has);
     if (isSearched || has("forest")) this.showForest();
     else if (has("frames", "chosen", "sights")) this.forest.draw();
@@ -278,7 +278,7 @@ class Editor {
     if (has("frames", "all")) this.strip.show();
     if (has("frames", "all", "sessions")) this.undoing.show();
     if (has("frames", "all")) this.resources.show();
-    if (has("frames", "all", "chosen")) this.detail.show();
+    if (has("frames", "kinds", "all", "chosen")) this.detail.show();
     if (has("values", "sights", "all", "chosen")) this.picture.showSoon();
     if (has("phases")) this.systems.show();
     if (has("all")) this.setup.show();

@@ -6,6 +6,7 @@ import { framesOf } from "./words.js";
 
 const EMPTY = { tables: [], children: [], resources: [], generations: [], free: [], tick: 0, undo: [], redo: [] };
 const ALL = ["forest", "tables", "values", "frames", "phases", "sessions", "all"];
+const BY_KINDS = ["forest", "tables", "values", "kinds"];
 const BY_DELTA = {
   spawned: ["forest", "tables", "values"], despawned: ["forest", "tables", "values"], shifted: ["tables", "values"],
   cellset: ["values"], linked: ["forest", "values"], resourceset: ["values"],
@@ -33,12 +34,20 @@ export class Mirror {
     return new Set(ALL);
   }
 
+  // A new kind comes last, so that the numbers of the others stay.
+  takeKinds(kinds) {
+    this.timeline.kinds = kinds;
+    this.nameKind = nameKind(kinds);
+    return new Set(BY_KINDS);
+  }
+
   // Makes the change that an event tells, and says which parts of the page it may have changed.
   apply(event) {
     switch (event.sort) {
       case "frame": return this.frame(event);
-      case "undo": return this.step(-1);
+      case "undo": return this.undo(event);
       case "redo": return this.redo(event);
+      case "kinds": return this.takeKinds(event.kinds);
       case "phases": this.phases = event.phases; return new Set(["phases"]);
       case "sessions": this.sessions = event.sessions; return new Set(["sessions"]);
       case "shell": this.shell = event.state; return new Set(["sessions"]);
@@ -60,7 +69,28 @@ export class Mirror {
     return touched;
   }
 
-  redo({ dropped }) {
+  // Of a record that wasn't held the event tells it, and whose frame it is.
+  undo({ record, frame, dropped }) {
+    const { timeline, frames } = this;
+    if (timeline.position === 0) {
+      timeline.records.unshift(record);
+      frames.unshift(frame);
+      timeline.position = 1;
+      this.older -= 1;
+      this.known = null;
+    }
+    const touched = this.step(-1);
+    if (dropped > 0) this.dropLater(dropped);
+    return touched;
+  }
+
+  redo({ record, frame, dropped }) {
+    const { timeline, frames } = this;
+    if (timeline.position === timeline.records.length) {
+      timeline.records.push(record);
+      frames.push(frame);
+      this.later -= 1;
+    }
     const touched = this.step(1);
     if (dropped > 0) this.drop(dropped);
     return touched;
@@ -72,6 +102,14 @@ export class Mirror {
     this.timeline.position -= count;
     this.older += count;
     this.known = null;
+  }
+
+  // The farthest of the future are held no more.
+  dropLater(count) {
+    this.timeline.records.length -= count;
+    this.frames.length -= count;
+    this.later += count;
+    this.forget(this.records.length);
   }
 
   step(by) {

@@ -72,16 +72,21 @@ export class Picture {
   // What is drawn
 
   showAxes() {
-    const { kinds } = this.editor.mirror;
+    const { kinds, isSetup } = this.editor.mirror;
     const key = JSON.stringify(kinds);
     if (key === this.kindsKey) return;
-    Object.assign(this, { kindsKey: key, all: axesOf(kinds), bounds: null });
-    const first = firstAxes(this.all);
+    const before = this.selects.map(({ value }) => value);
+    const isGrown = this.kindsKey !== undefined && key.startsWith(this.kindsKey.slice(0, -1));
+    Object.assign(this, { kindsKey: key, all: axesOf(kinds) });
+    const first = firstAxes(this.all).map((axis) => axis.key);
     this.box.hidden = first.length < 2;
+    // A kind that comes behind the setup leaves the picture as it is.
+    const isKept = isGrown && !isSetup && before.every((value) => value !== "");
+    if (!isKept) this.bounds = null;
     this.selects.forEach((select, at) => {
       const option = (axis) => Object.assign(part("option", "", axis.text), { value: axis.key });
       select.replaceChildren(...this.all.map(option));
-      select.value = first[at]?.key ?? "";
+      select.value = (isKept ? before : first)[at] ?? "";
     });
   }
 

@@ -23,7 +23,7 @@ export function wordsOf(words) {
   return words.slice(0, MOST_WORDS).join("; ") + (more > 0 ? ` and ${more} more` : "");
 }
 
-// What is said of a frame, an undo or a redo. `before` is what the mirror had before it: its position and its frames.
+// What is said of a frame, an undo, a redo or a new kind. `before` is what the mirror had before it: its position and its frames.
 const TOLD = {
   frame(event, isMine, number, lost) {
     const future = lost > 0 ? ` The ${counted(lost, "frame")} of the future ${lost === 1 ? "is" : "are"} gone.` : "";
@@ -32,6 +32,10 @@ const TOLD = {
   },
   undo: (event, isMine, number) => `${isMine ? "You" : capital(who(event.session))} took frame ${number} back.`,
   redo: (event, isMine, number) => `${isMine ? "You" : capital(who(event.session))} did frame ${number} again.`,
+  kinds(event, isMine) {
+    const [name, shape] = event.kinds.at(-1);
+    return `${isMine ? "Done" : capital(who(event.session))}: a new kind, ${name} (${shape}).`;
+  },
   phases(event, isMine) {
     const systems = `${counted(event.phases.flat().length, "system")} in ${counted(event.phases.length, "phase")}`;
     return `${isMine ? "Done" : capital(who(event.session))}: ${systems}.`;
@@ -98,7 +102,8 @@ const ANSWERS = {
   bad: ({ reason }) => `bad line: ${reason}`,
 };
 
-// The answer as a script prints it (docs/SCRIPTS.md, "Output"), or nearly so.
+// The answer as a script prints it (docs/SCRIPTS.md, "Output"), or nearly so; that to a question stays JSON.
 export function answerText(answer, shapeOf) {
-  return (ANSWERS[answer.answer] ?? (() => answer.answer))(answer, shapeOf);
+  const plain = () => (Object.keys(answer).length === 1 ? answer.answer : JSON.stringify(answer));
+  return (ANSWERS[answer.answer] ?? plain)(answer, shapeOf);
 }

@@ -1,5 +1,5 @@
-"""A world that notes each raw change as a delta (docs/JOURNAL.md, "The six deltas"), so that the record of a frame is
-known without reading the scene again; and that makes records again and takes them back."""
+"""A world that notes each raw change as a delta (docs/JOURNAL.md, "The six deltas"), and that makes records again and
+takes them back."""
 from world import World, parts_of
 
 LAST_GENERATION = 2**32 - 1
@@ -14,12 +14,6 @@ class Recorder(World):
         self.numbers = {name: number for number, (name, _) in enumerate(self.kinds)}
         self.deltas = []
 
-    def coming(self, count):
-        """The entities that so many spawns make from now on."""
-        free = self.free[::-1][:count]
-        fresh = range(len(self.generations), len(self.generations) + count - len(free))
-        return [*(f"{index}v{self.generations[index]}" for index in free), *(f"{index}v1" for index in fresh)]
-
     # Cells by the numbers of their kinds
 
     def numbered(self, name, cell):
@@ -31,7 +25,25 @@ class Recorder(World):
     def named(self, cell):
         return self.kinds[cell[0]][0], list(cell[1:])
 
+    def kind_sets(self):
+        """The archetypes by ascending kind set."""
+        return sorted(self.tables, key=lambda kinds: sum(1 << self.numbers[name] for name in kinds))
+
+    # Kinds
+
+    def declare(self, name, shape):
+        """A kind comes last. No delta tells of it, and no undo takes it."""
+        super().declare(name, shape)
+        self.numbers[name] = len(self.kinds)
+        # (the list may be that of a scene text)
+        self.kinds = [*self.kinds, [name, shape]]
+
     # Changes that are noted
+
+    def link_of(self, child):
+        """The parent and the place among its children, or None."""
+        parent = self.parents.get(child)
+        return None if parent is None else [parent, self.children[parent].index(child)]
 
     def note(self, op, **parts):
         self.deltas.append({"op": op, **parts})
@@ -100,14 +112,14 @@ class Recorder(World):
         self.tick += 1
 
     def finish(self):
-        """The record of the frame, with the tick behind it too, which saves who reads it a sum of large numbers."""
-        return {"tick": self.tick - 1, "after": self.tick, "deltas": self.deltas}
+        """The record of the frame."""
+        return {"tick": self.tick - 1, "deltas": self.deltas}
 
     def make(self, record):
         """Makes a record again."""
         for delta in record["deltas"]:
             MAKE[delta["op"]](self, delta)
-        self.tick = record["after"]
+        self.tick = record["tick"] + 1
 
     def take_back(self, record):
         for delta in reversed(record["deltas"]):

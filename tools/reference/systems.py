@@ -2,20 +2,19 @@
 systems").
 
 A system is the request that adds it. Only an advance that the program made is followed, so nothing is tested."""
-from commands import apply_queue
+from reference.queues import apply_queue
 
 WRITING = ("addvec", "addint")
 
 
-def system_names(phases):
-    return [system["name"] for phase in phases for system in phase]
+def matching_sets(world, request):
+    """The archetypes that match the filter of a system or a question, by ascending kind set."""
+    need, without = frozenset(request["need"]), frozenset(request["without"])
+    return [kinds for kinds in world.kind_sets() if need <= kinds and not without & kinds]
 
 
-def matching_rows(world, system):
-    """The rows of the archetypes that match, by ascending kind set."""
-    need, without = frozenset(system["need"]), frozenset(system["without"])
-    tables = [world.tables[kinds] for kinds in world.kind_sets() if need <= kinds and not without & kinds]
-    return [entity for table in tables for entity in table]
+def matching_rows(world, request):
+    return [entity for kinds in matching_sets(world, request) for entity in world.tables[kinds]]
 
 
 def last_values(world, system, entity):
