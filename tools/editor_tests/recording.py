@@ -115,7 +115,7 @@ class Client:
         if sort in ("frame", "undo", "redo"):
             getattr(self, sort)(event)
         elif sort == "kinds":
-            self.world.take_kinds(event["kinds"])
+            self.world.set_kinds(event["kinds"])
         elif sort in ("phases", "sessions"):
             setattr(self, sort, event[sort])
         elif sort == "whole":

@@ -1,1 +1,1 @@
-"""The reference in Python for what `scene shell` answers: it follows lines and their answers, and works out the others."""
+"""The reference in Python for what `scene shell` answers: it follows lines by their answers, and works out the rest."""

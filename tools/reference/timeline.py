@@ -24,10 +24,14 @@ class Timeline(Recorder):
         del self.past[: max(0, len(self.past) - self.depth)]
 
     def undo(self):
-        self.future.append(self.past.pop())
-        self.take_back(self.future[-1])
+        record = self.past.pop()
+        self.future.append(record)
+        self.take_back(record["deltas"])
+        self.tick = record["tick"]
 
     def redo(self):
-        self.past.append(self.future.pop())
-        self.make(self.past[-1])
+        record = self.future.pop()
+        self.past.append(record)
+        self.make(record["deltas"])
+        self.tick = record["tick"] + 1
         self.drop_beyond_depth()
