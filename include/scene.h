@@ -36,7 +36,7 @@ typedef struct scene scene;
  * that of the library. */
 #define SCENE_VERSION 200
 
-/* What a call came to. But for SCENE_DONE and SCENE_UNTOLD nothing was done, other than scene_undo_by says. */
+/* What a call came to. But for SCENE_DONE and SCENE_UNTOLD nothing was done. */
 typedef enum scene_code {
     SCENE_DONE = 0,      /* done; or a question, answered */
     SCENE_NO_MEMORY = 1, /* memory was wanting; where the call would have ended the setup, the setup may be over */
@@ -103,8 +103,8 @@ typedef struct {
 /* ---- a scene, line by line */
 
 /* Writes a new scene to *out, or NULL where no memory was found: SCENE_DONE or SCENE_NO_MEMORY. What *out was before
- * isn't read, so a scene there has to be closed first. It is in the setup: kinds and limits are declared, or a scene
- * text is loaded, before the first other call. */
+ * isn't read, so a scene there has to be closed first. It is in the setup: limits are declared, or a scene text is
+ * loaded, before the first other call; kinds then or at any later time. */
 scene_code scene_open(scene **out);
 
 /* Closes it: frees all of it, and puts NULL into *s. NULL is fine. */
@@ -116,9 +116,13 @@ scene_code scene_line(scene **s, const uint8_t *line, size_t len);
 
 /* Plays a request: `len` bytes of a JSON object in place of a line, whose texts have any characters, as
  * {"do":"put","name":"Motto","shape":"Text","value":"Big House"} (docs/SHELL.md, "Requests"). It does what scene_line
- * does with the line that it stands for, and keeps the text of that line's answer. SCENE_BAD is a bad request, and
- * changes nothing: the text that is kept says why, and where in it. Of one that is out of place, as a commit without a
- * begin, scene_bad_reason says why, as of the line. */
+ * does with the line that it stands for, and keeps the text of that line's answer. `dropframe`, `declare`, and `undo`
+ * and `redo` with a count do what scene_drop_frame, scene_declare and scene_undo_by do; their text is as of a line.
+ * That of a question, as {"do":"status"}, is one line of JSON, also where it says `refused`: then it is SCENE_DONE, and
+ * scene_refused tells nothing ("Questions").
+ *
+ * SCENE_BAD is a bad request, and changes nothing: the text that is kept says why, and where in it. Of one that is out
+ * of place, as a commit without a begin, or a question in an open frame, scene_bad_reason says why, as of a line. */
 scene_code scene_request(scene **s, const uint8_t *request, size_t len);
 
 /* The length of the text that is kept; its first `room` bytes go to `at`, which may be NULL where `room` is 0.
@@ -164,9 +168,11 @@ scene_code scene_unshare(scene **s);
 
 /* ---- kinds, and how far can be undone */
 
-/* Declares a kind, as the line `kind` does in the setup, and tells its number. SCENE_REFUSED for a name that isn't good
- * (fault 30), is taken (31), or where there are 64 kinds (32); SCENE_BAD behind the setup and for a loaded scene, for
- * another shape than the five, and for a name that is no UTF-8. */
+/* Declares a kind, and tells its number, the next one. It goes at any time: in the setup, which goes on; of a loaded
+ * scene; behind the setup, also in an open frame. It is no frame, and no undo takes it: each scene that an undo or a
+ * redo leads to has the kind. Behind the setup the line `history`, and the limit that a line `calls` has set, count
+ * from 0 again. SCENE_REFUSED for a name that isn't good (fault 30), is taken (31), or where there are 64 kinds (32);
+ * SCENE_BAD for another shape than the five, and for a name that is no UTF-8. */
 scene_code scene_declare(scene **s, const uint8_t *name, size_t len, uint32_t shape, uint32_t *kind);
 
 /* Sets of how many frames a record is kept, 1 to 1,048,576, at any time. Of the frames that can be undone those beyond
@@ -205,11 +211,10 @@ scene_code scene_drop_frame(scene **s);
 scene_code scene_undo(scene **s);
 scene_code scene_redo(scene **s);
 
-/* The same of the `count` newest frames, one after another, where there are so many, as a drag is one step for a user:
- * SCENE_REFUSED where there are fewer, and none is taken back or done; in an open frame SCENE_BAD, as scene_undo is,
- * where there are enough and `count` isn't 0. Each is a call as scene_undo makes one. Where memory was wanting
- * (SCENE_NO_MEMORY), or a line `calls` has set a limit of calls that is reached (SCENE_REFUSED, fault 17), those before
- * are done: scene_status says how many are left. They end the setup. */
+/* The same of the `count` newest frames, all of them or none, as a drag is one step for a user. SCENE_REFUSED where
+ * there are fewer (fault 15, 16), or where one would pass the limit of calls that a line `calls` has set (17);
+ * SCENE_NO_MEMORY; and in an open frame SCENE_BAD, as scene_undo is. Each is a call as scene_undo makes one, and the
+ * answer tells of all. A `count` of 0 takes nothing back, and ends the setup as others do. */
 scene_code scene_undo_by(scene **s, size_t count);
 scene_code scene_redo_by(scene **s, size_t count);
 

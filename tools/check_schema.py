@@ -11,7 +11,7 @@ import jsonschema
 
 ROOT = Path(__file__).resolve().parent.parent
 EXAMPLES = ROOT / "examples"
-REQUESTS = ("requests_*.scene", "questions_*.scene", "kinds_*.scene")
+REQUESTS = ("requests_*.scene", "questions_*.scene", "kinds_*.scene", "undos_*.scene")
 # NotJson is no text for a schema; the orders, the rules of a world and the records are more than a form.
 FORM = re.compile(r'fault (51 UnknownKey|52 BadField|53 BadVersion) (.*)')
 

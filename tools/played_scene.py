@@ -1,7 +1,8 @@
-"""Scenes as the program itself prints them, for tools: what a script leads to, and what a scene text
-says (docs/SCRIPTS.md, docs/SCENE_FILES.md)."""
+"""Scenes as the program itself prints them, for tools: what a script leads to, what a scene text says, and what a store
+keeps (docs/SCRIPTS.md, docs/SCENE_FILES.md, docs/SHELL.md)."""
 import argparse
 import json
+import re
 import subprocess
 import sys
 from pathlib import Path
@@ -10,6 +11,10 @@ from typing import NamedTuple
 TOP = Path(__file__).resolve().parent.parent
 PROGRAM = str(TOP / "scene")
 SPACES = b" \t\r\n"
+# With which an SQLite database begins, as each store is one.
+STORE_BEGINNING = b"SQLite format 3\0"
+# What the program tells of bad lines begins so.
+BAD_LINES = re.compile(r"^scene: (?=line [0-9]|[0-9]+ more bad line)", re.MULTILINE)
 
 
 class Trouble(Exception):
@@ -22,8 +27,9 @@ class CommandLine(argparse.ArgumentParser):
     def __init__(self, command, takes, folder=None):
         super().__init__(add_help=False, allow_abbrev=False)
         self.command, self.takes, self.folder = command, takes, folder or command
-        # for the tests, which name the program that is to play
+        # for the tests, which name the program that is to play, and for ./scene, which may play stores unproved
         self.add_argument("--program", default=PROGRAM)
+        self.add_argument("--unproved", action="store_true")
 
     def error(self, message):
         print("scene: bad command line", file=sys.stderr)
@@ -32,7 +38,7 @@ class CommandLine(argparse.ArgumentParser):
         sys.exit(2)
 
     def parsed(self, words):
-        if words in (["--help"], ["-h"]):
+        if [word for word in words if word != "--unproved"] in (["--help"], ["-h"]):
             print((TOP / "tools" / self.folder / "help.txt").read_text(), end="")
             sys.exit(0)
         return self.parse_args(words)
@@ -56,18 +62,26 @@ class Played(NamedTuple):
     has_bad_lines: bool
 
 
-def answers(program, script):
-    """The lines that the program answers to a script, and its exit status. It tells bad lines itself."""
+def run(words, given=b""):
+    """What the program writes, what it tells, and its exit status."""
     try:
-        ended = subprocess.run([program, "run"], input=script, stdout=subprocess.PIPE, check=False)
+        ended = subprocess.run(words, input=given, capture_output=True, check=False)
     except OSError as error:
-        raise Trouble(f"{program} can't be run: {error.strerror}") from None
-    if ended.returncode not in (0, 1):
-        raise Trouble(f"the program gave no answer, and ended with status {ended.returncode}")
-    lines = ended.stdout.split(b"\n")[:-1]
+        raise Trouble(f"{words[0]} can't be run: {error.strerror}") from None
+    return ended.stdout, ended.stderr.decode(errors="replace"), ended.returncode
+
+
+def answers(program, script, name=None):
+    """The lines that the program answers to a script, and its exit status. What it tells of bad lines is passed on, with
+    the name of the script's file, if it has one."""
+    said, told, status = run([program, "run"], script)
+    print(BAD_LINES.sub(f"scene: {name}: ", told) if name else told, end="", file=sys.stderr)
+    if status not in (0, 1):
+        raise Trouble(f"the program gave no answer, and ended with status {status}")
+    lines = said.split(b"\n")[:-1]
     if not lines:
         raise Trouble("the program printed nothing")
-    return lines, ended.returncode
+    return lines, status
 
 
 def is_scene_text(given):
@@ -96,17 +110,47 @@ def scene_of_text(program, text):
     return scene_of_line(lines[-1])
 
 
-def scene_of_script(program, script):
+def scene_of_script(program, script, name=None):
     """The scene to which a script leads. A frame that is open at its end is dropped, as a run does."""
-    lines, status = answers(program, ended(script) + b"dumpall\n")
+    lines, status = answers(program, ended(script) + b"dumpall\n", name)
+    if name and status == 1 and all(line == b"bad line" for line in lines[:-1]):
+        raise Trouble("it is neither a store, nor a scene text, nor a script, of which some line is good")
     return Played(scene_of_line(lines[-1]), status == 1)
 
 
-def scene_of_input(program, given):
+def scene_of_store(program, name, is_unproved):
+    """The scene that a store in a file keeps."""
+    words = [program, *["--unproved"] * is_unproved, "dump", "--all", name]
+    said, told, status = run(words)
+    fault = told.removesuffix("\n").rpartition("\n")[2].removeprefix("scene: ")
+    if status != 0:
+        raise Trouble(said.decode().strip() if status == 1 else fault)
+    if fault:
+        print(told, end="", file=sys.stderr)
+    return scene_of_line(said.split(b"\n")[0])
+
+
+def scene_of_input(program, given, name=None):
     """The scene of bytes that are a scene text or a script."""
+    if given.startswith(STORE_BEGINNING):
+        raise Trouble("a store is read from its file, which has to be named")
     if is_scene_text(given):
         return Played(scene_of_text(program, given), False)
-    return scene_of_script(program, given)
+    return scene_of_script(program, given, name)
+
+
+def scene_of_file(program, name, is_unproved):
+    """The scene of a file that is a store, a scene text or a script, as its first bytes tell."""
+    try:
+        given = Path(name).read_bytes()
+    except OSError as error:
+        raise Trouble(f"{name} can't be read: {error.strerror}") from None
+    try:
+        if given.startswith(STORE_BEGINNING):
+            return Played(scene_of_store(program, name, is_unproved), False)
+        return scene_of_input(program, given, name)
+    except Trouble as trouble:
+        raise Trouble(f"{name}: {trouble}") from None
 
 
 def scene_of_line(line):

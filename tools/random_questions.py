@@ -1,5 +1,6 @@
-"""Random questions (docs/SHELL.md, "Questions"), about what a shell has, and now and then about what it hasn't."""
-from request_forms import ALL_KEYS, CHOICES, DROP_FRAME, QUESTIONS
+"""Random questions (docs/SHELL.md, "Questions"), about what a shell has, and now and then about what it hasn't; and
+requests for several undos or redos."""
+from request_forms import ALL_KEYS, CHOICES, DROP_FRAME, MAY_MISS, QUESTIONS
 
 FAR = (2**32 - 1, 2**31)
 NOT_ALIVE = ("0v0", "7v9", "4294967295v4294967295")
@@ -45,6 +46,17 @@ def question(chance, shell):
     word = chance.choice(WORDS)
     parts = {key: chance.choice(CHOICES[key]) if key in CHOICES else PARTS[key](chance, shell) for key in ALL_KEYS[word]}
     return {"do": word, **parts}
+
+
+def several_frames(chance, shell):
+    """An undo or a redo of several frames, or of none; of all that there are, and of more. Behind an undo perhaps a redo
+    of as many frames, or of some."""
+    word = chance.choice(list(MAY_MISS))
+    there = len(shell.records("past" if word == "undo" else "future")) if shell.world else 0
+    few = chance.choice((0, 1, 1, 2, 2, 3, 5))
+    asked = {"do": word, "count": chance.choice((few, few, few, there, there + 1, chance.choice(FAR)))}
+    again = {"do": "redo", "count": chance.choice((asked["count"], few, min(few, 1)))}
+    return [asked, again] if word == "undo" and chance.random() < 0.6 else [asked]
 
 
 def dropped_frame():

@@ -21,6 +21,8 @@ QUESTIONS |= dict.fromkeys(("past", "future"), ("count", "from")) | {"deltas": (
 QUESTIONS |= dict.fromkeys(("changedsince", "addedsince"), ("need", "rewinds", "tick", "without"))
 DROP_FRAME, DECLARE = "dropframe", "declare"
 ALL_KEYS = KEYS | QUESTIONS | {DROP_FRAME: (), DECLARE: KEYS["kind"]}
+# Keys that may be missing: for how many frames an undo or a redo is, which without it stands for the line.
+MAY_MISS = dict.fromkeys(("undo", "redo"), ("count",))
 CHOICES = {"shape": SHAPES, "of": ("past", "future"), "way": ("forth", "back")}
 RANGES = {"limit": (1, 1048576), "session": (0, 7)}
 RANGES |= dict.fromkeys(("from", "count", "step"), (0, 2**32 - 1)) | dict.fromkeys(("rewinds", "tick"), (0, 2**64 - 1))
@@ -120,11 +122,13 @@ class Reader:
         """The request of a text, or a `Bad`."""
         request = value_in(text)
         word = self.key(request, "do", "", lambda value, _: value in ALL_KEYS if isinstance(value, str) else False)
-        object_of(request, ("do", *ALL_KEYS[word]), "")
-        for key in ALL_KEYS[word]:
-            if key not in request:
+        may_miss = MAY_MISS.get(word, ())
+        object_of(request, ("do", *ALL_KEYS[word], *may_miss), "")
+        for key in (*ALL_KEYS[word], *may_miss):
+            if key in request:
+                self.field(word, key, request)
+            elif key not in may_miss:
                 raise Bad("BadField", key)
-            self.field(word, key, request)
         return request
 
     @staticmethod

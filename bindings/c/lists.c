@@ -260,7 +260,7 @@ static void end_the_setup(void)
     CHECK(spawn(&s, &bad, 1, &made) == SCENE_BAD && same_entity(made, SCENE_NONE));
     CHECK(declare(&s, "Life", SCENE_INT, &kind) == SCENE_DONE && kind == 0);
     CHECK(scene_insert_cells(&s, &to, 1, &cell, 1, any_text, 0) == SCENE_REFUSED && refused_at(&s, 1, 0));
-    CHECK(declare(&s, "More", SCENE_INT, &kind) == SCENE_BAD && kind == 0);
+    CHECK(play(&s, "kind More Int") == SCENE_BAD);
     CHECK(spawn(&s, &cell, 1, &made) == SCENE_DONE && same_entity(made, to) && tick_of(&s) == 1);
     CHECK(scene_save_into(&s, 2, 0, text, sizeof text, &len) == SCENE_DONE && len <= sizeof text);
     CHECK(scene_open(&loaded) == SCENE_DONE && scene_load(&loaded, text, len) == SCENE_DONE);

@@ -65,15 +65,17 @@ static void declare_badly(scene **s)
     CHECK(declare(&none, "A", SCENE_INT, &kind) == SCENE_CLOSED && kind == 99 && scene_bad_reason(s) == SCENE_BAD);
 }
 
-/* Behind the setup a kind is out of place, and that is an answer; the arguments are looked at first. */
-static void declare_too_late(scene **s)
+/* Behind the setup a kind is declared and refused as in it; the arguments are looked at first. */
+static void declare_later(scene **s)
 {
     uint32_t kind = 99;
     leave_an_answer(s);
     CHECK(declare(s, "A", SCENE_ABSENT, &kind) == SCENE_BAD && has_that_answer(s));
-    CHECK(declare(s, "A", SCENE_INT, &kind) == SCENE_BAD && scene_bad_reason(s) == SCENE_DONE && kind == 99);
-    CHECK(scene_begin(s) == SCENE_DONE && declare(s, "", SCENE_INT, &kind) == SCENE_BAD && kind == 99);
-    CHECK(scene_commit(s) == SCENE_DONE);
+    CHECK(scene_declare(s, bytes("\xff"), 1, SCENE_INT, &kind) == SCENE_BAD && kind == 99 && has_that_answer(s));
+    CHECK(declare(s, "A", SCENE_INT, &kind) == SCENE_REFUSED && refused_by(s, 32) && kind == 99 && answers(s, ""));
+    CHECK(declare(s, "Life", SCENE_INT, &kind) == SCENE_REFUSED && refused_by(s, 31) && kind == 99);
+    CHECK(scene_begin(s) == SCENE_DONE && declare(s, "", SCENE_INT, &kind) == SCENE_REFUSED && refused_by(s, 30));
+    CHECK(scene_commit(s) == SCENE_DONE && kind == 99);
 }
 
 static void declare_all(void)
@@ -83,8 +85,52 @@ static void declare_all(void)
     declare_each_shape(&s);
     declare_refused(&s);
     declare_badly(&s);
-    declare_too_late(&s);
+    declare_later(&s);
     CHECK(is_kind(&s, 63, "Kind63", SCENE_INT) && is_kind(&s, 1, "Life", SCENE_INT));
+    scene_close(&s);
+}
+
+static scene_cell int_cell(uint32_t kind, int64_t number)
+{
+    return (scene_cell){.kind = kind, .shape = SCENE_INT, .x = number};
+}
+
+/* A kind that is declared in an open frame is there for its next command, and stays where the frame doesn't. */
+static void declare_in_a_frame(scene **s)
+{
+    uint32_t kind = 99;
+    CHECK(scene_begin(s) == SCENE_DONE && scene_spawn(s) == SCENE_DONE);
+    CHECK(declare(s, "Late", SCENE_INT, &kind) == SCENE_DONE && kind == 1 && is_kind(s, 1, "Late", SCENE_INT));
+    CHECK(scene_insert(s, SCENE_NEW(0), int_cell(1, 7)) == SCENE_DONE && scene_drop_frame(s) == SCENE_DONE);
+    CHECK(is_kind(s, 1, "Late", SCENE_INT) && tick_of(s) == 1 && scene_begin(s) == SCENE_DONE);
+    CHECK(declare(s, "Later", SCENE_TAG, &kind) == SCENE_DONE && kind == 2);
+    CHECK(scene_with(s, int_cell(1, 8)) == SCENE_DONE && scene_spawn(s) == SCENE_DONE && scene_commit(s) == SCENE_DONE);
+    CHECK(play(s, "history") == SCENE_DONE && answers(s, "history 1\n"));
+}
+
+/* It is there in each scene that an undo or a redo leads to, and saved; a scene that is loaded gets one more. */
+static void declare_over_frames(void)
+{
+    static const scene_entity first = {0, 1}, second = {1, 1};
+    uint8_t text[4096];
+    uint32_t kind = 99;
+    size_t len;
+    scene_cell cell;
+    scene *s, *loaded;
+    CHECK(scene_open(&s) == SCENE_DONE && declare(&s, "Life", SCENE_INT, &kind) == SCENE_DONE);
+    CHECK(scene_with(&s, int_cell(0, 5)) == SCENE_DONE && scene_spawn(&s) == SCENE_DONE);
+    declare_in_a_frame(&s);
+    CHECK(scene_undo_by(&s, 2) == SCENE_DONE && is_kind(&s, 2, "Later", SCENE_TAG) && scene_redo(&s) == SCENE_DONE);
+    CHECK(scene_insert(&s, first, int_cell(1, 9)) == SCENE_DONE && scene_undo(&s) == SCENE_DONE);
+    CHECK(scene_get(&s, first, 1, &cell) == SCENE_REFUSED && refused_by(&s, 3) && scene_redo(&s) == SCENE_DONE);
+    CHECK(scene_get(&s, first, 1, &cell) == SCENE_DONE && cell.x == 9);
+    CHECK(scene_save_into(&s, 2, 0, text, sizeof text, &len) == SCENE_DONE && len <= sizeof text);
+    CHECK(scene_open(&loaded) == SCENE_DONE && scene_load(&loaded, text, len) == SCENE_DONE);
+    CHECK(declare(&loaded, "More", SCENE_LINK, &kind) == SCENE_DONE && kind == 3);
+    CHECK(play(&loaded, "kind Most Int") == SCENE_BAD && play(&loaded, "depth 5") == SCENE_DONE);
+    CHECK(scene_undo_by(&loaded, 2) == SCENE_DONE && is_kind(&loaded, 3, "More", SCENE_LINK));
+    CHECK(scene_get(&loaded, second, 1, &cell) == SCENE_REFUSED && scene_redo_by(&loaded, 2) == SCENE_DONE);
+    scene_close(&loaded);
     scene_close(&s);
 }
 
@@ -297,6 +343,7 @@ int main(void)
 {
     scene *s;
     declare_all();
+    declare_over_frames();
     CHECK(scene_open(&s) == SCENE_DONE);
     set_bad_depths(&s);
     scene_close(&s);

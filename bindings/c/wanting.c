@@ -42,7 +42,7 @@ void *__wrap_realloc(void *at, size_t size)
 
 /* ---- calls, which write to what has to stay as it was where they aren't done */
 
-enum { ROOM = 4096, NO_SIZE = 77 };
+enum { ROOM = 4096, NO_SIZE = 77, WRITES = 5 };
 
 static struct written {
     uint32_t kind;
@@ -77,6 +77,31 @@ static scene_code call_insert(scene **s)
 {
     const scene_entity to[] = {{0, 1}, {0, 1}, {1, 1}};
     return scene_insert_cells(s, to, 3, cells, 3, given, 10);
+}
+
+static scene_code request_kind(scene **s)
+{
+    return request(s, "{\"do\":\"declare\",\"name\":\"A_name_that_is_long\",\"shape\":\"Text\"}");
+}
+
+static scene_code request_rows(scene **s)
+{
+    return request(s, "{\"do\":\"rows\",\"need\":[],\"without\":[],\"from\":0,\"count\":9}");
+}
+
+static scene_code request_undos(scene **s)
+{
+    return request(s, "{\"do\":\"undo\",\"count\":2}");
+}
+
+static scene_code call_undos(scene **s)
+{
+    return scene_undo_by(s, WRITES);
+}
+
+static scene_code call_redos(scene **s)
+{
+    return scene_redo_by(s, WRITES);
 }
 
 static scene_code call_check(scene **s)
@@ -131,7 +156,7 @@ static const struct call {
     {"set_depth", call_depth, false}, {"spawn_cells", call_spawn, true},     {"insert_cells", call_insert, true},
     {"check_systems", call_check, true}, {"texts", call_texts, false},       {"delta_rows", call_rows, false},
     {"delta_texts", call_delta_texts, false}, {"answer_json", call_json, true},
-    {"save_into 1", call_save_world, true}, {"save_into 2", call_save_whole, true},
+    {"save_into 1", call_save_world, true}, {"save_into 2", call_save_whole, true}, {"declare", call_declare, true},
 };
 
 /* ---- what stays */
@@ -217,6 +242,64 @@ static bool refuse_in_frame(unsigned long from, unsigned long to)
     return was_refused;
 }
 
+/* A request is done, or isn't; or it is done and its text alone is wanting, and what it means is there. */
+static bool refuse_request(scene_code (*make)(scene **s), unsigned long from, unsigned long to)
+{
+    static uint8_t before[ROOM], done[ROOM], after[ROOM];
+    scene *s;
+    behind_the_setup(&s);
+    CHECK(call_without(&s, make, 0, 0) == SCENE_DONE);
+    size_t done_len = saved(&s, done);
+    scene_close(&s);
+    behind_the_setup(&s);
+    size_t len = saved(&s, before);
+    scene_code code = call_without(&s, make, from, to);
+    bool was_refused = requests >= from;
+    CHECK(code == SCENE_DONE || (was_refused && (code == SCENE_NO_MEMORY || code == SCENE_UNTOLD)));
+    if (code == SCENE_NO_MEMORY) {
+        CHECK(has_that_answer(&s) && saved(&s, after) == len && memcmp(before, after, len) == 0);
+        CHECK(call_without(&s, make, 0, 0) == SCENE_DONE);
+    }
+    CHECK(answers(&s, "") == (code == SCENE_UNTOLD) && scene_refused(&s, &written.why) == SCENE_BAD);
+    CHECK(saved(&s, after) == done_len && memcmp(done, after, done_len) == 0);
+    scene_close(&s);
+    return was_refused;
+}
+
+/* Frames whose undos and redos need memory: a text comes, is another, and goes, as an entity does with it. */
+static void write_texts(scene **s)
+{
+    const scene_entity entity = {0, 1};
+    CHECK(scene_insert_text(s, entity, 2, given, 4) == SCENE_DONE);
+    CHECK(scene_insert_text(s, entity, 0, given, 10) == SCENE_DONE);
+    CHECK(scene_put_text(s, given, 4, given, 10) == SCENE_DONE && scene_drop(s, given, 4) == SCENE_DONE);
+    CHECK(scene_despawn(s, entity) == SCENE_DONE);
+}
+
+/* Several undos, and then several redos, are all of them or none. */
+static bool refuse_turns(unsigned long from, unsigned long to)
+{
+    static uint8_t before[ROOM], after[ROOM];
+    scene_code (*const ways[])(scene **s) = {call_undos, call_redos};
+    bool was_refused = false;
+    scene *s;
+    behind_the_setup(&s);
+    write_texts(&s);
+    for (size_t way = 0; way < 2; way++) {
+        size_t len = saved(&s, before);
+        scene_code code = call_without(&s, ways[way], from, to);
+        was_refused = was_refused || requests >= from;
+        CHECK(code == SCENE_DONE || (code == SCENE_NO_MEMORY && requests >= from));
+        if (code == SCENE_NO_MEMORY) {
+            CHECK(saved(&s, after) == len && memcmp(before, after, len) == 0);
+            CHECK(call_without(&s, ways[way], 0, 0) == SCENE_DONE);
+        }
+        CHECK(saved(&s, after) != len || memcmp(before, after, len) != 0);
+    }
+    scene_close(&s);
+    return was_refused;
+}
+
 /* Where sharing finds no memory, the scene is its pointer's alone as before; and unsharing needs none. */
 static bool refuse_share(unsigned long from, unsigned long to)
 {
@@ -282,9 +365,16 @@ static unsigned long refuse_each(bool (*refuse_it)(unsigned long from, unsigned 
 int main(void)
 {
     unsigned long all = refuse_each(refuse_in_frame), shares = refuse_each(refuse_share);
-    unsigned long readers = refuse_each(refuse_reader);
-    CHECK(all > 0 && shares > 0 && readers > 0);
-    all += shares + readers;
+    unsigned long readers = refuse_each(refuse_reader), turns = refuse_each(refuse_turns);
+    scene_code (*const asked[])(scene **s) = {request_kind, request_rows, request_undos};
+    CHECK(all > 0 && shares > 0 && readers > 0 && turns > 0);
+    all += shares + readers + turns;
+    for (size_t at = 0; at < sizeof asked / sizeof *asked; at++) {
+        unsigned long number = 1;
+        for (; refuse_request(asked[at], number, number); number++) CHECK(refuse_request(asked[at], number, ULONG_MAX));
+        CHECK(number > 1);
+        all += number - 1;
+    }
     for (size_t at = 0; at < sizeof calls / sizeof *calls; at++) {
         unsigned long number = 1;
         for (; refuse(&calls[at], number, number); number++) CHECK(refuse(&calls[at], number, ULONG_MAX));

@@ -191,6 +191,7 @@ def steps_of_frames(begin: Begin) -> None:
             error_of(TypeError, world.undo, wrong)
             error_of(TypeError, world.redo, wrong)
         assert is_bad(world.undo, -1) and is_bad(world.redo, -(2**64))
+        assert before == (world.status(), world.show(), world.line("history"))
         with world.frame():
             assert all(is_bad(call, count) for call in (world.undo, world.redo) for count in (0, 1, 2, 99))
         world.undo()
@@ -202,14 +203,17 @@ def steps_of_frames(begin: Begin) -> None:
 
 
 def steps_to_a_limit(begin: Begin) -> None:
-    """A limit of calls that is reached on the way is told, and the frames before are taken back."""
+    """A limit of calls that is reached on the way is told, and no frame is taken back."""
     with begin() as world:
         world.line("calls 5")
         cat = spawned(world, Health=0)
         for health in range(1, 4):
             world.insert(cat, Health=health)
         assert told(refusal(world.undo, 3)) == (17, "HistoryFull", ["5"], None)
+        assert world.line("history") == ["history 4"] and world.status()[2:4] == (4, 0)
+        world.undo()
         assert world.get(cat, "Health") == 2 and world.status()[2:4] == (3, 1)
+        assert told(refusal(world.redo)) == (17, "HistoryFull", ["5"], None)
 
 
 def numbers(begin: Begin) -> None:

@@ -310,20 +310,7 @@ def texts_as_values(begin: Begin) -> None:
         assert world.resource("left") == 1
 
 
-# ---- over the shell alone
-
-
-def questions_in_frames(program: str) -> None:
-    """Over the shell nothing is asked in an open frame, which stays open."""
-    with scene.open(kinds=KINDS, program=program) as world:
-        now = world.now()
-        with world.frame() as made:
-            world.spawn(Health=1)
-            asked: Tuple[Callable[[], Any], ...] = (world.tables, world.now, world.past_step, world.future_step)
-            asked += (lambda: world.changed_since(now), lambda: world.added_since(now), lambda: world.depth)
-            for number, call in enumerate(asked):
-                assert str(error_of(BadLine, call)).startswith("a frame is open"), number
-        assert made == ["0v1"] and world.changed_since(now) == [("0v1", "Health")]
+# ---- questions
 
 
 EVERYTHING: Dict[str, Any] = {"need": [], "without": []}
@@ -360,12 +347,16 @@ QUESTIONS: Tuple[Tuple[str, Dict[str, Any], Dict[str, Any]], ...] = (
     ("begin", {}, {"answer": "ok"}),
     ("dropframe", {}, {"answer": "ok"}),
     ("status", {}, {**NOW, "tick": 3, "rewinds": 1, "past": 3, "future": 1}),
+    ("redo", {"count": 1}, {"answer": "redone"}),
+    ("redo", {"count": 0}, {"answer": "redone"}),
+    ("status", {}, {**NOW, "rewinds": 1}),
 )
 
 
-def questions(program: str) -> None:
+def questions(begin: Begin) -> None:
     """Each request that asks is answered in its form, and leaves the scene and the mark."""
-    with scene.open(kinds={"Health": "Int", "Name": "Text"}, program=program, options=["--depth", "9"]) as world:
+    with begin({"Health": "Int", "Name": "Text"}) as world:
+        world.set_depth(9)
         cat = spawned(world, Health=5, Name="a b")
         world.set_parent(spawned(world, Health=6), cat)
         world.put("left", 3)
@@ -377,9 +368,9 @@ def questions(program: str) -> None:
             assert found == {"answer": do, **wanted}, (do, found)
 
 
-def bad_questions(program: str) -> None:
-    """A bad question tells why, and the path of what is bad in it."""
-    with scene.open(kinds=KINDS, program=program) as world:
+def bad_questions(begin: Begin) -> None:
+    """A bad question tells why, and the path of what is bad in it; one that is refused, the fault."""
+    with begin() as world:
         whole: Dict[str, Any] = {"need": [], "without": [], "from": 0, "count": 1}
         for path, changed in {
             "need[1]": {"need": ["Health", "\u041a\u043e\u0442\n"]},
@@ -390,6 +381,9 @@ def bad_questions(program: str) -> None:
             error = error_of(BadLine, world.request, "rows", **{**whole, **changed})
             assert error.path == path and str(error).startswith(scene_text(path)), error
         assert error_of(BadLine, world.request, "children", entity="+0").path == "entity"
+        assert refusal(world.request, "children", entity="9v9").number == 1
+        for count in (-1, 2**32, True, "1"):
+            assert error_of(BadLine, world.request, "undo", count=count).path == "count"
         dropped = error_of(BadLine, world.request, "dropframe")
         assert dropped.path is None and str(dropped).startswith("no frame is open")
 
@@ -397,6 +391,22 @@ def bad_questions(program: str) -> None:
 def scene_text(text: str) -> str:
     """A text as a reason has it."""
     return '"' + text.replace('"', '\\"') + '"'
+
+
+# ---- over the shell alone
+
+
+def questions_in_frames(program: str) -> None:
+    """Over the shell nothing is asked in an open frame, which stays open."""
+    with scene.open(kinds=KINDS, program=program) as world:
+        now = world.now()
+        with world.frame() as made:
+            world.spawn(Health=1)
+            asked: Tuple[Callable[[], Any], ...] = (world.tables, world.now, world.past_step, world.future_step)
+            asked += (lambda: world.changed_since(now), lambda: world.added_since(now), lambda: world.depth)
+            for number, call in enumerate(asked):
+                assert str(error_of(BadLine, call)).startswith("a frame is open"), number
+        assert made == ["0v1"] and world.changed_since(now) == [("0v1", "Health")]
 
 
 def pages_are_asked_for_one_by_one(program: str) -> None:
@@ -490,11 +500,11 @@ BOTH = (
     spawns_of_dropped_frames,
     texts_are_no_names,
     texts_as_values,
+    questions,
+    bad_questions,
 )
 PROGRAMS = (
-    questions,
     questions_in_frames,
-    bad_questions,
     pages_are_asked_for_one_by_one,
     answers_in_parts,
     requests_in_batches,

@@ -40,9 +40,9 @@ def declared_kinds(begin: Begin) -> None:
     assert error_of(KindsDiffer, begin, {"a b": "Tag"}).number == 30
 
 
-def kinds_at_any_time(program: str) -> None:
-    """Over the shell a kind is declared at any time: behind frames, in one, behind a load, and over undo and redo."""
-    with scene.open(kinds={"Health": "Int"}, program=program) as world:
+def kinds_at_any_time(begin: Begin) -> None:
+    """A kind is declared at any time: behind frames, in one, behind a load, and over undo and redo."""
+    with begin({"Health": "Int"}) as world:
         cat = spawned(world, Health=9)
         before = world.rows(), world.status()
         assert world.kinds() == {"Health": "Int"}
@@ -70,7 +70,7 @@ def kinds_at_any_time(program: str) -> None:
         world.insert(cat, At=(1, 2, 3))
         assert world.get(cat, "At") == (1, 2, 3) and world.kinds_of(0b1000) == ["At"]
         saved = world.save()
-    with scene.open(kinds={}, program=program) as other:
+    with begin({}) as other:
         other.load(saved)
         other.declare("Late", "Link")
         assert other.shape_of("Late") == "Link" and other.save(True).count('"Late"') == 1
@@ -232,13 +232,14 @@ def saves_change_nothing(begin: Begin) -> None:
         assert world.changed() == [(cat, "Name")] and world.save() and world.listed_last() == [(cat, "Name")]
         with begin({"A": "Int"}) as other:
             assert json.loads(other.save())["kinds"] == [["A", "Int"]]
-            assert "over the shell at any time" in str(error_of(BadLine, other.declare, "B", "Int"))
+            other.declare("B", "Int")
+            assert json.loads(other.save())["kinds"] == [["A", "Int"], ["B", "Int"]]
         world.put("title", "a" * 67_108_864)
         assert told(refusal(world.save)) == (56, "TooLong", [], None)
         world.undo()
         assert world.save(world_alone=True) == world.line("dump")[0]
 
 
-BOTH = (declared_kinds, depths, worlds_alone)
+BOTH = (declared_kinds, kinds_at_any_time, depths, worlds_alone)
 LIBRARY = (depths_at_any_time, systems_that_go_together, saves_change_nothing)
-PROGRAMS = (depths_of_shells, kinds_at_any_time, kinds_in_frames_that_are_dropped)
+PROGRAMS = (depths_of_shells, kinds_in_frames_that_are_dropped)

@@ -249,7 +249,8 @@ def sharing_in_the_setup(begin: Begin) -> None:
             assert {name: reader.shape_of(name) for name in KINDS} == KINDS
             assert reader.rows() == [] and reader.status().kinds == len(KINDS) and reader.past_step() is None
         world.unshare()
-        assert is_set_up(world) and is_bad(world.declare, "Late", "Tag")
+        assert is_set_up(world)
+        world.declare("Late", "Tag")
         assert spawned(world, Health=1) == "0v1"
 
 

@@ -416,6 +416,13 @@ def stores(program: str) -> None:
             assert again.show() == shown
             again.undo()
             assert again.get(cat) == 'row 0v1 Name="cat"@1/1 Health=9@1/1'
+            again.redo()
+            again.undo(2)
+            assert again.rows() == []
+        with scene.open(path, KINDS, program) as again:
+            assert again.status()[2:4] == (0, 2)
+            again.redo(2)
+            assert again.show() == shown
         Path(path).write_text("no store")
         assert error_of(StoreError, scene.open, path, KINDS, program).number == 61
         assert error_of(StoreError, scene.open, room, KINDS, program).number == 64

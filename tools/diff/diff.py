@@ -11,25 +11,10 @@ sys.path.insert(0, str(Path(__file__).resolve().parent.parent))
 
 from left import left_over, summary  # noqa: E402
 from lines import lines_of  # noqa: E402
-from played_scene import CommandLine, Trouble, answers, is_scene_text, load_line, scene_of_line  # noqa: E402
-from played_scene import scene_of_text, told  # noqa: E402
+from played_scene import CommandLine, answers, load_line, scene_of_file, scene_of_line, told  # noqa: E402
 from sketch import best_sketch  # noqa: E402
 
 WORLD = ("kinds", "limit", "tick", "generations", "free", "tables", "children", "resources")
-
-
-def read(program, name):
-    """The scene of a file."""
-    try:
-        text = Path(name).read_bytes()
-    except OSError as error:
-        raise Trouble(f"{name} can't be read: {error.strerror}") from None
-    if not is_scene_text(text):
-        raise Trouble(f"{name} is no scene text")
-    try:
-        return scene_of_text(program, text)
-    except Trouble as trouble:
-        raise Trouble(f"{name}: {trouble}") from None
 
 
 def same_world(old, new):
@@ -80,7 +65,7 @@ def differences(program, old, new):
 
 def compare(words):
     """Prints how the scenes differ, and answers the exit status, as diff does."""
-    old, new = read(words.program, words.old), read(words.program, words.new)
+    old, new = (scene_of_file(words.program, name, words.unproved).scene for name in (words.old, words.new))
     if old == new:
         return 0
     for line in differences(words.program, old, new):
@@ -90,7 +75,7 @@ def compare(words):
 
 
 def main():
-    line = CommandLine("diff", "the names of two files, each with a scene text, and no other word but --help")
+    line = CommandLine("diff", "the names of two files, each a store, a script or a scene text, and no other word but --unproved and --help")
     line.add_argument("old")
     line.add_argument("new")
     words = line.parsed(sys.argv[1:])

@@ -7,8 +7,9 @@ MOST_BYTES = 64 * 2**20
 
 
 def event_bytes(number, text):
-    """An event as a stream has it, by its JSON."""
-    return f"id: {number}\ndata: {text}\n\n".encode()
+    """An event as a stream has it, by its lines of JSON."""
+    data = text.replace("\n", "\ndata: ")
+    return f"id: {number}\ndata: {data}\n\n".encode()
 
 
 class Events:

@@ -13,7 +13,7 @@ from model import FAR, Model
 from own_links import OwnLinks
 from played_scene import Trouble
 from questions import get_of
-from reading import read_all, read_words, scene_text, with_records
+from reading import read_all, read_words, scene_text
 from sessions import Sessions
 from setup_end import place_of_end
 from shell import Gone, Shell
@@ -52,21 +52,26 @@ class Hub:
     def begin(self):
         """Begins a shell on the store, and reads what it has."""
         model = Model()
-        log_of(self.program, self.store, model)
-        shell = Shell(self.program, self.store, self.shell_ended)
-        try:
-            # An empty line ends no setup, and tells whether the store could be opened.
-            shell.ask([""])
-            end_loaded_setup(shell, model)
-            if not model.in_setup:
-                read_all(shell, model)
-            model.news = None
-        except (Gone, Trouble) as trouble:
-            shell.close()
-            if isinstance(trouble, Trouble):
-                raise
-            raise store_fault(self.store, b"".join(shell.told)) from None
+        with log_of(self.program, self.store) as log:
+            shell = Shell(self.program, self.store, self.shell_ended)
+            try:
+                model.read(log())
+                self.read_store(shell, model)
+            except (Gone, Trouble) as trouble:
+                shell.close()
+                if isinstance(trouble, Trouble):
+                    raise
+                raise store_fault(self.store, b"".join(shell.told)) from None
         self.model, self.shell, self.is_here = model, shell, True
+
+    @staticmethod
+    def read_store(shell, model):
+        # An empty line ends no setup, and tells whether the store could be opened.
+        shell.ask([""])
+        end_loaded_setup(shell, model)
+        if not model.in_setup:
+            read_all(shell, model)
+        model.news = None
 
     def let_go(self):
         """Ends the shell as one that isn't begun again."""
@@ -132,8 +137,7 @@ class Hub:
         self.events.add(json_text(event))
 
     def tell_whole(self, words):
-        text = f'{{"sort":"whole","words":{json_text(words)},"scene":{self.whole(self.events.last + 1)}}}'
-        self.events.add(text)
+        self.events.add(self.whole(self.events.last + 1, f'{{"sort":"whole","words":{json_text(words)}'))
 
     def world_text(self):
         """The text of the world, or None where there is none now."""
@@ -147,8 +151,9 @@ class Hub:
                 pass
         return model.text
 
-    def whole(self, sequence):
-        """All that a tab has to know, as JSON."""
+    def whole(self, sequence, begun):
+        """All that a tab has to know, as lines of JSON: first an object that begins so and has the rest as its `scene`,
+        and then each record that is held, which a page reads where it needs it."""
         model, world = self.model, self.world_text()
         timeline = model.timeline if world is not None else Timeline()
         past, future = timeline.past, timeline.future
@@ -165,13 +170,14 @@ class Hub:
             "shell": "here" if self.is_here else "gone",
             "store": self.store.name,
         })  # fmt: skip
-        return with_part(told, "text", "null" if world is None else with_records(world, timeline))
+        scene = with_part(told, "text", "null" if world is None else world)
+        return "\n".join([f'{begun},"scene":{scene}}}', *(frame.record() for frame in timeline.near())])
 
     def whole_event(self):
         """All, for a stream whose cursor is too old, and the cursor of it."""
         with self.lock:
             last = self.events.last
-            text = f'{{"sort":"whole","words":"too much has happened since","scene":{self.whole(last)}}}'
+            text = self.whole(last, '{"sort":"whole","words":"too much has happened since"')
         return last, event_bytes(last, text)
 
     # Sessions
@@ -187,7 +193,7 @@ class Hub:
                 return json_text({"refused": "seven tabs are open at most"})
             self.tell_sessions()
             seat = self.sessions.seats[session].number
-            return f'{{"session":{session},"seat":{seat},"scene":{self.whole(self.events.last)}}}'
+            return self.whole(self.events.last, f'{{"session":{session},"seat":{seat}')
 
     def leave(self, seat):
         with self.lock:

@@ -5,7 +5,7 @@ from typing import List, Optional, Sequence
 from line_requests import read
 from questions import Moved, answer_word, moved_of
 from stored import Log
-from texts import json_text, with_part
+from texts import json_text
 from timeline import Frame, Side
 
 FAR = "frames farther off are read again"
@@ -58,8 +58,9 @@ class Model(Log):
             self.tell({"sort": "phases", "session": self.turn, "phases": self.requests_of_phases()})
 
     def tell(self, event: dict, record: Optional[str] = None) -> None:
+        """An event, with the record that comes with it on a line of its own."""
         text = json_text(event)
-        self.events.append(text if record is None else with_part(text, "record", record))
+        self.events.append(text if record is None else f"{text}\n{record}")
 
     def moved(self, behind: Sequence[str]) -> Optional[Moved]:
         """What a step did; None where the model isn't open, or has to be read anew."""

@@ -7,21 +7,17 @@ from model import Model
 from played_scene import Trouble
 from questions import KINDS, STATUS, answer_word, batches, deltas_in, deltas_of, pages_of
 from shell import Shell
-from texts import exact_text, with_part
+from texts import exact_text
 from timeline import Side, Timeline
+
+# How many records of a side are read when a store is opened: those farther off are asked for as they are needed.
+MOST_READ = 2000
 
 
 def scene_text(shell: Shell, line: str) -> Optional[str]:
     """The scene text that `dump` or `dumpall` prints, or None where there is none."""
     answer = shell.ask([line])[0]
     return answer.partition('"text":')[2][:-1] if answer_word(answer) == "scene" else None
-
-
-def with_records(world: str, timeline: Timeline) -> str:
-    """The text of a world with the records that are held, as version 2 has them."""
-    for name, frames in (("undo", timeline.past.near()), ("redo", timeline.future.near()[::-1])):
-        world = with_part(world, name, f"[{','.join(frame.record() for frame in frames)}]")
-    return world
 
 
 def read_all(shell: Shell, model: Model) -> None:
@@ -51,7 +47,8 @@ def read_steps(shell: Shell, name: str, side: Side) -> None:
 
 def read_records(shell: Shell, name: str, side: Side, timeline: Timeline) -> None:
     """Holds the nearest records of a side, so many as have room, but the nearest one always."""
-    for places in batches([frame.count for frame in reversed(side.frames)]):
+    nearest = side.frames[: -MOST_READ - 1 : -1]
+    for places in batches([frame.count for frame in nearest]):
         for answer in shell.ask([deltas_of(name, place) for place in places]):
             deltas = deltas_in(answer)
             if side.held > 0 and len(deltas) > timeline.room:

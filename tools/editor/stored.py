@@ -1,8 +1,9 @@
 """What a store has that no question tells: whether it is in its setup, its systems, and who made each frame."""
 import re
 import subprocess
+from contextlib import contextmanager
 from pathlib import Path
-from typing import List, Optional, Sequence
+from typing import Callable, Iterator, List, Optional, Sequence
 
 from commands import SETUP, system_name
 from line_requests import read, word_of
@@ -11,7 +12,8 @@ from request_forms import DECLARE
 from timeline import Frame, Timeline
 from words import words_of_advance
 
-ENTRY = re.compile(r"[0-9]+ as ([0-7]): (.*) -> (.*)", re.DOTALL)
+ENTRY = re.compile(r"[0-9]+ \S+ as ([0-7]): (.*) -> (.*)", re.DOTALL)
+UNKNOWN = -1
 FAULTS = {
     "60": "{} is in use by another shell",
     "61": "{} is no store of a scene",
@@ -62,10 +64,8 @@ class Log:
             self.follow_ok(word, line)
         elif answer == "done":
             self.on_done(self.words_of_systems() if word == "advance" else None, behind)
-        elif answer == "undone":
-            self.on_undone(behind)
-        elif answer == "redone":
-            self.on_redone(behind)
+        elif answer in ("undone", "redone"):
+            self.follow_turn(line, self.on_undone if answer == "undone" else self.on_redone, behind)
 
     def follow_setup(self, word: str, line: str, answer: str) -> None:
         """A line that isn't bad ends the setup, where it is none that may come in it."""
@@ -88,6 +88,13 @@ class Log:
         elif word in ("phase", "system", "clear"):
             self.phases = phases_after(self.phases, word, line)
             self.on_phases()
+
+    @staticmethod
+    def follow_turn(line: str, turn: Callable[[Sequence[str]], None], behind: Sequence[str]) -> None:
+        """Undos, or redos: of several at once no step is told."""
+        count = read(line, ()).get("count", 1)
+        for _ in range(count):
+            turn(behind if count == 1 else ())
 
     def declare(self, line: str) -> None:
         """A kind comes last."""
@@ -119,11 +126,15 @@ class Log:
         self.timeline.past.push(self.timeline.future.pop())
 
     def read(self, text: str) -> None:
-        """Follows the text of a log, whose last line counts."""
+        """Follows the text of a log, whose last line counts. A frame of several commands is told by their account, which
+        begins with a word of no line. Whose turn it is behind all, no entry tells."""
         for entry in text.split("\n"):
             if match := ENTRY.fullmatch(entry):
+                self.turn = int(match[1])
                 # a word of the answer may itself have the arrow only in the path of a fault, where nothing is followed
                 self.follow(match[2], match[3].split(" ", 1)[0])
+        if not self.in_setup:
+            self.turn = UNKNOWN
 
 
 def phases_after(phases: List[List[str]], word: str, line: str) -> List[List[str]]:
@@ -136,14 +147,24 @@ def phases_after(phases: List[List[str]], word: str, line: str) -> List[List[str
     return [*before, [*last, line]]
 
 
-def log_of(program: str, store: Path, log: Log) -> None:
-    """Has a log read the lines of a store. Where there is no file, it stays that of a new one."""
+@contextmanager
+def log_of(program: str, store: Path) -> Iterator[Callable[[], str]]:
+    """Has a store's log told while a shell may open the store, and gives what waits for its text: that of a file which
+    isn't there is empty."""
     if not store.exists():
+        yield lambda: ""
         return
+    pipe = subprocess.PIPE
     try:
-        ended = subprocess.run([program, "log", str(store)], capture_output=True, check=False)
+        process = subprocess.Popen([program, "log", str(store)], stdout=pipe, stderr=pipe)
     except OSError as error:
         raise Trouble(f"{program} can't be run: {error.strerror}") from None
-    if ended.returncode != 0:
-        raise store_fault(store, ended.stderr)
-    log.read(ended.stdout.decode(errors="replace"))
+    with process:
+        yield lambda: log_text(process, store)
+
+
+def log_text(process: subprocess.Popen, store: Path) -> str:
+    said, told = process.communicate()
+    if process.returncode != 0:
+        raise store_fault(store, told)
+    return said.decode(errors="replace")

@@ -51,7 +51,8 @@ class Side:
 
     def push(self, frame: Frame) -> None:
         if frame.deltas is None:
-            self.forget(self.held)
+            if self.held > 0:
+                self.forget(self.held)
         else:
             self.held += 1
             self.size += len(frame.deltas)
@@ -104,7 +105,8 @@ class Timeline:
     def add(self, frame: Frame) -> None:
         """A frame was accepted."""
         self.past.push(frame)
-        self.future = Side()
+        if self.future.frames:
+            self.future = Side()
 
     @property
     def room(self) -> int:

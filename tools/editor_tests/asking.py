@@ -11,6 +11,18 @@ TEXTS = (
 )  # fmt: skip
 
 
+def read_told(text):
+    """What a tab is told: an object, and in it its record or those of its scene, which stand on lines of their own."""
+    first, *records = text.split("\n")
+    told, held = json.loads(first), list(map(json.loads, records))
+    scene = told.get("scene", {})
+    if scene.get("text") is not None:
+        scene["text"].update(undo=held[: scene["position"]], redo=held[scene["position"] :])
+    elif held:
+        told["record"] = held[0]
+    return told
+
+
 class Asker:
     """A tab that speaks to the server of an address by HTTP."""
 
@@ -30,7 +42,7 @@ class Asker:
     def post(self, name, body):
         status, _, content = self.ask("POST", name, body)
         assert status == 200, (name, status, content)
-        return json.loads(content)
+        return read_told(content.decode())
 
     def join(self, **body):
         answer = self.post("join", body)
@@ -71,7 +83,7 @@ class Stream:
     def next(self):
         """The number and the data of the next event."""
         number, text = self.next_text()
-        return number, json.loads(text)
+        return number, read_told(text)
 
     def next_text(self):
         parts = {}
@@ -79,9 +91,9 @@ class Stream:
             line = self.answer.readline().decode()
             assert line, "the stream has ended"
             name, _, text = line.rstrip("\n").partition(": ")
-            parts[name] = text
+            parts.setdefault(name, []).append(text)
             if line == "\n" and "data" in parts:
-                return int(parts["id"]), parts["data"]
+                return int(parts["id"][0]), "\n".join(parts["data"])
 
     def until(self, *sorts):
         """The events up to the first of these sorts, which is the last."""

@@ -21,7 +21,8 @@ from entity_walk import try_entity  # noqa: E402
 from files_walk import try_files  # noqa: E402
 from forest_walk import try_forest  # noqa: E402
 from keyboard_walk import try_keyboard  # noqa: E402
-from latency import latency  # noqa: E402
+from kinds_walk import try_kinds  # noqa: E402
+from latency import latency, playing  # noqa: E402
 from level_walk import try_level  # noqa: E402
 from looks_walk import try_looks  # noqa: E402
 from meadow_walk import try_meadow  # noqa: E402
@@ -38,10 +39,11 @@ PROGRAM = Path(__file__).resolve().parent.parent.parent / "crates" / "scene" / "
 WALKS = {
     "setup": try_setup, "village": try_village, "keyboard": try_keyboard, "meadow": try_meadow, "forest": try_forest,
     "entity": try_entity, "play": try_play_and_undo, "picture": try_picture, "files": try_files, "looks": try_looks,
-    "level": try_level,
+    "kinds": try_kinds, "level": try_level,
 }  # fmt: skip
 MANY, EDITS = 10_000, 200
 MOST, FEW_EDITS = 100_000, 40
+PLAYED = (1000, 10_000)
 
 
 @contextmanager
@@ -92,6 +94,8 @@ def main():
             for count, edited in ((MANY, EDITS), (MOST, FEW_EDITS)) if words.latency else ():
                 print(f"editor: {scale(remote, words.program, room, count)}", flush=True)
                 print(f"editor: {latency(remote, words.program, room, count, edited)}", flush=True)
+            for count in PLAYED if words.latency else ():
+                print(f"editor: {playing(remote, words.program, room, count)}", flush=True)
         return 0
     print(f"editor: ok; {try_in_browser(words.program, words.only or tuple(WALKS), words.album)}")
     return 0

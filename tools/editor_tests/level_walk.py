@@ -7,9 +7,9 @@ from person import SHOWN, Person
 from village_walk import children_of
 
 ROOMS = {
-    "Big House": None, "Ground Floor": "Big House", "Upper Floor": "Big House", "Hall": "Ground Floor",
-    "Kitchen": "Ground Floor", "Pantry": "Ground Floor", "Chapel": "Ground Floor", 'a "quoted" one': "Upper Floor",
-    "Кузница 🔥": "Upper Floor", "Study": "Upper Floor",
+    "Big House": None, "Ground Floor": "Big House", "Upper Floor": "Big House", "Great Hall": "Ground Floor",
+    "Old Kitchen": "Ground Floor", "Cold Pantry": "Ground Floor", "Small Chapel": "Ground Floor",
+    'a "quoted" one': "Upper Floor", "Кузница 🔥": "Upper Floor", "Quiet Study": "Upper Floor",
 }  # fmt: skip
 
 
@@ -55,23 +55,23 @@ def try_rooms(person):
         person.wait_for(lambda: room in names(person), f"{room} is built")
         person.wait_chosen(entity_of(person, room))
     levels = {line[2]: line[1] for line in person.forest()}
-    assert levels["Big House"] == 0 and levels["Upper Floor"] == 1 and levels["Study"] == 2, levels
+    assert levels["Big House"] == 0 and levels["Upper Floor"] == 1 and levels["Quiet Study"] == 2, levels
 
 
 def try_changes(person):
     """A room goes up, one is duplicated and renamed, and one points to another by its name."""
     ground = entity_of(person, "Ground Floor")
-    go_to(person, "Chapel")
+    go_to(person, "Small Chapel")
     person.key("Enter")
     person.key("ArrowUp", "Alt")
-    chapel, pantry = entity_of(person, "Chapel"), entity_of(person, "Pantry")
+    chapel, pantry = entity_of(person, "Small Chapel"), entity_of(person, "Cold Pantry")
     person.wait_for(lambda: children_of(person.forest(), ground)[-2:] == [chapel, pantry], "the chapel goes up")
     go_to(person, "Upper Floor")
     person.key("Enter")
     upper = entity_of(person, "Upper Floor")
     person.wait_for(lambda: person.evaluate(SHOWN) == upper, "the upper floor is chosen")
     person.key("d", "Control")
-    person.wait_for(lambda: names(person).count("Study") == 2, "the upper floor is there twice")
+    person.wait_for(lambda: names(person).count("Quiet Study") == 2, "the upper floor is there twice")
     person.wait_for(lambda: person.evaluate(SHOWN) != upper, "the copy is chosen")
     person.settle()
     person.key("F2")
@@ -82,7 +82,7 @@ def try_changes(person):
     person.write("two lines")
     person.key("Enter")
     person.wait_for(lambda: "Tower of two lines" in names(person), "it is the tower")
-    go_to(person, "Hall")
+    go_to(person, "Great Hall")
     person.key("Enter")
     person.tab_to("add-kind")
     person.select("add-kind", "Target")
@@ -91,9 +91,9 @@ def try_changes(person):
     person.key("Enter")
     person.wait("document.getElementById('add-value').ariaInvalid === 'true'", "a name of nobody is told there")
     person.key("a", "Control")
-    person.write("Kitchen")
+    person.write("Old Kitchen")
     person.key("Enter")
-    hall, kitchen = entity_of(person, "Hall"), entity_of(person, "Kitchen")
+    hall, kitchen = entity_of(person, "Great Hall"), entity_of(person, "Old Kitchen")
     person.wait_for(lambda: person.cell_text(hall, "Target") == kitchen, "the hall leads to the kitchen")
 
 

@@ -8,24 +8,31 @@ from pathlib import Path
 
 TOOLS = Path(__file__).resolve().parent.parent
 NODE = shutil.which("node")
+SORTS = {"spawned": "new", "linked": "moved", "shifted": "changed", "cellset": "changed"}
 SCRIPT = """
 import { createInterface } from "readline";
 import { Mirror } from "./mirror.js";
+import { marksOf } from "./records.js";
 import { sceneOf } from "./state.js";
 
 const mirror = new Mirror();
+
+function recordsOf(text) {
+  return text === null ? [] : [...text.undo, ...text.redo];
+}
 
 function seen() {
   const { state, kinds, records, position, frames, older, later } = mirror;
   const plain = records.map(({ tick, deltas }) => ({ deltas, tick }));
   const named = mirror.framesOf("0v1");
-  return { world: sceneOf(state, kinds, 1), records: plain, position, frames, older, later, named };
+  const { sort = null } = marksOf(mirror.recordAt(position)).entities.get("0v1") ?? {};
+  return { world: sceneOf(state, kinds, 1), records: plain, position, frames, older, later, named, sort };
 }
 
 for await (const line of createInterface({ input: process.stdin })) {
-  const { whole, event } = JSON.parse(line);
-  if (whole !== undefined) mirror.take(whole);
-  else if (event !== undefined) mirror.apply(event);
+  const { whole, event, record } = JSON.parse(line);
+  if (whole !== undefined) mirror.take(whole, recordsOf(whole.text).map((each) => JSON.stringify(each)));
+  else if (event !== undefined) mirror.apply(event, record ? JSON.stringify(record) : undefined);
   else console.log(JSON.stringify(seen()));
 }
 """
@@ -40,6 +47,13 @@ def folder():
     Path(found.name, "package.json").write_text('{"type":"module"}')
     Path(found.name, "follow.js").write_text(SCRIPT)
     return found
+
+
+def sort_of(records):
+    """The sort of the change that the last of some records made of an entity, or None."""
+    deltas = records[-1]["deltas"] if records else []
+    sorts = {SORTS.get(delta["op"]) for delta in deltas if delta.get("entity") == "0v1"}
+    return next((sort for sort in ("new", "moved", "changed") if sort in sorts), None)
 
 
 class Mirrored:
@@ -64,6 +78,7 @@ class Mirrored:
         for part in ("frames", "older", "later"):
             assert seen[part] == getattr(client, part), f"the page differs in {part}"
         named = [any(delta.get("entity") == "0v1" for delta in record["deltas"]) for record in seen["records"]]
+        assert seen["sort"] == sort_of(scene["undo"]), seen["sort"]
         assert seen["named"] == [at for at, is_named in enumerate(named, 1) if is_named], seen["named"]
 
     def close(self):

@@ -11,7 +11,7 @@ sys.path[:0] = [str(TOOLS / "editor"), str(TOOLS)]
 
 import timeline  # noqa: E402
 from advancing import script  # noqa: E402
-from asking import TEXTS  # noqa: E402
+from asking import TEXTS, read_told  # noqa: E402
 from following import Followed  # noqa: E402
 from hub import Hub  # noqa: E402
 from line_requests import is_open_behind, word_of  # noqa: E402
@@ -81,7 +81,7 @@ class Client:
     """What a tab knows: all at its join, and then by events alone. `page` may be a mirror that is told the same."""
 
     def __init__(self, hub, page=None):
-        joined = json.loads(hub.join(None, None))
+        joined = read_told(hub.join(None, None))
         self.page = page
         self.hub, self.session = hub, joined["session"]
         self.take(joined["scene"])
@@ -103,15 +103,15 @@ class Client:
     def catch_up(self):
         """Applies what has happened."""
         for event in self.hub.events.after(self.cursor, 0):
-            number, data = event.decode().removesuffix("\n\n").split("\n")
+            number, data = event.decode().removesuffix("\n\n").replace("\ndata: ", "\n").split("\n", 1)
             self.cursor += 1
             assert number == f"id: {self.cursor}", number
-            self.apply(json.loads(data.removeprefix("data: ")))
+            self.apply(read_told(data))
 
     def apply(self, event):
         sort = event["sort"]
         if sort != "whole":
-            self.show(event=event)
+            self.show(event=event, record=event.get("record"))
         if sort in ("frame", "undo", "redo"):
             getattr(self, sort)(event)
         elif sort == "kinds":
@@ -180,7 +180,7 @@ def hold(hub, clients):
     sides = hub.model.timeline.past, hub.model.timeline.future
     counts = [len(side.frames) for side in sides]
     assert counts == [len(printed["undo"]), len(printed["redo"])], counts
-    whole = json.loads(hub.whole(0))
+    whole = read_told(hub.whole(0, '{"sort":"whole"'))["scene"]
     for client in clients:
         world = client.world
         seen, held = world.scene(), as_held(printed, world)
@@ -220,7 +220,7 @@ def play(chance, hub, clients, lines):
 
 
 def frames_known(hub):
-    whole = json.loads(hub.whole(0))
+    whole = read_told(hub.whole(0, '{"sort":"whole"'))["scene"]
     return {part: whole[part] for part in ("frames", "position", "phases", "text", "kinds", "older", "later")}
 
 

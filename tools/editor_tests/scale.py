@@ -7,7 +7,6 @@ from editor_process import EditorProcess
 from person import Person
 
 QUIET = 0.6
-WAIT = 300
 
 
 def busy(person):
@@ -43,9 +42,7 @@ def scale(remote, program, room, count):
     with EditorProcess(program, store, script) as process:
         person = Person(remote, process.address)
         person.call("Performance.enable", timeDomain="threadTicks")
-        person.wait("document.getElementById('found').textContent !== ''", "the scene is there", WAIT)
-        time.sleep(3)
-        said = [f"opening {busy(person):.0f}"]
+        said = [f"opening {cost(person, person.reload):.0f}"]
         for what, do in (
             ("choosing", lambda: person.choose("0v1")),
             ("a search", lambda: typed_search(person, "thing_77")),

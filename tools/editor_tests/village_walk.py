@@ -201,7 +201,7 @@ class Village:
             self.one.arrived()
             self.one.reload()
             assert self.one.session_number() == number, "a reload took another session"
-        alone = f"session {number} is here too"
+        alone = f"with session {number}"
         self.other.wait_for(lambda: self.other.text("others") == alone, f"the other is told that {alone}")
         self.both_show(ALDOUS, "Age", "66")
 

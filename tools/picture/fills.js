@@ -28,6 +28,12 @@ export function fillEntity(element, line, view) {
   );
 }
 
+// What stands in a cell of a table, and what is said over it.
+export function sayCell(shape, [value, ...ticks]) {
+  const text = shape === "Tag" ? "✓" : valueText(shape, value);
+  return { text, title: `${text}, ${ticksText(ticks)}` };
+}
+
 export function fillTable(element, line, view) {
   if (line.sort === "rest") return void (element.textContent = line.text);
   const { kinds, marks } = view;
@@ -45,11 +51,9 @@ export function fillTable(element, line, view) {
   element.dataset.entity = line.entity;
   head.append(markEntity(element, line.entity, view), part("b", "", line.entity));
   for (const kind of table.kinds) {
-    const [value, ...ticks] = line.row.cells.get(kind);
-    const text = kinds[kind][1] === "Tag" ? "✓" : valueText(kinds[kind][1], value);
-    const cell = part("span", `text${written.has(kind) ? " written" : ""}`, text);
-    cell.title = `${text}, ${ticksText(ticks)}`;
-    element.append(cell);
+    const cell = part("span", `text${written.has(kind) ? " written" : ""}`, "");
+    const said = sayCell(kinds[kind][1], line.row.cells.get(kind));
+    element.append(Object.assign(cell, { textContent: said.text, title: said.title }));
   }
 }
 

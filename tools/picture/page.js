@@ -4,8 +4,9 @@ import { cellList, fillChange, fillEntity, fillResource, fillTable } from "./fil
 import { ListInSight } from "./in_sight.js";
 import { changeLines, forestLines, isUnfolded, newFolds, resourceLines, tableLines, turn } from "./lines.js";
 import { button, part } from "./parts.js";
+import { framesOf, marksOf } from "./records.js";
 import { goTo, timelineOf } from "./state.js";
-import { found, framesOf, marksOf, positionText } from "./words.js";
+import { found, positionText } from "./words.js";
 
 const OPEN_UP_TO = 200;
 const MOST_FRAMES_NAMED = 100;

@@ -7,7 +7,10 @@ from html import escape
 from pathlib import Path
 
 HERE = Path(__file__).resolve().parent
-SCRIPTS = ("state.js", "words.js", "lines.js", "parts.js", "fills.js", "in_sight.js", "page.js")
+SCRIPTS = (
+    "roots.js", "cells.js", "state.js", "records.js", "words.js", "lines.js", "parts.js", "fills.js", "in_sight.js",
+    "page.js",
+)  # fmt: skip
 # What makes the scripts modules, for the editor (tools/editor). In one file they share their names without.
 MODULE_WORDS = re.compile(r"^import [^;]*;\n|^export ", re.MULTILINE)
 MOST_EXACT = 2**53 - 1

@@ -7,12 +7,15 @@ sys.path.insert(0, str(Path(__file__).resolve().parent.parent))
 
 from forest import drawing  # noqa: E402
 from page import page  # noqa: E402
-from played_scene import CommandLine, scene_of_input, told  # noqa: E402
+from played_scene import CommandLine, scene_of_file, scene_of_input, told  # noqa: E402
 
 
 def draw(words):
     """Writes the picture. The status is that of the run, 1 where a line of the script was bad."""
-    played = scene_of_input(words.program, sys.stdin.buffer.read())
+    if words.file is None:
+        played = scene_of_input(words.program, sys.stdin.buffer.read())
+    else:
+        played = scene_of_file(words.program, words.file, words.unproved)
     picture = drawing(played.scene) if words.svg else page(played.scene)
     sys.stdout.buffer.write(picture.encode())
     sys.stdout.buffer.flush()
@@ -20,7 +23,9 @@ def draw(words):
 
 
 def main():
-    line = CommandLine("picture", "no word but --svg and --help, and a script or a scene text from standard input")
+    line = CommandLine("picture", "the name of a file, a store, a script or a scene text, or the last two from standard input, "
+                       "and no other word but --svg, --unproved and --help")
+    line.add_argument("file", nargs="?")
     line.add_argument("--svg", action="store_true")
     words = line.parsed(sys.argv[1:])
     return told("picture", lambda: draw(words))

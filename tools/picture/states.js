@@ -8,14 +8,22 @@ const context = vm.createContext({});
 vm.runInContext(`${fs.readFileSync(process.argv[2], "utf8")}\nthis.page = { ${names.join(", ")} };`, context);
 const { page } = context;
 
+function changeShown({ sort, entity, text }) {
+  return [sort, entity ?? null, text];
+}
+
+function all(lines) {
+  return lines.slice(0, lines.length);
+}
+
 function shown(timeline, limit) {
   const { kinds, records, state, position } = timeline;
   return {
     world: page.sceneOf(state, kinds, limit),
-    forest: page.forestLines(state, page.newFolds(true), null).map((line) => [line.entity, line.level]),
-    folded: page.forestLines(state, page.newFolds(false), null).map((line) => line.entity),
-    rows: page.tableLines(state, page.newFolds(true), null).filter((line) => line.sort === "row").length,
-    changes: page.changeLines(kinds, records[position - 1]).map(({ sort, entity, text }) => [sort, entity ?? null, text]),
+    forest: all(page.forestLines(state, page.newFolds(true), null)).map((line) => [line.entity, line.level]),
+    folded: all(page.forestLines(state, page.newFolds(false), null)).map((line) => line.entity),
+    rows: all(page.tableLines(state, page.newFolds(true), null)).filter((line) => line.sort === "row").length,
+    changes: all(page.changeLines(kinds, records[position - 1])).map(changeShown),
   };
 }
 

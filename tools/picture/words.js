@@ -26,7 +26,7 @@ export function cellsText(kinds, cells) {
 
 // The cells of a row by ascending kind.
 export function rowCells(row) {
-  return row.table.kinds.map((kind) => [kind, ...row.cells.get(kind)]);
+  return row.cells.kinds.map((kind, at) => [kind, ...row.cells.cells[at]]);
 }
 
 export function resourceText(name, [shape, value]) {
@@ -63,37 +63,6 @@ const SAY = {
 export function changeOf(kinds, delta) {
   const [sort, text] = SAY[delta.op](kinds, delta);
   return { sort, entity: delta.entity, text };
-}
-
-// Which entities a frame changed, each with the sort of its change and the kinds that it wrote, and which resources.
-// Of several sorts the first of new, moved, changed is told.
-export function marksOf(record) {
-  const entities = new Map();
-  const resources = new Set();
-  const order = ["new", "moved", "changed"];
-  for (const delta of record?.deltas ?? []) {
-    if (delta.op === "resourceset") {
-      resources.add(delta.name);
-      continue;
-    }
-    const sort = { spawned: "new", linked: "moved", shifted: "changed", cellset: "changed" }[delta.op];
-    if (sort === undefined) continue;
-    const mark = entities.get(delta.entity) ?? { sort, kinds: new Set() };
-    if (order.indexOf(sort) < order.indexOf(mark.sort)) mark.sort = sort;
-    const written = { spawned: delta.cells, shifted: [delta.cell], cellset: [delta.after] }[delta.op] ?? [];
-    for (const [kind] of written) mark.kinds.add(kind);
-    entities.set(delta.entity, mark);
-  }
-  return { entities, resources };
-}
-
-// The frames, as positions behind them, whose records name an entity.
-export function framesOf(records, entity) {
-  const frames = [];
-  records.forEach((record, at) => {
-    if (record.deltas.some((delta) => delta.entity === entity)) frames.push(at + 1);
-  });
-  return frames;
 }
 
 // What a search looks in: the entity and its cells, as they are shown.

@@ -8,6 +8,8 @@ from request_forms import DECLARE
 # Those that don't end the setup.
 SETUP = frozenset(("kind", "slots", "load", "calls", "depth", DECLARE))
 MOST_SLOTS = 1_048_576
+# As many calls a shell counts, where no line `calls` says fewer.
+MOST_CALLS = 2**64 - 1
 
 
 class Follower:
@@ -15,7 +17,8 @@ class Follower:
     `on_undo()` and `on_redo()`."""
 
     def __init__(self):
-        self.in_setup, self.loaded, self.limit, self.depth = True, None, MOST_SLOTS, MOST_DEPTH
+        self.in_setup, self.loaded, self.most_calls = True, None, MOST_CALLS
+        self.limit, self.depth = MOST_SLOTS, MOST_DEPTH
         self.set_kinds([])
         self.phases, self.frame = [], None
 
@@ -45,7 +48,7 @@ class Follower:
         elif answer == "queued":
             self.frame[-1].append(request)
         elif answer in ("undone", "redone"):
-            (self.on_undo if answer == "undone" else self.on_redo)()
+            self.turn(request)
         elif answer == "done" and word == "advance":
             self.on_advance()
         elif answer == "done":
@@ -53,6 +56,12 @@ class Follower:
         if word in ENDS:
             self.frame = None
         return request
+
+    def turn(self, request):
+        """Follows an undo or a redo, or several."""
+        turn_once = self.on_undo if request["do"] == "undo" else self.on_redo
+        for _ in range(request.get("count", 1)):
+            turn_once()
 
     def follow_ok(self, request):
         word = request["do"]
@@ -77,6 +86,8 @@ class Follower:
             self.limit = request["limit"]
         elif word == "depth":
             self.depth = request["limit"]
+        elif word == "calls":
+            self.most_calls = request["limit"]
 
 
 def phases_after(phases, request):

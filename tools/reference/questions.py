@@ -1,5 +1,5 @@
-"""What questions and declarations of kinds are answered (docs/SHELL.md, "Questions", "Kinds at any time"), as the
-reference works it out from a shell's other lines and their answers alone."""
+"""What questions, declarations of kinds, and undos and redos of several frames are answered (docs/SHELL.md, "Questions",
+"Kinds at any time", "Requests"), as the reference works it out from a shell's other lines and their answers alone."""
 import json
 import re
 
@@ -13,6 +13,8 @@ from request_forms import DECLARE, DROP_FRAME, Bad, Reader
 
 MOST_KINDS = 64
 CALLS = COMMANDS | {"commit", "advance", "undo", "redo"}
+# With which no call is entered.
+NO_CALLS = ("BadRule", "Conflict", "HistoryFull")
 
 
 class Refused(Exception):
@@ -29,9 +31,9 @@ class Shell(Follower):
     # Lines that aren't questions
 
     def hear(self, line, answer):
-        """Follows a line that is no question and doesn't drop a frame, by its answer."""
+        """Follows a line whose answer isn't worked out, by its answer."""
         request = self.follow(line, answer["answer"])
-        self.calls += request is not None and is_call(request["do"], answer)
+        self.calls += calls_of(request, answer) if request else 0
 
     def hear_compaction(self):
         """The store was compacted: its calls, and the cursor's rewinds, are counted anew behind the setup."""
@@ -68,14 +70,16 @@ class Shell(Follower):
     # Questions
 
     def answer(self, line):
-        """Does a question, a declaration, or the end of a frame that is dropped, and gives its answer as a line of JSON;
-        or a `Bad`, without a path where the line is out of place."""
+        """Does a question, a declaration, an undo or a redo of several frames, or the end of a frame that is dropped,
+        and gives its answer as a line of JSON; or a `Bad`, without a path where the line is out of place."""
         request = Reader(self.kinds).read(line)
         try:
-            return text_of(self.answer_to(request))
+            answer = self.answer_to(request)
         except Refused as refused:
             number, name, fields = refused.args
-            return text_of({"answer": "refused", "number": number, "name": name, **fields})
+            answer = {"answer": "refused", "number": number, "name": name, **fields}
+        self.calls += calls_of(request, answer)
+        return text_of(answer)
 
     def answer_to(self, request):
         word = request["do"]
@@ -115,9 +119,11 @@ class Shell(Follower):
         return {name: cells[name] for name in sorted(cells, key=self.world.numbers.get)}
 
 
-def is_call(word, answer):
-    """Whether a line that isn't bad is a call of the history, by its first word."""
-    return word in CALLS and answer["answer"] != "queued" and answer.get("name") not in ("BadRule", "Conflict")
+def calls_of(request, answer):
+    """How many calls of the history a line is that isn't bad. Several undos or redos are none where they are refused."""
+    if request["do"] not in CALLS or answer["answer"] == "queued" or answer.get("name") in NO_CALLS:
+        return 0
+    return 1 if "count" not in request else request["count"] * (answer["answer"] != "refused")
 
 
 def new_scene(limit):
@@ -214,8 +220,28 @@ def cells_since(shell, request):
     return {"answer": word, "cells": found}
 
 
+# ---- undos and redos, of several frames too
+
+
+def undos(shell, request):
+    return turned(shell, request, shell.world.past, (15, "NothingToUndo", {}))
+
+
+def redos(shell, request):
+    return turned(shell, request, shell.world.future, (16, "NothingToRedo", {}))
+
+
+def turned(shell, request, records, at_end):
+    """Does so many, or none where one of them would be refused: a full history comes before the end of the records."""
+    room = shell.most_calls - shell.calls
+    if request.get("count", 1) > min(len(records), room):
+        raise Refused(*(at_end if len(records) < room else (17, "HistoryFull", {"length": shell.most_calls})))
+    shell.turn(request)
+    return {"answer": "undone" if request["do"] == "undo" else "redone"}
+
+
 ANSWERS = {
     "status": status, "kinds": kinds_now, "tables": tables, "rows": rows, "children": children, "parentof": parent,
     "resources": resources, "past": steps, "future": steps, "deltas": deltas, "step": step, "changedsince": cells_since,
-    "addedsince": cells_since, "history": history,
+    "addedsince": cells_since, "history": history, "undo": undos, "redo": redos,
 }  # fmt: skip

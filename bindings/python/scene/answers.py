@@ -8,7 +8,7 @@ from scene.errors import BadLine
 from scene.reads import Reads, shown
 from scene.values import Cell, Entity, Value
 
-# The requests that ask for a text, which stands in the library's own JSON as a string.
+# The lines that ask for a text, which stands in the library's own JSON as a string.
 ASK_TEXT = ("show", "get", "dump", "dumpall")
 BAD_LINE = "bad line\n"
 

@@ -59,8 +59,9 @@ class Calls(ABC):
     def request(self, do: str, **keys: Any) -> Dict[str, Any]:
         """Plays a request (docs/SHELL.md, "Requests"), and gives its answer, as `request("get", entity="0v1")`.
 
-        `do` is the first word of the line that it stands for. Its texts have any characters. A bad request is a
-        `BadLine`, with the path of the part that is bad; a value that JSON doesn't have, a TypeError.
+        `do` is the first word of the line that it stands for, or what it asks or does that no line does, as `status`.
+        Its texts have any characters. A bad request is a `BadLine`, with the path of the part that is bad; a value that
+        JSON doesn't have, a TypeError.
         """
 
     @abstractmethod
@@ -111,10 +112,9 @@ class Calls(ABC):
     def declare(self, name: str, shape: str) -> None:
         """Declares a kind by its name and its shape, Tag, Int, Vec3, Text or Link.
 
-        Over the shell that goes at any time, also in an open frame. It is no frame, and no undo takes the kind; behind
-        the setup it begins the count of the line `history` anew. Over the library it goes in the setup alone, which the
-        first call of any other kind ends, and not behind a `load`: there it is a BadLine, as another shape is at both.
-        A name that isn't good is refused as BadName, one that is taken as KindTaken, a 65th as KindsFull.
+        That goes at any time, also in an open frame and behind a `load`. It is no frame, and no undo takes the kind;
+        behind the setup it begins the count of the line `history` anew. A name that isn't good is refused as BadName,
+        one that is taken as KindTaken, a 65th as KindsFull; another shape is a BadLine.
         """
 
     def _declare_all(self, kinds: Optional[Mapping[str, str]]) -> None:
@@ -298,15 +298,17 @@ class Calls(ABC):
         """Whether a frame is open."""
 
     def undo(self, count: int = 1) -> None:
-        """Takes the newest frames back, so many. Refused as NothingToUndo, where there are fewer, and none is.
+        """Takes the newest frames back, so many: all of them, or none.
 
-        Where a limit of calls is reached on the way, that is refused, and those before are taken back.
+        Refused as NothingToUndo, where there are fewer, and as HistoryFull, where the limit of calls is reached before.
         """
         self._steps("undo", count)
 
     def redo(self, count: int = 1) -> None:
-        """Does the last frames that were taken back again. Refused as NothingToRedo, where there are fewer: so behind a
-        new frame."""
+        """Does the last frames that were taken back again, so many: all of them, or none.
+
+        Refused as NothingToRedo, where there are fewer, so behind a new frame, and as HistoryFull, as `undo` is.
+        """
         self._steps("redo", count)
 
     @abstractmethod

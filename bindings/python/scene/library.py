@@ -29,7 +29,7 @@ from scene.answers import ASK_TEXT, BAD_LINE, answer_to, bad_request
 from scene.calls import request_sent
 from scene.cells import packed_cells, raw_component
 from scene.deltas import Delta, KeptStep
-from scene.errors import BadLine, Lost, Refused, Shared, Untold
+from scene.errors import BadLine, Lost, Refused, Shared, Untold, told_in_json
 from scene.handle import Library, Played
 from scene.header import BAD, CLOSED, DONE, LOST, NO_MEMORY, REFUSED, SHARED, UNTOLD, RawEntity, RawRefusal
 from scene.header import load_library
@@ -41,7 +41,6 @@ __all__ = ["BAD", "CLOSED", "DONE", "Delta", "KeptStep", "LOST", "Library", "Lib
 __all__ += ["NO_MEMORY", "Played", "REFUSED", "SHARED", "UNTOLD", "Untold", "load_library"]
 
 HISTORY_FULL, REWOUND = 17, 18
-DECLARED_LATE = "over the library a kind is declared in the setup alone, before a load: over the shell at any time"
 # What a scene text has, by its version.
 WORLD_ALONE, WITH_HISTORY = 1, 2
 # As many as a count can tell; no scene has so many frames.
@@ -161,12 +160,15 @@ class LibraryScene(Reads):
         if code == BAD and text != BAD_LINE:
             raise bad_request(text)
         self._came(code, do)
+        answer = answer_to(self, do, keys, text) if do in ASK_TEXT else self._answered(do, text)
+        if refused := told_in_json(answer):
+            raise refused
         self._noted(do)
-        return answer_to(self, do, keys, text) if do in ASK_TEXT else self._answered(do)
+        return answer
 
-    def _answered(self, do: str) -> Dict[str, Any]:
-        """The answer to a request that was done."""
-        told = self._scene.answer_in_json()
+    def _answered(self, do: str, text: str) -> Dict[str, Any]:
+        """The answer to a request that was done. Of a question it is the text."""
+        told = text if text.startswith("{") else self._scene.answer_in_json()
         if not told:
             raise Untold(do)
         answer: Dict[str, Any] = json.loads(told)
@@ -189,8 +191,8 @@ class LibraryScene(Reads):
             return Refused(text)
         told = self._fault_told(raw)
         if raw.fault == HISTORY_FULL:
-            # Its field is the length of the history, which no other call tells.
-            told += f" {self.request('history')['calls']}"
+            # Its field is the length of the history, which only the answer tells.
+            told += f" {json.loads(self._scene.answer_in_json() or '{}').get('length', '')}"
         elif raw.fault == REWOUND:
             told += f" {self._numbers_of_scene().rewinds}"
         if raw.has_place:
@@ -206,10 +208,7 @@ class LibraryScene(Reads):
     def declare(self, name: str, shape: str) -> None:
         asked, number = SHAPE_NAMES.index(shape_named(kind_named(name), shape)), c_uint32(0)
         named = in_bytes("the name of a kind", name)
-        try:
-            self._call("declare", named, len(named), asked, byref(number))
-        except BadLine:
-            raise BadLine(DECLARED_LATE) from None
+        self._call("declare", named, len(named), asked, byref(number))
         self._names.append(name)
         self._kinds[name] = number.value, shape
 
@@ -340,10 +339,8 @@ class LibraryScene(Reads):
     def _steps(self, do: str, count: int) -> None:
         asked = count_named(count)
         if asked == 1:
+            # (one that is refused is a call of the history only so)
             self._call(do)
-        elif self._in_frame:
-            self._scene.check_thread()
-            raise BadLine(IN_FRAME)
         else:
             self._call(f"{do}_by", min(asked, MOST))
 

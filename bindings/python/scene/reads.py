@@ -77,7 +77,7 @@ class Reads(Calls):
         self._kinds: Dict[str, Tuple[int, str]] = {}
         self._names: List[str] = []
         self._in_frame = False
-        # Whether the setup is over, behind which the library declares no kind.
+        # Whether the setup is over.
         self._is_ready = False
         # What calls write into: a scene has one thread, and one call at a time.
         self._cell, self._ticks, self._info = RawCell(), RawTicks(), RawInfo()
@@ -120,6 +120,8 @@ class Reads(Calls):
         """Looks at what a line or a request may have changed: the kinds, the setup, and whether a frame is open."""
         if self._scene.call("status", byref(self._info)) == DONE:
             self._is_ready, self._in_frame = True, bool(self._info.in_frame)
+            if self._info.kinds != len(self._names):
+                self._read_kinds()
         else:
             self._in_frame = False
             self._read_kinds()

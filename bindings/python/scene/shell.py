@@ -27,7 +27,6 @@ BAD_VALUES = {
     "Text": "`?` is no part of the text before it",
     "Link": "`?` is no entity",
 }
-TOO_FEW = {"undo": "refused 15 NothingToUndo", "redo": "refused 16 NothingToRedo"}
 
 
 def moment_told(status: Mapping[str, Any]) -> Moment:
@@ -213,10 +212,9 @@ class Scene(Calls):
         return self._in_frame
 
     def _steps(self, do: str, count: int) -> None:
-        # All or none: so it is asked first whether there are so many.
-        if count_named(count) != 1 and getattr(self.status(), do) < count:
-            raise Refused(TOO_FEW[do])
-        self._request_all([{"do": do}] * count)
+        asked = count_named(count)
+        # (one that is refused is a call of the history only without a count)
+        self.request(do, **({} if asked == 1 else {"count": min(asked, MOST)}))
 
     # ---- reading
 

@@ -150,7 +150,7 @@ impl Scene {
         if unsafe { raw::scene_status(self.handle(), &mut info) } != raw::SCENE_BAD {
             return Ok(false);
         }
-        // A step of no frames is no call, and ends the setup.
+        // A step of no frames does nothing else.
         // SAFETY: as in `call!`.
         match unsafe { raw::scene_undo_by(self.handle(), 0) } {
             raw::SCENE_DONE => Ok(true),

@@ -94,7 +94,8 @@ impl Scene {
     }
 
     /// Plays a request: a JSON object in place of a line, whose texts have any characters (docs/SHELL.md, "Requests").
-    /// Gives the text of the answer to that line, without the last line break.
+    /// Gives the text of the answer to that line, without the last line break. That of a question, which no line asks,
+    /// is JSON, also where it says `refused`.
     ///
     /// ```
     /// use scene::{Error, Scene};
@@ -103,6 +104,8 @@ impl Scene {
     /// let put = r#"{"do":"put","name":"motto","shape":"Text","value":"Big \"House\""}"#;
     /// assert_eq!(scene.request(put)?, "done");
     /// assert_eq!(scene.resource::<String>("motto")?, "Big \"House\"");
+    /// let step = scene.request(r#"{"do":"past","from":0,"count":9}"#)?;
+    /// assert_eq!(step, r#"{"answer":"steps","length":1,"steps":[{"tick":0,"deltas":1}]}"#);
     /// println!("{}", scene.request(r#"{"do":"jump"}"#).unwrap_err());
     /// # Ok::<(), Error>(())
     /// ```

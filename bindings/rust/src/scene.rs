@@ -35,13 +35,13 @@ pub fn version() -> (u32, u32, u32) {
     (number / 10_000, number / 100 % 100, number % 100)
 }
 
-/// A scene: a world, and what of it can be undone and redone. It begins in its setup, in which kinds are declared; the
+/// A scene: a world, and what of it can be undone and redone. It begins in its setup, in which limits are set; the
 /// first call that isn't a `declare`, `kind`, `kinds`, `set_depth`, `check_systems` or a setup line ends it, also one
-/// that reads. When it is let go, all of it is freed.
+/// that reads. Kinds are declared at any time. When it is let go, all of it is freed.
 ///
-/// What reads, takes `&self`: it changes neither the world nor the last answer. A scene goes to another thread with
-/// all that it has. Two threads can't have one at a time, not even to read, as it isn't `Sync`; what
-/// [`share`](Scene::share) makes of it they read at once.
+/// What reads, takes `&self`: it changes neither the world nor, but where it ends the setup, the last answer. A scene
+/// goes to another thread with all that it has. Two threads can't have one at a time, not even to read, as it isn't
+/// `Sync`; what [`share`](Scene::share) makes of it they read at once.
 ///
 /// ```
 /// use scene::{Error, Scene, Shape};
@@ -235,7 +235,9 @@ impl Scene {
         Ok(without_break(text_of(saved)))
     }
 
-    /// Declares a kind, in the setup, and gives it. Kinds are numbered in the order in which they are declared.
+    /// Declares a kind, at any time, and gives it. Kinds are numbered in the order in which they are declared. It is no
+    /// frame, and no undo takes it: each scene that an undo or a redo leads to has the kind. It ends no setup; behind
+    /// it the line `history` counts from 0 again.
     ///
     /// ```
     /// use scene::{Error, Scene, Shape};
@@ -244,17 +246,19 @@ impl Scene {
     /// scene.declare("Health", Shape::Int)?;
     /// let error = scene.declare("Health", Shape::Text).unwrap_err();
     /// assert_eq!(error.to_string(), "refused 31 KindTaken");
-    /// scene.spawn(&[])?;
-    /// let error = scene.declare("Late", Shape::Tag).unwrap_err();
-    /// assert!(error.to_string().starts_with("the setup has ended"));
+    /// let cat = scene.spawn(&[])?;
+    /// let late = scene.declare("Late", Shape::Int)?;
+    /// scene.insert(cat, late, 7)?;
+    /// scene.undo_by(2)?;
+    /// assert_eq!(scene.kind("Late"), Some(late));
     /// # Ok::<(), Error>(())
     /// ```
     ///
     /// # Errors
     ///
     /// [`Error::Refused`] with BadName for a name that isn't 1 to 32 ASCII letters, digits and `_`, a letter in front,
-    /// with KindTaken where a kind has it, and with KindsFull for a 65th kind; [`Error::Bad`] behind the setup, as for
-    /// a loaded scene; [`Error::NoMemory`]. The kinds so far stay.
+    /// with KindTaken where a kind has it, and with KindsFull for a 65th kind; [`Error::NoMemory`]. The scene is as it
+    /// was then.
     pub fn declare(&mut self, name: &str, shape: Shape) -> Result<Kind, Error> {
         let mut number = 0;
         call!(self, scene_declare, name.as_ptr(), name.len(), shape as u32, &mut number)?;

@@ -44,8 +44,7 @@ impl Scene {
         call!(self, scene_redo)
     }
 
-    /// Takes the `count` newest frames back, one after another, as a drag is one step for a user; or none where there
-    /// are fewer.
+    /// Takes the `count` newest frames back, all of them or none, as a drag is one step for a user.
     ///
     /// ```
     /// # use scene::{Error, Scene};
@@ -62,14 +61,14 @@ impl Scene {
     ///
     /// # Errors
     ///
-    /// [`Error::Refused`] with NothingToUndo where there are fewer, and none is taken back; [`Error::Bad`] in a frame
-    /// that a line opened. Those before are taken back where one finds a limit of calls reached, a HistoryFull, or no
-    /// memory, an [`Error::NoMemory`]: [`status`](Scene::status) says how many are left.
+    /// [`Error::Refused`] with NothingToUndo where there are fewer, or with HistoryFull where one would pass the limit
+    /// of calls that a line has set; [`Error::Bad`] in a frame that a line opened; [`Error::NoMemory`]. None is taken
+    /// back then.
     pub fn undo_by(&mut self, count: usize) -> Result<(), Error> {
         call!(self, scene_undo_by, count)
     }
 
-    /// Does the `count` newest frames that were taken back again, one after another; or none where there are fewer.
+    /// Does the `count` newest frames that were taken back again, all of them or none.
     ///
     /// ```
     /// # use scene::{Error, Scene};

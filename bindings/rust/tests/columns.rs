@@ -182,7 +182,7 @@ fn a_read_ends_the_setup_as_each_call_does() {
     assert_eq!((scene.kind("Health"), scene.kinds().count()), (Some(health), 1));
     scene.declare("Name", Shape::Text).unwrap();
     assert_eq!(scene.tables(Filter::all()), Ok(Vec::new()));
-    assert!(matches!(scene.declare("Late", Shape::Tag), Err(Error::Bad(_))));
+    assert!(matches!(scene.line("kind Late Tag"), Err(Error::Bad(_))));
     let nobody = Entity { index: 0, generation: 1 };
     let mut reads: Vec<Read> = Vec::new();
     reads.push(Box::new(|scene| scene.status().unwrap().tick == 0));
@@ -195,7 +195,7 @@ fn a_read_ends_the_setup_as_each_call_does() {
         let mut scene = Scene::new().unwrap();
         scene.declare("Health", Shape::Int).unwrap();
         assert!(read(&scene));
-        assert!(scene.declare("Late", Shape::Tag).unwrap_err().to_string().starts_with("the setup has ended"));
+        assert!(scene.line("kind Late Tag").unwrap_err().to_string().starts_with("the setup has ended"));
         scene.spawn(&[health.of(9)]).unwrap();
     }
 }

@@ -73,7 +73,7 @@ fn a_save_ends_the_setup() {
         let mut scene = Scene::new().unwrap();
         scene.declare("Name", Shape::Text).unwrap();
         assert!(Scene::load(&save(&scene).unwrap()).unwrap().kind("Name").is_some());
-        assert!(matches!(scene.declare("Late", Shape::Tag), Err(Error::Bad(_))));
+        assert!(matches!(scene.line("kind Late Tag"), Err(Error::Bad(_))));
     }
 }
 
@@ -115,8 +115,9 @@ fn a_line_loads_too() {
     scene.declare("Other", Shape::Tag).unwrap();
     assert_eq!(scene.line(&format!("load   {saved}")), Ok("ok".to_owned()));
     assert_eq!((scene.kind("Other"), scene.kinds().count()), (None, 2));
-    assert!(matches!(scene.declare("Late", Shape::Tag), Err(Error::Bad(_))));
+    assert!(matches!(scene.line("kind Late Tag"), Err(Error::Bad(_))));
     scene.line("depth 1").unwrap();
+    assert_eq!(scene.declare("Late", Shape::Tag).unwrap().number(), 2);
     let name = scene.kind("Name").unwrap();
     assert_eq!(scene.get("0v1".parse().unwrap(), name), Ok("a \"cat\"\n".to_owned()));
     scene.undo().unwrap();

@@ -64,15 +64,42 @@ fn a_name_that_isnt_good_or_is_taken_is_refused() {
 }
 
 #[test]
-fn behind_the_setup_no_kind_is_declared() {
-    let mut scene = with_frames(1);
-    assert!(reason(scene.declare("Late", Shape::Tag)).starts_with("the setup has ended"));
+fn behind_the_setup_kinds_are_declared_too() {
+    let mut scene = with_frames(3);
+    let first = scene.roots().unwrap()[0];
+    scene.undo().unwrap();
+    let late = scene.declare("Late", Shape::Int).unwrap();
+    assert_eq!(fault(scene.declare("Late", Shape::Tag)), Fault::KindTaken);
+    assert_eq!((lengths(&scene), late.number()), ((2, 1, 1_048_576), 0));
     scene.line("begin").unwrap();
-    assert!(!reason(scene.declare("Late", Shape::Tag)).is_empty());
+    let later = scene.declare("Later", Shape::Text).unwrap();
+    assert_eq!(scene.line("insert 0v1 Later=word").unwrap(), "queued");
     assert_eq!(scene.line("commit").unwrap(), "done");
+    scene.insert(first, late, 7).unwrap();
     let mut loaded = Scene::load(&scene.save().unwrap()).unwrap();
-    assert!(!reason(loaded.declare("Late", Shape::Tag)).is_empty());
-    assert_eq!((scene.kinds().count(), loaded.kinds().count()), (0, 0));
+    let last = loaded.declare("Last", Shape::Tag).unwrap();
+    assert_eq!((last.number(), loaded.kinds().count()), (2, 3));
+    for scene in [&mut scene, &mut loaded] {
+        assert_eq!((scene.get(first, late), scene.get::<String>(first, later)), (Ok(7), Ok("word".to_owned())));
+        scene.undo_by(4).unwrap();
+        assert_eq!((scene.kind("Late"), scene.kind("Later")), (Some(late), Some(later)));
+        assert_eq!(scene.rows().unwrap().len(), 0);
+        scene.redo_by(3).unwrap();
+        assert_eq!(fault(scene.get::<i64>(first, late)), Fault::NotPresent);
+        scene.redo().unwrap();
+        assert_eq!(scene.get(first, late), Ok(7));
+    }
+}
+
+#[test]
+fn a_kind_takes_back_nothing_of_an_open_frame() {
+    let mut scene = with_frames(1);
+    scene.line("begin").unwrap();
+    scene.line("spawn").unwrap();
+    let late = scene.request(r#"{"do":"declare","name":"Late","shape":"Int"}"#).unwrap();
+    assert_eq!((late.as_str(), scene.line("spawn Late=5").unwrap().as_str()), ("ok", "queued"));
+    assert!(scene.drop_frame());
+    assert_eq!((scene.kind("Late").map(Kind::number), scene.rows().unwrap().len()), (Some(0), 1));
 }
 
 #[test]

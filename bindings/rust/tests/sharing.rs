@@ -156,7 +156,7 @@ fn sharing_ends_the_setup() {
     assert_eq!((reader.status().unwrap().kinds, reader.rows().unwrap().len()), (1, 0));
     drop(reader);
     let mut scene = shared.into_scene().unwrap();
-    let error = scene.declare("Late", Shape::Tag).unwrap_err();
+    let error = scene.line("kind Late Tag").unwrap_err();
     assert!(error.to_string().starts_with("the setup has ended"));
     scene.spawn(&[health.of(1)]).unwrap();
 }

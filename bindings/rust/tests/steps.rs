@@ -44,13 +44,16 @@ fn a_step_takes_all_its_frames_or_none() {
 }
 
 #[test]
-fn a_limit_of_calls_ends_a_step_in_its_midst() {
+fn a_step_that_would_pass_a_limit_of_calls_is_none() {
     let (mut scene, ..) = begun();
     scene.line("calls 5").unwrap();
     for _ in 0..3 {
         scene.spawn(&[]).unwrap();
     }
     assert_eq!(fault(scene.undo_by(3)), Fault::HistoryFull);
+    assert_eq!((lengths(&scene), scene.line("history").unwrap().as_str()), ((3, 0), "history 3"));
+    scene.undo_by(2).unwrap();
+    assert_eq!(fault(scene.redo_by(1)), Fault::HistoryFull);
     assert_eq!(lengths(&scene), (1, 2));
 }
 

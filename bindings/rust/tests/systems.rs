@@ -193,10 +193,16 @@ fn requests_do_what_their_lines_do() {
     assert_eq!(scene.request(r#"{"do":"undo"}"#), Ok("undone".to_owned()));
     let told = scene.line("undo").unwrap_err();
     assert_eq!(scene.request(r#"{"do":"undo"}"#), Err(told));
+    let future = r#"{"answer":"steps","length":1,"steps":[{"tick":0,"deltas":1}]}"#;
+    assert_eq!(scene.request(r#"{"do":"future","from":0,"count":9}"#).unwrap(), future);
+    let told = scene.request(r#"{"do":"parentof","entity":"9v9"}"#).unwrap();
+    assert_eq!(told, r#"{"answer":"refused","number":1,"name":"NoSuchEntity"}"#);
     scene.request(r#"{"do":"begin"}"#).unwrap();
     assert!(matches!(scene.spawn(&[]), Err(Error::Bad(_))));
     assert_eq!(scene.request(r#"{"do":"spawn","cells":{}}"#), Ok("queued".to_owned()));
-    assert!(scene.request(r#"{"do":"undo"}"#).unwrap_err().to_string().starts_with("a frame is open"));
+    for misplaced in [r#"{"do":"undo"}"#, r#"{"do":"undo","count":1}"#, r#"{"do":"status"}"#] {
+        assert!(scene.request(misplaced).unwrap_err().to_string().starts_with("a frame is open"));
+    }
     assert!(scene.drop_frame());
     scene.line("jump").unwrap_err();
     let answer = scene.play_request(br#"{"do":"spawn","cells":{"Helth":1}}"#).unwrap();

@@ -13,7 +13,7 @@ mod stored;
 
 use crate::ending::Ending;
 use crate::shell_store::stored_shell;
-use crate::store_looks::{backup_store, log_store, show_store};
+use crate::store_looks::{backup_store, dump_store, log_store, show_store};
 use crate::stored::compact_store;
 use scene_app::{AloneEnd, AppFault, BadLines, check_scene, print_scene, run_alone};
 use scene_command_line::{Asked, ShellWords, mistake_in, read_words};
@@ -157,6 +157,7 @@ fn end(rt: &HostRuntime, threads: &(impl Threads + Wait + Sync), words: &[String
         Ok(Asked::Check) => check(rt),
         Ok(Asked::Print) => print(rt),
         Ok(Asked::Show(path)) => show_store(rt, path.as_str()),
+        Ok(Asked::Dump(words)) => dump_store(rt, &words),
         Ok(Asked::Log(path)) => log_store(rt, path.as_str()),
         Ok(Asked::Compact(path)) => compact_store(rt, path.as_str()),
         Ok(Asked::Backup(words)) => backup_store(rt, &words),

@@ -4,9 +4,12 @@ use crate::store_looks::told_store;
 use crate::{performer_of, style_of};
 use scene_app::AppFault;
 use scene_command_line::ShellWords;
-use scene_shell::{KeptFault, OpeningLimits, StorePlace, StoreShellFault, run_store_shell};
+use scene_shell::{
+    DatedPlace, KeptFault, OpeningLimits, StorePlace, StoreShellFault, run_store_shell,
+};
 use scene_store::{FileLines, StoreFault, Unknown};
-use std::io::BufReader;
+use scene_streams::Keep;
+use std::io::{BufReader, Read};
 use std::sync::Wait;
 use std::thread::Threads;
 
@@ -55,6 +58,30 @@ fn shell_ending(
     }
 }
 
+/// Answers the lines of a reader one by one, and keeps those that change something in the store at a place, with the
+/// moment.
+// Of a place of any kind, so that what `run_store_shell` says needn't be worked out for one whose stores are deep.
+fn shell_on<S: StorePlace, R: Read>(
+    rt: &HostRuntime,
+    threads: &(impl Threads + Wait + Sync),
+    place: &S,
+    words: &ShellWords,
+    reader: &mut BufReader<R>,
+) -> Result<u64, StoreShellFault<<S::Store as Keep>::Fault>> {
+    let (ended, _stdout) = run_store_shell(
+        &performer_of(threads, words),
+        rt.alloc(),
+        style_of(words),
+        &DatedPlace::over(rt.alloc(), rt, place),
+        OpeningLimits::usual(),
+        rt,
+        reader,
+        rt.stdout(),
+        &mut rt.stderr(),
+    );
+    ended
+}
+
 /// Answers the lines on standard input one by one, and keeps those that change something in the store at a path, which
 /// is made where there is none.
 pub fn stored_shell(
@@ -66,16 +93,6 @@ pub fn stored_shell(
     let Ok(mut reader) = BufReader::new(rt.alloc(), rt.stdin()) else {
         return Ending::Fault(AppFault::NoMemory);
     };
-    let (ended, _stdout) = run_store_shell(
-        &performer_of(threads, words),
-        rt.alloc(),
-        style_of(words),
-        &StoreFile { rt, path },
-        OpeningLimits::usual(),
-        rt,
-        &mut reader,
-        rt.stdout(),
-        &mut rt.stderr(),
-    );
+    let ended = shell_on(rt, threads, &StoreFile { rt, path }, words, &mut reader);
     shell_ending(rt, path, ended)
 }

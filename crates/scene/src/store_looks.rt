@@ -2,10 +2,10 @@
 use crate::ending::Ending;
 use crate::printed;
 use scene_app::AppFault;
-use scene_command_line::BackupWords;
+use scene_command_line::{BackupWords, DumpWords};
 use scene_interpreter::InterpreterSettings;
 use scene_script::Limit;
-use scene_shell::{KeptLineFault, LogCounts, show_lines, write_log};
+use scene_shell::{KeptLineFault, LogCounts, dump_lines, show_lines, write_log};
 use scene_store::{
     BackupFault, StoreFault, StoreFileFault, StoredLines, Version, back_up, lines_at,
 };
@@ -52,6 +52,33 @@ pub fn show_store(rt: &HostRuntime, path: &str) -> Ending {
         &mut world,
     ) {
         Ok(()) => printed(rt, world.as_str()),
+        Err(fault) => told_lines(rt, &fault),
+    }
+}
+
+/// Prints a scene text, or the fault that stands in its place.
+fn printed_scene(rt: &HostRuntime, scene: &str) -> Ending {
+    match printed(rt, scene) {
+        Ending::Done => Ending::after_scene(scene.starts_with('{')),
+        ending => ending,
+    }
+}
+
+/// Prints the scene text of a store.
+pub fn dump_store(rt: &HostRuntime, words: &DumpWords) -> Ending {
+    let lines = match lines_of(rt, words.file.as_str()) {
+        Ok(lines) => lines,
+        Err(ending) => return ending,
+    };
+    let mut scene = String::new(rt.alloc());
+    match dump_lines(
+        rt.alloc(),
+        settings_of(lines.version),
+        lines.text.as_slice(),
+        words.is_whole,
+        &mut scene,
+    ) {
+        Ok(()) => printed_scene(rt, scene.as_str()),
         Err(fault) => told_lines(rt, &fault),
     }
 }

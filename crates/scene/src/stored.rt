@@ -14,13 +14,16 @@ enum Uncompacted {
     Lines(CompactFault),
 }
 
-/// How many lines a text has, whose last line ends as the others do.
+/// How many lines a text has that are no comments, and the head, which each store has. The last line ends as the others
+/// do.
 fn line_count(lines: &[u8]) -> usize {
-    let mut count = 0usize;
+    let mut count = 1usize;
+    let mut begins = true;
     for byte in lines {
-        if *byte == b'\n' {
+        if begins && *byte != b'#' {
             count = count.saturating_add(1);
         }
+        begins = *byte == b'\n';
     }
     count
 }
@@ -38,8 +41,7 @@ fn compact_over<S: Alter + Drop>(
     let (settings, again) = (settings_of(version), settings_of(Version::NEWEST));
     match compacted(alloc, settings, text.as_slice(), again, usize::MAX) {
         Ok(Some(fewer)) => match store.replace(fewer.as_slice()) {
-            // The head, which each store has, is a line too.
-            Ok(()) => Ok((before, line_count(fewer.as_slice()).saturating_add(1))),
+            Ok(()) => Ok((before, line_count(fewer.as_slice()))),
             Err(fault) => Err(Uncompacted::Store(fault)),
         },
         Ok(None) => Ok((before, before)),

@@ -11,7 +11,7 @@ use Rattle.scene_commands.specs.declared.target.Target.{Target}
 use Rattle.scene_commands.specs.declared.target.Target.TheVariants.{New, Id}
 use Rattle.scene_queue.specs.Queue.{spawns, usual_limit}
 use Rattle.scene_script.specs.declared.script_line.Line.{Line}
-use Rattle.scene_script.specs.declared.script_line.Line.TheVariants.{Do, Kind}
+use Rattle.scene_script.specs.declared.script_line.Line.TheVariants.{Do}
 use Rattle.scene_interpreter.specs.Answer.{said_of}
 use Rattle.scene_interpreter.specs.Changes.{frame_is_open}
 use Rattle.scene_interpreter.specs.Interpreter.{Interpreter, Setting, Playing, interpreter_of}
@@ -137,7 +137,7 @@ shape_by n = if nat_eq n 0 then Some shape.Tag
     else if nat_eq n 4 then Some shape.Link
     else None
 
--- the line that declares a kind, where a name and a shape are named
-abbrev pub kind_line : Option (List ℕ) → Option Shape → Option Line
-kind_line (Some name) (Some s) = Some (Kind name s)
-kind_line name s = None
+-- a kind by its name and its shape, where both are named
+abbrev pub kind_by : Option (List ℕ) → Option Shape → Option (List ℕ × Shape)
+kind_by (Some name) (Some s) = Some (name, s)
+kind_by name s = None

@@ -8,6 +8,8 @@ use Rattle.scene_kinds.specs.Cells.{cell_of}
 use Rattle.scene_deltas.specs.declared.delta.Delta.{Delta}
 use Rattle.scene_deltas.specs.declared.delta.Delta.TheVariants.{Spawned, Despawned, Shifted, CellSet, Linked, ResourceSet}
 use Rattle.scene_journal.specs.Records.{Record}
+use Rattle.scene_session.specs.declared.way.Way.{Way}
+use Rattle.scene_session.specs.declared.way.Way.TheVariants.{Back, On}
 use Rattle.scene_session.specs.Whole.{Whole}
 use Rattle.scene_c.specs.Arguments.{shown_cell, shown_entity}
 use Rattle.scene_c.specs.Joined.{IsUntold, TellsParts}
@@ -16,8 +18,6 @@ use Rattle.scene_c.specs.Reads.{Lists, TellsOf, whole_now}
 use Rattle.scene_c.specs.Shown.{no_entity, text_value}
 use Rattle.scene_c.specs.declared.delta.SceneDelta.{SceneDelta}
 use Rattle.scene_c.specs.declared.held_scene.HeldScene.{HeldScene}
-use Rattle.scene_c.specs.declared.times.Way.{Way}
-use Rattle.scene_c.specs.declared.times.Way.TheVariants.{Back, On}
 use Rattle.scene_c.specs.declared.value.SceneCell.{SceneCell}
 use Rattle.scene_c.specs.declared.value.SceneEntity.{SceneEntity}
 

@@ -13,10 +13,11 @@ use crate::played::{
     drop_frame_at, explain_at, give_at, json_at, line_at, say_at, spawn_at, tell_at,
 };
 use crate::requests::request_at;
-use crate::times::Way;
+use crate::times::turn_at;
 use crate::{BAD, CLOSED, SHARED};
 use scene_kinds::Value;
 use scene_script::Line;
+use scene_session::Way;
 use std::alloc::Global;
 use std::mem;
 
@@ -147,7 +148,7 @@ pub(crate) fn turn(alloc: Global, scene: &mut Handle, way: Way, count: usize) ->
     };
     let mut held = held;
     let code = match &mut *held {
-        HeldScene::Alone(open_scene) => open_scene.turn_by(way, count),
+        HeldScene::Alone(open_scene) => turn_at(open_scene, way, count),
         HeldScene::Shared(_) => SHARED,
     };
     *scene = Handle::of_box(held);

@@ -14,6 +14,7 @@ ghost use Rattle.std.specs.Ptr.{lies_at, room_at};
 ghost use base.Logic.{ex};
 ghost use Rattle.scene_commands.specs.declared.command.Command.TheVariants as command;
 ghost use Rattle.scene_script.specs.declared.script_line.Line.TheVariants as line;
+ghost use Rattle.scene_session.specs.declared.way.Way.TheVariants as way;
 ghost use Rattle.scene_interpreter.specs.Interpreter.{interpreter_reply};
 ghost use Rattle.scene_c.specs.Arguments.{component_of_cell, entity_of, insert_line, kind_of, shown_entity, shown_name, shown_refusal, target_of, text_component, text_of};
 ghost use Rattle.scene_c.specs.Calls.{Asks, AsksText, Does, DropsFrame, Explains, Gets, Gives, GivesText, Loads, Opens, Plays, Spawns, TellsJson, made_at, named_at, refusal_now, says, text_now};
@@ -23,7 +24,6 @@ ghost use Rattle.scene_c.specs.Requests.{Requests};
 ghost use Rattle.scene_c.specs.Times.{Turns};
 ghost use Rattle.scene_c.specs.contracts.handle.Handle.{the_row};
 ghost use Rattle.scene_c.specs.declared.handle.Handle.{Handle as Held};
-ghost use Rattle.scene_c.specs.declared.times.Way.TheVariants as way;
 
 mod columns;
 mod delta;
@@ -56,7 +56,7 @@ mod resource_calls;
 mod resources;
 mod roots;
 mod saved;
-mod setup_calls;
+mod setting_calls;
 mod sharing;
 mod shown;
 mod spawning;
@@ -81,11 +81,11 @@ use played::read_at;
 pub use reading::Reading;
 use scene_commands::Command;
 use scene_script::Line;
+use scene_session::Way;
 pub use shown::{SceneInfo, SceneMoment, SceneTable, SceneTicks, SceneVec3};
 use std::alloc::Global;
 use std::mem;
 use texts::{copy_text, text_len};
-use times::Way;
 pub use value::{SceneCell, SceneEntity, SceneName, SceneRefusal};
 use value::{
     component_of_cell, entity_of, kind_of, shown_entity, shown_name, shown_refusal, target_of,
@@ -156,8 +156,8 @@ pub extern "C" fn scene_line(alloc: Global, scene: &mut Handle, bytes: &[u8]) ->
 }
 
 /// Plays a request: a JSON object in place of a line, whose texts have any characters (docs/SHELL.md, "Requests"). Its
-/// answer is that of the line that it stands for, kept with its text. `BAD` for one that is bad: it changes nothing, and
-/// the text of the answer says why; and `NO_MEMORY`.
+/// answer is kept with its text: that of the line that it stands for, or a line of JSON that answers a question. `BAD` for
+/// one that is bad: it changes nothing, and the text of the answer says why; and `NO_MEMORY`.
 #[unsafe(no_mangle)]
 pub extern "C" fn scene_request(alloc: Global, scene: &mut Handle, bytes: &[u8]) -> u32
     ensures { Requests bytes.now scene.old.value scene.new.value result }
@@ -280,8 +280,8 @@ pub extern "C" fn scene_redo(alloc: Global, scene: &mut Handle) -> u32
     say(alloc, scene, Line::Redo)
 }
 
-/// Takes so many of the newest frames back, one after another, where so many can be undone, and else none: `REFUSED`.
-/// For want of memory, and where the calls have a limit, fewer may be done.
+/// Takes so many of the newest frames back, where so many can be undone, and else none: `REFUSED`, also where a limit of
+/// calls is reached before, or `NO_MEMORY`. `BAD` in an open frame.
 #[unsafe(no_mangle)]
 pub extern "C" fn scene_undo_by(alloc: Global, scene: &mut Handle, count: usize) -> u32
     ensures { Turns way.Back count scene.old.value scene.new.value result }
@@ -289,8 +289,8 @@ pub extern "C" fn scene_undo_by(alloc: Global, scene: &mut Handle, count: usize)
     turn(alloc, scene, Way::Back, count)
 }
 
-/// Does so many undone frames again, one after another, where so many can be redone, and else none: `REFUSED`. For want
-/// of memory, and where the calls have a limit, fewer may be done.
+/// Does so many undone frames again, where so many can be redone, and else none: `REFUSED`, also where a limit of calls
+/// is reached before, or `NO_MEMORY`. `BAD` in an open frame.
 #[unsafe(no_mangle)]
 pub extern "C" fn scene_redo_by(alloc: Global, scene: &mut Handle, count: usize) -> u32
     ensures { Turns way.On count scene.old.value scene.new.value result }

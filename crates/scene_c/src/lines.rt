@@ -18,7 +18,7 @@ use std::alloc::{AllocError, Global};
 
 impl OpenScene {
     /// Keeps an answer with its text; where no memory is found for that, without one.
-    fn keep(&mut self, alloc: Global, answer: LineAnswer) -> Result<(), Halt>
+    pub(crate) fn keep(&mut self, alloc: Global, answer: LineAnswer) -> Result<(), Halt>
         ensures answer { self.new.answer ≡ answer }
         ensures text { OnOk result (string_bytes self.new.text
             ≡ said_text (interpreter_kinds (interpreter_of self.old.interpreter)) (said_of answer)) }

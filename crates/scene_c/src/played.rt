@@ -44,7 +44,7 @@ pub(crate) fn halt_code(halt: Halt) -> u32
 }
 
 /// The code of a call that an open scene has answered, or that was halted.
-fn code_of(came: Result<(), Halt>, answer: &LineAnswer) -> u32
+pub(crate) fn code_of(came: Result<(), Halt>, answer: &LineAnswer) -> u32
     ensures { result ≡ code_of came (said_of answer.now) }
 {
     match came {

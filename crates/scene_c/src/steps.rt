@@ -10,10 +10,10 @@ ghost use Rattle.scene_c.specs.Steps.{TellsStep, records_on, shown_delta, way_by
 use crate::delta::{SceneDelta, shown_delta};
 use crate::delta_parts::{DeltaPart, fill_parts};
 use crate::open_scene::OpenScene;
-use crate::times::Way;
 use crate::{BAD, DONE, REFUSED};
 use scene_deltas::Forward;
 use scene_journal::FrameRecord;
+use scene_session::Way;
 use scene_undo::Editor;
 
 /// A way by its number (`scene_way`).

@@ -21,11 +21,11 @@ by_file_command P word show log compact one = elim (or_cases (bytes_eq word (cod
   ]
 ]
 
--- what holds of the eight commands holds of each word that is one of them
+-- what holds of the nine commands holds of each word that is one of them
 pub by_command : (P : Text → Type 0) (word : Text) → P (codes "run") → P (codes "shell") → P (codes "check")
-    → P (codes "print") → P (codes "backup")
+    → P (codes "print") → P (codes "backup") → P (codes "dump")
     → P (codes "show") → P (codes "log") → P (codes "compact") → is_command word ≡ true → P word
-by_command P word run shell check print backup show log compact one = elim (or_cases (bytes_eq word (codes "run")) _ one) [
+by_command P word run shell check print backup dump show log compact one = elim (or_cases (bytes_eq word (codes "run")) _ one) [
   | inl same ↦ named P word (codes "run") run same
   | inr other ↦ elim (or_cases (bytes_eq word (codes "shell")) _ other) [
     | inl same ↦ named P word (codes "shell") shell same
@@ -35,7 +35,10 @@ by_command P word run shell check print backup show log compact one = elim (or_c
         | inl same ↦ named P word (codes "print") print same
         | inr other ↦ elim (or_cases (bytes_eq word (codes "backup")) _ other) [
           | inl same ↦ named P word (codes "backup") backup same
-          | inr other ↦ by_file_command P word show log compact other
+          | inr other ↦ elim (or_cases (bytes_eq word (codes "dump")) _ other) [
+            | inl same ↦ named P word (codes "dump") dump same
+            | inr other ↦ by_file_command P word show log compact other
+          ]
         ]
       ]
     ]
@@ -49,6 +52,7 @@ pub record IsNone (word : Text) : Type 0 where
   pub check : bytes_eq word (codes "check") ≡ false
   pub print : bytes_eq word (codes "print") ≡ false
   pub backup : bytes_eq word (codes "backup") ≡ false
+  pub dump : bytes_eq word (codes "dump") ≡ false
   pub show : bytes_eq word (codes "show") ≡ false
   pub log : bytes_eq word (codes "log") ≡ false
   pub compact : bytes_eq word (codes "compact") ≡ false
@@ -60,15 +64,17 @@ is_none word none =
     let third = or_parts (bytes_eq word (codes "check")) _ second.1 in
     let fourth = or_parts (bytes_eq word (codes "print")) _ third.1 in
     let fifth = or_parts (bytes_eq word (codes "backup")) _ fourth.1 in
-    let sixth = or_parts (bytes_eq word (codes "show")) _ fifth.1 in
-    let last = or_parts (bytes_eq word (codes "log")) _ sixth.1 in
+    let sixth = or_parts (bytes_eq word (codes "dump")) _ fifth.1 in
+    let seventh = or_parts (bytes_eq word (codes "show")) _ sixth.1 in
+    let last = or_parts (bytes_eq word (codes "log")) _ seventh.1 in
     record {
       run = first.0;
       shell = second.0;
       check = third.0;
       print = fourth.0;
       backup = fifth.0;
-      show = sixth.0;
+      dump = sixth.0;
+      show = seventh.0;
       log = last.0;
       compact = last.1;
     }

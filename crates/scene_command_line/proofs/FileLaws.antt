@@ -1,5 +1,5 @@
 -- What `clap` makes of a command line with a command that takes the name of a file.
-use Rattle.std.proofs.Common.{◌≡◌, ◌∙◌, ℕ, true, false, Some, List, refl, sym, ap, codes, [], ◌∷◌}
+use Rattle.std.proofs.Common.{◌≡◌, ◌∙◌, ℕ, true, false, Option, Some, List, refl, sym, ap, codes, [], ◌∷◌}
 use Rattle.std.specs.Option.{option_map_or}
 use Rattle.std.proofs.lemmas.Bool.{and_parts, false≢true, not-true}
 use Rattle.clap.specs.Words.{Row, Rule, Shape, Text, first_of}
@@ -10,7 +10,7 @@ use Rattle.clap.specs.declared.error.kind.ErrorKind.TheVariants.{MissingRequired
 use Rattle.clap.proofs.OnLiterals.{clap_on_literals}
 use Rattle.scene_command_line.specs.Asks.{Asks, Nothing}
 use Rattle.scene_command_line.specs.Words.{AsksFor, command_named, file_command_named, file_shape}
-use Rattle.scene_command_line.specs.Plain.{asks_for_file, is_file_command, is_option, plainly_asked}
+use Rattle.scene_command_line.specs.Plain.{asks_for_file, file_named, is_file_command, is_option, plainly_asked}
 use Rattle.scene_command_line.proofs.CommandLaws.{by_file_command}
 use Rattle.scene_command_line.proofs.EnterLaws.{Enters, by_name, leaf_fault, leaf_rows, level_second, no_dashes, no_long, no_short, refused_once, start, taken}
 
@@ -53,9 +53,9 @@ module _ (command : Text) where
     unfolding clap_on_literals
     one_file = rw (no_dashes word plain, no_long word plain, no_short word plain) refl
 
-    file_named : first_of (codes "file") (leaf_rows (file_shape command) (word ∷ [])) ≡ Some word
+    file_read : first_of (codes "file") (leaf_rows (file_shape command) (word ∷ [])) ≡ Some word
     unfolding clap_on_literals
-    file_named = rw (no_dashes word plain, no_long word plain, no_short word plain) refl
+    file_read = rw (no_dashes word plain, no_long word plain, no_short word plain) refl
 
     -- a second one is too many
     two_words : (next : Text) (rest : List Text) → is_option next ≡ false
@@ -70,13 +70,14 @@ record TakesFile (command : Text) : Type 0 where
   enters : Enters command (file_shape command)
   reads : (rows : List Row) → command_named command rows ≡ file_command_named command (first_of (codes "file") rows)
   bare : command_named command [] ≡ Nothing
+  plainly : (file : Option Text) → file_named command file ≡ file_command_named command file
 
 takes_file : (command : Text) → is_file_command command ≡ true → TakesFile command
 unfolding clap_on_literals
 takes_file command one = by_file_command TakesFile command
-    (record { enters = by_name _ _ refl refl refl refl; reads = λ rows. refl; bare = refl })
-    (record { enters = by_name _ _ refl refl refl refl; reads = λ rows. refl; bare = refl })
-    (record { enters = by_name _ _ refl refl refl refl; reads = λ rows. refl; bare = refl }) one
+    (record { enters = by_name _ _ refl refl refl refl; reads = λ rows. refl; bare = refl; plainly = λ file. refl })
+    (record { enters = by_name _ _ refl refl refl refl; reads = λ rows. refl; bare = refl; plainly = λ file. refl })
+    (record { enters = by_name _ _ refl refl refl refl; reads = λ rows. refl; bare = refl; plainly = λ file. refl }) one
 
 module _ (command name : Text) (one : is_file_command command ≡ true) (asks : Asks) where
   -- without a file such a command is bad
@@ -91,7 +92,8 @@ module _ (command name : Text) (one : is_file_command command ≡ true) (asks : 
   named_answer word plain means =
       let takes = takes_file command one in
       taken _ _ _ asks (takes.enters.fails name (word ∷ []) ∙ one_file command word plain)
-      (takes.enters.has name (word ∷ []) ∙ (takes.reads (leaf_rows (file_shape command) (word ∷ [])) ∙ ap (file_command_named command) (file_named command word plain))) means
+      (takes.enters.has name (word ∷ []) ∙ (takes.reads (leaf_rows (file_shape command) (word ∷ [])) ∙ (ap (file_command_named command) (file_read command word plain)
+      ∙ sym (takes.plainly (Some word))))) means
 
   -- and with a word more it is bad
   pub further_answer : (word next : Text) (rest : List Text) → is_option word ≡ false → is_option next ≡ false

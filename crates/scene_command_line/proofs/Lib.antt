@@ -2,6 +2,7 @@ pub mod Answered
 pub mod ArgLaws
 pub mod BackupLaws
 pub mod CommandLaws
+pub mod DumpLaws
 pub mod EnterLaws
 pub mod FileLaws
 pub mod FlagLaws

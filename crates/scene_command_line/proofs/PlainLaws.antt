@@ -15,6 +15,7 @@ use Rattle.scene_command_line.specs.Words.{Answers, AsksFor, command_named, scen
 use Rattle.scene_command_line.specs.Plain.{are_plain, is_command, is_file_command, is_option, is_plain, plainly_asked}
 use Rattle.scene_command_line.proofs.BackupLaws.{backup_bare, backup_further, backup_half, backup_named_answer}
 use Rattle.scene_command_line.proofs.CommandLaws.{IsNone, by_command, by_file_command, is_none}
+use Rattle.scene_command_line.proofs.DumpLaws.{dump_bare, dump_further, dump_named}
 use Rattle.scene_command_line.proofs.EnterLaws.{Enters, by_name, enters_run, enters_shell, leaf_fault, leaf_rows, level_first, line, no_dashes, no_long, no_short, refused_once, start, taken}
 use Rattle.scene_command_line.proofs.FileLaws.{bare_answer, further_answer, named_answer}
 
@@ -69,11 +70,11 @@ rest_is_plain word rest plain = (and_parts (is_plain word) _ plain).1
 
 -- with a word more, a word that isn't a command with a file is bad
 bad_plainly : (name command word : Text) (rest : List Text) → bytes_eq command (codes "backup") ≡ false
-    → bytes_eq command (codes "show") ≡ false → bytes_eq command (codes "log") ≡ false
+    → bytes_eq command (codes "dump") ≡ false → bytes_eq command (codes "show") ≡ false → bytes_eq command (codes "log") ≡ false
     → bytes_eq command (codes "compact") ≡ false → plainly_asked (name ∷ command ∷ word ∷ rest) ≡ Nothing
-bad_plainly name command word [] backup show log compact = rw (show, log, compact) refl
-bad_plainly name command word (next ∷ []) backup show log compact = rw backup refl
-bad_plainly name command word (next ∷ last ∷ rest) backup show log compact = refl
+bad_plainly name command word [] backup dump show log compact = rw (dump, show, log, compact) refl
+bad_plainly name command word (next ∷ []) backup dump show log compact = rw backup refl
+bad_plainly name command word (next ∷ last ∷ rest) backup dump show log compact = refl
 
 -- with two words more, a command with one file is
 bad_further : (name command word next : Text) (rest : List Text) → is_file_command command ≡ true
@@ -81,6 +82,11 @@ bad_further : (name command word next : Text) (rest : List Text) → is_file_com
 bad_further name command word next [] one =
     by_file_command (λ c. plainly_asked (name ∷ c ∷ word ∷ next ∷ []) ≡ Nothing) command refl refl refl one
 bad_further name command word next (last ∷ rest) one = refl
+
+-- so is `dump`
+dump_plainly : (name file next : Text) (rest : List Text) → plainly_asked (name ∷ codes "dump" ∷ file ∷ next ∷ rest) ≡ Nothing
+dump_plainly name file next [] = refl
+dump_plainly name file next (last ∷ rest) = refl
 
 abbrev Fits : Text → List Text → Asks → Text → Type 0
 Fits name rest asks command = AsksFor asks (name ∷ command ∷ rest) → asks ≡ plainly_asked (name ∷ command ∷ rest)
@@ -90,34 +96,35 @@ module _ (name : Text) (asks : Asks) where
   after_bare : (command : Text) (s : Shape) → Enters command s → leaf_fault s [] ≡ []
       → command_named command (leaf_rows s []) ≡ command_named command []
       → arg_by_index (built_leaf s).rules 1 ≡ None → stray_fault (built_leaf s) ≡ UnknownArgument ∷ []
-      → bytes_eq command (codes "backup") ≡ false → bytes_eq command (codes "show") ≡ false
-      → bytes_eq command (codes "log") ≡ false → bytes_eq command (codes "compact") ≡ false
+      → bytes_eq command (codes "backup") ≡ false → bytes_eq command (codes "dump") ≡ false
+      → bytes_eq command (codes "show") ≡ false → bytes_eq command (codes "log") ≡ false
+      → bytes_eq command (codes "compact") ≡ false
       → (rest : List Text) → list_all is_plain rest ≡ true → Fits name rest asks command
-  after_bare command s enters fits alone full stray backup show log compact [] plain means =
+  after_bare command s enters fits alone full stray backup dump show log compact [] plain means =
       taken _ _ _ asks (enters.fails name [] ∙ fits) (enters.has name [] ∙ alone) means
-  after_bare command s enters fits alone full stray backup show log compact (word ∷ rest) plain means =
+  after_bare command s enters fits alone full stray backup dump show log compact (word ∷ rest) plain means =
       refused_once _ _ asks UnknownArgument refl
       (enters.fails name (word ∷ rest)
       ∙ leaf_refuses s word rest (is_no_option word (first_is_plain word rest plain)) full stray) means
-      ∙ sym (bad_plainly name command word rest backup show log compact)
+      ∙ sym (bad_plainly name command word rest backup dump show log compact)
 
   after_run : (rest : List Text) → list_all is_plain rest ≡ true → Fits name rest asks (codes "run")
   unfolding clap_on_literals
-  after_run = after_bare _ _ enters_run refl refl refl refl refl refl refl refl
+  after_run = after_bare _ _ enters_run refl refl refl refl refl refl refl refl refl
 
   after_shell : (rest : List Text) → list_all is_plain rest ≡ true → Fits name rest asks (codes "shell")
   unfolding clap_on_literals
-  after_shell = after_bare _ _ enters_shell refl refl refl refl refl refl refl refl
+  after_shell = after_bare _ _ enters_shell refl refl refl refl refl refl refl refl refl
 
   after_check : (rest : List Text) → list_all is_plain rest ≡ true → Fits name rest asks (codes "check")
   unfolding clap_on_literals
   after_check =
-      after_bare _ (new_shape (codes "check")) (by_name _ _ refl refl refl refl) refl refl refl refl refl refl refl refl
+      after_bare _ (new_shape (codes "check")) (by_name _ _ refl refl refl refl) refl refl refl refl refl refl refl refl refl
 
   after_print : (rest : List Text) → list_all is_plain rest ≡ true → Fits name rest asks (codes "print")
   unfolding clap_on_literals
   after_print =
-      after_bare _ (new_shape (codes "print")) (by_name _ _ refl refl refl refl) refl refl refl refl refl refl refl refl
+      after_bare _ (new_shape (codes "print")) (by_name _ _ refl refl refl refl) refl refl refl refl refl refl refl refl refl
 
   after_file : (command : Text) → is_file_command command ≡ true → (rest : List Text) → list_all is_plain rest ≡ true
       → Fits name rest asks command
@@ -128,6 +135,15 @@ module _ (name : Text) (asks : Asks) where
       further_answer command name one asks word next rest (is_no_option word (first_is_plain word (next ∷ rest) plain))
       (is_no_option next (first_is_plain next rest (rest_is_plain word (next ∷ rest) plain))) means
       ∙ sym (bad_further name command word next rest one)
+
+  after_dump : (rest : List Text) → list_all is_plain rest ≡ true → Fits name rest asks (codes "dump")
+  after_dump [] plain means = dump_bare name asks means
+  after_dump (file ∷ []) plain means =
+      dump_named name asks false file (is_no_option file (first_is_plain file [] plain)) means
+  after_dump (file ∷ next ∷ rest) plain means =
+      dump_further name asks file next rest (is_no_option file (first_is_plain file (next ∷ rest) plain))
+      (is_no_option next (first_is_plain next rest (rest_is_plain file (next ∷ rest) plain))) means
+      ∙ sym (dump_plainly name file next rest)
 
   after_backup : (rest : List Text) → list_all is_plain rest ≡ true → Fits name rest asks (codes "backup")
   after_backup [] plain means = backup_bare name asks means
@@ -157,12 +173,13 @@ module _ (name word : Text) (none : IsNone word) where
     flipped word _ none.log,
     flipped word _ none.compact,
     flipped word _ none.backup,
+    flipped word _ none.dump,
     flipped word _ help,
   ) refl
 
   none_plainly : (rest : List Text) → plainly_asked (name ∷ word ∷ rest) ≡ Nothing
-  none_plainly [] = rw (none.run, none.shell, none.check, none.print, none.backup, none.show, none.log, none.compact) refl
-  none_plainly (next ∷ rest) = bad_plainly name word next rest none.backup none.show none.log none.compact
+  none_plainly [] = rw (none.run, none.shell, none.check, none.print, none.backup, none.dump, none.show, none.log, none.compact) refl
+  none_plainly (next ∷ rest) = bad_plainly name word next rest none.backup none.dump none.show none.log none.compact
 
   after_none : (rest : List Text) (asks : Asks) → is_plain word ≡ true → Fits name rest asks word
   after_none rest asks plain means =
@@ -181,7 +198,7 @@ plain_answer (name ∷ word ∷ rest) asks plain means =
       | inl one ↦ by_command (Fits name rest asks) word (after_run name asks rest parts.1)
           (after_shell name asks rest parts.1)
           (after_check name asks rest parts.1) (after_print name asks rest parts.1)
-          (after_backup name asks rest parts.1)
+          (after_backup name asks rest parts.1) (after_dump name asks rest parts.1)
           (after_file name asks (codes "show") refl rest parts.1)
           (after_file name asks (codes "log") refl rest parts.1)
           (after_file name asks (codes "compact") refl rest parts.1) one means

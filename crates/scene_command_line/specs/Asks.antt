@@ -20,6 +20,8 @@ pub data Asks : Type 0 where
   ToCheck : Asks
   ToPrint : Asks
   ToShow : Text → Asks
+  -- with the past and the future or without, of the store in a file
+  ToDump : Bool → Text → Asks
   ToLog : Text → Asks
   ToCompact : Text → Asks
   -- of a store in a file, the copy in another
@@ -46,6 +48,7 @@ asks_of (variant.Shell words) = ToShell (shell_asks_of words)
 asks_of variant.Check = ToCheck
 asks_of variant.Print = ToPrint
 asks_of (variant.Show file) = ToShow (string_bytes file)
+asks_of (variant.Dump words) = ToDump words.is_whole (string_bytes words.file)
 asks_of (variant.Log file) = ToLog (string_bytes file)
 asks_of (variant.Compact file) = ToCompact (string_bytes file)
 asks_of (variant.Backup words) = ToBackUp (string_bytes words.file) (string_bytes words.copy)

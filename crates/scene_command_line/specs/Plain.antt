@@ -5,8 +5,8 @@ use Rattle.std.specs.List.{list_all}
 use Rattle.std.specs.Option.{option_map_or}
 use Rattle.std.specs.Str.{bytes_eq}
 use Rattle.clap.specs.Words.{Text}
-use Rattle.scene_command_line.specs.Asks.{Asks, Nothing}
-use Rattle.scene_command_line.specs.Words.{backup_asked, command_named, file_command_named, run_asked, shell_asked}
+use Rattle.scene_command_line.specs.Asks.{Asks, Nothing, ToDump}
+use Rattle.scene_command_line.specs.Words.{backup_asked, command_named, file_asked, file_command_named, run_asked, shell_asked}
 
 -- the word begins with a hyphen (45), as options do
 abbrev pub is_option : Text → Bool
@@ -21,6 +21,11 @@ is_plain word = not (is_option word) && not (bytes_eq word (codes "help"))
 abbrev pub are_plain : List Text → Bool
 are_plain words = list_all is_plain (drop 1 words)
 
+-- a command with what is given for its file; another name is none's that takes one
+abbrev pub file_named : Text → Option Text → Asks
+file_named name file =
+    if bytes_eq name (codes "dump") then file_asked (ToDump false) file else file_command_named name file
+
 -- a backup, with what is given for its two files; another name is none's that takes two
 abbrev pub backup_named : Text → Option Text → Option Text → Asks
 backup_named name file copy = if bytes_eq name (codes "backup") then backup_asked file copy else Nothing
@@ -28,11 +33,11 @@ backup_named name file copy = if bytes_eq name (codes "backup") then backup_aske
 -- what such words ask for: one command has to be named, with as many files as it takes, and nothing more
 abbrev pub plainly_asked : List Text → Asks
 plainly_asked (name ∷ command ∷ []) = command_named command []
-plainly_asked (name ∷ command ∷ file ∷ []) = file_command_named command (Some file)
+plainly_asked (name ∷ command ∷ file ∷ []) = file_named command (Some file)
 plainly_asked (name ∷ command ∷ file ∷ copy ∷ []) = backup_named command (Some file) (Some copy)
 plainly_asked words = Nothing
 
--- the word is the name of a command that takes a file
+-- the word is the name of a command that takes a file, and no option
 abbrev pub is_file_command : Text → Bool
 is_file_command word =
     bytes_eq word (codes "show") || (bytes_eq word (codes "log") || bytes_eq word (codes "compact"))
@@ -42,9 +47,9 @@ abbrev pub is_command : Text → Bool
 is_command word =
     bytes_eq word (codes "run") || (bytes_eq word (codes "shell")
     || (bytes_eq word (codes "check") || (bytes_eq word (codes "print")
-    || (bytes_eq word (codes "backup") || is_file_command word))))
+    || (bytes_eq word (codes "backup") || (bytes_eq word (codes "dump") || is_file_command word)))))
 
--- a file is named behind a command that takes one, and nothing more; any word but an option is its name, also `help`
+-- a file is named behind a command that takes one and no option, and nothing more; any word but an option is its name, also `help`
 abbrev pub asks_for_file : List Text → Bool
 asks_for_file (name ∷ command ∷ word ∷ []) = is_file_command command && not (is_option word)
 asks_for_file words = false
@@ -95,6 +100,15 @@ shell_line name workers depth is_framed is_json store =
     name ∷ codes "shell" ∷ option_words (codes "--workers") workers ++ (option_words (codes "--depth") depth
     ++ (flag_words (codes "--framed") is_framed ++ (flag_words (codes "--json") is_json
     ++ option_words (codes "--store") store)))
+
+-- the command line of a scene text of the store in a file, with the past and the future or without
+abbrev pub dump_line : Text → Bool → Text → List Text
+dump_line name is_whole file = name ∷ codes "dump" ∷ flag_words (codes "--all") is_whole ++ file ∷ []
+
+-- such a command line asks for just that text, whatever the file's name is, but an option
+abbrev pub AsksForDump : Asks → List Text → Type 0
+AsksForDump asks words = (name : Text) (is_whole : Bool) (file : Text) → is_option file ≡ false
+    → words ≡ dump_line name is_whole file → asks ≡ file_asked (ToDump is_whole) (Some file)
 
 -- such a command line asks for a shell with just these options
 abbrev pub AsksForShell : Asks → List Text → Type 0

@@ -10,7 +10,7 @@ use Rattle.clap.specs.Simple.{new_shape, on_top}
 use Rattle.clap.specs.declared.builder.action.ArgAction.TheVariants.{Set, SetTrue}
 use Rattle.clap.specs.declared.error.kind.ErrorKind.{ErrorKind}
 use Rattle.clap.specs.declared.error.kind.ErrorKind.TheVariants.{DisplayHelp}
-use Rattle.scene_command_line.specs.Asks.{Asks, ToRun, ToShell, ToCheck, ToPrint, ToShow, ToLog, ToCompact, ToBackUp, ToHelp, Nothing}
+use Rattle.scene_command_line.specs.Asks.{Asks, ToRun, ToShell, ToCheck, ToPrint, ToShow, ToDump, ToLog, ToCompact, ToBackUp, ToHelp, Nothing}
 
 -- an option of this name, which takes one word
 abbrev pub option_rule : Text → Rule
@@ -51,6 +51,10 @@ shell_shape = record (new_shape (codes "shell")) {
 abbrev pub file_shape : Text → Shape
 file_shape name = record (new_shape name) { rules = file_rule ∷ [] }
 
+-- the command `dump`, with the name of a file and its option
+abbrev pub dump_shape : Shape
+dump_shape = record (new_shape (codes "dump")) { rules = file_rule ∷ flag_rule (codes "all") ∷ [] }
+
 -- the command `backup`, with the names of the two files
 abbrev pub backup_shape : Shape
 backup_shape = record (new_shape (codes "backup")) { rules = file_rule ∷ copy_rule ∷ [] }
@@ -72,15 +76,17 @@ line_without_file =
     (new_shape (codes "check")))
     (new_shape (codes "print"))
 
--- the program with all its commands: `show`, `log` and `compact` may be named too, each with a file, and `backup` with
--- two
+-- the program with all its commands: `show`, `dump`, `log` and `compact` may be named too, each with a file, and `backup`
+-- with two
 abbrev pub scene_line : App
 scene_line =
     with_subcommand
     (with_subcommand
     (with_subcommand
+    (with_subcommand
     (with_subcommand line_without_file
     (file_shape (codes "show")))
+    dump_shape)
     (file_shape (codes "log")))
     (file_shape (codes "compact")))
     backup_shape
@@ -185,7 +191,9 @@ command_named name options =
     else (if bytes_eq name (codes "print") then ToPrint
     else (if bytes_eq name (codes "backup")
     then backup_asked (first_of (codes "file") options) (first_of (codes "copy") options)
-    else file_command_named name (first_of (codes "file") options)))))
+    else (if bytes_eq name (codes "dump")
+    then file_asked (ToDump (has_flag (codes "all") options)) (first_of (codes "file") options)
+    else file_command_named name (first_of (codes "file") options))))))
 
 -- the command that was met, with its matches
 abbrev pub command_of : Option (Text × List Row) → Asks

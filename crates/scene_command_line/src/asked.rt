@@ -1,6 +1,6 @@
 //! What a command line asks for.
 ghost use Rattle.std.specs.Prelude.{◌≡◌, IfOk, option_map, string_bytes};
-ghost use Rattle.scene_command_line.specs.Asks.{ToCompact, ToLog, ToShow, asks_of};
+ghost use Rattle.scene_command_line.specs.Asks.{ToCompact, ToDump, ToLog, ToShow, asks_of};
 ghost use Rattle.scene_command_line.specs.Words.{backup_asked, depth_given, file_asked, file_given, file_in, number_to, run_asked, shell_asked, shell_by, workers_given};
 
 use std::alloc::{AllocError, Global};
@@ -24,6 +24,8 @@ pub enum Asked {
     Print,
     /// `scene show FILE`: to show the world of the store in this file.
     Show(String),
+    /// `scene dump FILE`: to print the scene text of the store in a file.
+    Dump(DumpWords),
     /// `scene log FILE`: to tell what the lines of the store in this file have done.
     Log(String),
     /// `scene compact FILE`: to make the store in this file shorter.
@@ -50,6 +52,15 @@ pub struct ShellWords {
     pub is_json: bool,
     /// `--store FILE`: the file that keeps the lines, whose name isn't empty. Without the option no file does.
     pub store: Option<String>,
+}
+
+/// How a scene text is asked for.
+#[derive(Debug, Drop)]
+pub struct DumpWords {
+    /// The file of the store, whose name isn't empty.
+    pub file: String,
+    /// `--all`: whether the text has the past and the future too.
+    pub is_whole: bool,
 }
 
 /// How a backup is asked for.
@@ -189,6 +200,20 @@ pub(crate) fn show_asked(alloc: Global, file: Option<&str>) -> Result<Asked, All
 {
     match file_given(alloc, file)? {
         Some(file) => Ok(Asked::Show(file)),
+        None => Ok(Asked::Bad),
+    }
+}
+
+/// The scene text of a store in the file that a word names, if one does. It is refused only for want of memory.
+pub(crate) fn dump_asked(
+    alloc: Global,
+    is_whole: bool,
+    file: Option<&str>,
+) -> Result<Asked, AllocError>
+    ensures { IfOk result (λ asked. asks_of asked ≡ file_asked (ToDump is_whole) (option_map (λ w. w.now) file.entry)) }
+{
+    match file_given(alloc, file)? {
+        Some(file) => Ok(Asked::Dump(DumpWords { file, is_whole })),
         None => Ok(Asked::Bad),
     }
 }

@@ -11,6 +11,6 @@ mod mistake;
 mod reading;
 mod texts;
 
-pub use asked::{Asked, BackupWords, ShellWords};
+pub use asked::{Asked, BackupWords, DumpWords, ShellWords};
 pub use mistake::{BadWords, Mistake, mistake_in};
 pub use reading::read_words;

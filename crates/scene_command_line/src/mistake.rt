@@ -17,6 +17,9 @@ pub enum Mistake {
     TakesShellOptions,
     /// The word is `show`, `log` or `compact`, and what follows it is neither the name of one file nor asks for help.
     TakesFile,
+    /// The word is `dump`, and what follows it is neither the name of one file, with `--all` or without, nor asks for
+    /// help.
+    TakesFileAndAll,
     /// The word is `backup`, and what follows it is neither the names of two files nor asks for help.
     TakesTwoFiles,
     /// The word is another command's name, and something follows it.
@@ -43,6 +46,7 @@ fn mistake_of(word: &str) -> Mistake
         "run" => Mistake::TakesWorkers,
         "shell" => Mistake::TakesShellOptions,
         "show" | "log" | "compact" => Mistake::TakesFile,
+        "dump" => Mistake::TakesFileAndAll,
         "backup" => Mistake::TakesTwoFiles,
         "check" | "print" => Mistake::TakesNoWord,
         "help" => Mistake::HelpOfNoCommand,
@@ -95,6 +99,12 @@ impl<'a> fmt::Display for BadWords<'a> {
                     "{word} takes the name of a store's file, and no other word but --help"
                 );
             }
+            Mistake::TakesFileAndAll => {
+                return write!(
+                    f,
+                    "{word} takes the name of a store's file, and no other word but --all and --help"
+                );
+            }
             Mistake::TakesTwoFiles => {
                 return write!(
                     f,
@@ -111,7 +121,7 @@ impl<'a> fmt::Display for BadWords<'a> {
         }
         write!(
             f,
-            "; there are run, shell, check, print, show, log, compact and backup"
+            "; there are run, shell, check, print, show, dump, log, compact and backup"
         )
     }
 }

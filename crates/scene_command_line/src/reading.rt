@@ -5,11 +5,11 @@ ghost use Rattle.clap.specs.declared.builder.command.Command.TheViews.{out-Comma
 ghost use Rattle.clap.specs.Simple.{new_shape};
 ghost use Rattle.clap.specs.declared.error.kind.ErrorKind.TheVariants.{OutOfMemory};
 ghost use Rattle.scene_command_line.specs.Asks.{ToHelp, asks_of};
-ghost use Rattle.scene_command_line.specs.Plain.{AsksForShell, are_plain, asks_for_backup, asks_for_file, asks_for_help, asks_for_workers, plainly_asked, workers_asked};
-ghost use Rattle.scene_command_line.specs.Words.{AsksFor, argument_rule, backup_shape, bare_line, by_kind, command_named, command_of, file_rule, file_shape, flag_rule, has_flag, line_without_file, option_rule, run_shape, scene_line, shell_shape, workers_rule};
+ghost use Rattle.scene_command_line.specs.Plain.{AsksForDump, AsksForShell, are_plain, asks_for_backup, asks_for_file, asks_for_help, asks_for_workers, plainly_asked, workers_asked};
+ghost use Rattle.scene_command_line.specs.Words.{AsksFor, argument_rule, backup_shape, bare_line, by_kind, command_named, command_of, dump_shape, file_rule, file_shape, flag_rule, has_flag, line_without_file, option_rule, run_shape, scene_line, shell_shape, workers_rule};
 
 use crate::asked::{
-    Asked, backup_asked, compact_asked, log_asked, run_asked, shell_asked, show_asked,
+    Asked, backup_asked, compact_asked, dump_asked, log_asked, run_asked, shell_asked, show_asked,
 };
 use crate::texts;
 use clap::error::ErrorKind;
@@ -109,6 +109,16 @@ fn file_command<'a>(
     command(alloc, name, about, more).arg(file_argument(alloc))
 }
 
+/// The command `dump` with the name of a store's file and its option.
+fn dump_command<'a>(alloc: Global) -> Result<Command<'a>, AllocError>
+    ensures shape { IfOk result (λ c. shape_of c ≡ dump_shape) }
+    ensures local { IfOk result (λ c. (fields_of c).has_globals ≡ false) }
+{
+    command(alloc, "dump", texts::DUMP, texts::DUMP_MORE)
+        .arg(file_argument(alloc))?
+        .arg(flag(alloc, "all", texts::ALL))
+}
+
 /// The command `backup` with the names of the two files.
 fn backup_command<'a>(alloc: Global) -> Result<Command<'a>, AllocError>
     ensures shape { IfOk result (λ c. shape_of c ≡ backup_shape) }
@@ -149,6 +159,14 @@ fn with_file_command<'a>(
     line.subcommand(command)
 }
 
+/// The line with the command `dump` behind its others.
+fn with_dump_command<'a>(alloc: Global, line: Command<'a>) -> Result<Command<'a>, AllocError>
+    ensures { IfOk result (λ c. app_of c ≡ with_subcommand (app_of line.entry) dump_shape) }
+{
+    let dump = dump_command(alloc)?;
+    line.subcommand(dump)
+}
+
 /// The line with the command `backup` behind its others.
 fn with_backup_command<'a>(alloc: Global, line: Command<'a>) -> Result<Command<'a>, AllocError>
     ensures { IfOk result (λ c. app_of c ≡ with_subcommand (app_of line.entry) backup_shape) }
@@ -186,6 +204,7 @@ fn commands<'a>(alloc: Global) -> Result<Command<'a>, AllocError>
 {
     let line = commands_without_file(alloc)?;
     let line = with_file_command(alloc, line, "show", texts::SHOW, texts::SHOW_MORE)?;
+    let line = with_dump_command(alloc, line)?;
     let line = with_file_command(alloc, line, "log", texts::LOG, texts::LOG_MORE)?;
     let line = with_file_command(alloc, line, "compact", texts::COMPACT, texts::COMPACT_MORE)?;
     with_backup_command(alloc, line)
@@ -215,6 +234,7 @@ fn command_named(alloc: Global, name: &str, options: &ArgMatches<'_>) -> Result<
         "check" => Ok(Asked::Check),
         "print" => Ok(Asked::Print),
         "show" => show_asked(alloc, options.get_str("file")),
+        "dump" => dump_asked(alloc, has_flag(options, "all"), options.get_str("file")),
         "log" => log_asked(alloc, options.get_str("file")),
         "compact" => compact_asked(alloc, options.get_str("file")),
         "backup" => backup_asked(alloc, options.get_str("file"), options.get_str("copy")),
@@ -253,6 +273,7 @@ pub fn read_words<'a>(alloc: Global, words: &'a [String]) -> Result<Asked, Alloc
     ensures workers { asks_for_workers (map string_bytes words.now) ≡ true
         → IfOk result (λ asked. asks_of asked ≡ workers_asked (map string_bytes words.now)) }
     ensures shell { IfOk result (λ asked. AsksForShell (asks_of asked) (map string_bytes words.now)) }
+    ensures dump { IfOk result (λ asked. AsksForDump (asks_of asked) (map string_bytes words.now)) }
     ensures file { asks_for_file (map string_bytes words.now) ≡ true
         → IfOk result (λ asked. asks_of asked ≡ plainly_asked (map string_bytes words.now)) }
     ensures backup { asks_for_backup (map string_bytes words.now) ≡ true

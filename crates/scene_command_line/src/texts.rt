@@ -7,7 +7,7 @@ pub(crate) const PROGRAM: &str =
 /// What all commands have in common.
 pub(crate) const PROGRAM_MORE: &str = "\
 Each command prints on standard output. `shell` answers standard input line by line; `run`, `check` and `print` read it
-to its end; `show`, `log`, `compact` and `backup` read the file of a store.
+to its end; `show`, `dump`, `log`, `compact` and `backup` read the file of a store.
 
 Exit status:
   0  all went well
@@ -71,10 +71,21 @@ Prints the lines that `show` prints in a script. The store itself stays as it is
 
 docs/SHELL.md explains stores, and docs/SCRIPTS.md the lines of `show`.";
 
-pub(crate) const LOG: &str = "Tells what the lines that a store keeps have done";
+pub(crate) const DUMP: &str = "Prints the scene text of a store";
+
+pub(crate) const DUMP_MORE: &str = "\
+Prints what `dump` prints in a script, or `dumpall`: where it would have more than 64 MiB, `fault 56 TooLong`; the exit
+status is then 1. The store itself stays as it is, and may be in use.
+
+docs/SHELL.md explains stores, and docs/SCENE_FILES.md scene texts.";
+
+pub(crate) const ALL: &str = "Has the past and the future in the text too";
+
+pub(crate) const LOG: &str = "Tells what was done in a store, frame by frame";
 
 pub(crate) const LOG_MORE: &str = "\
-The store itself stays as it is.
+Each line has a number, the moment in UTC, whose call it is, what it did and what that came to. The store itself stays
+as it is, and may be in use.
 
 docs/SHELL.md explains stores.";
 

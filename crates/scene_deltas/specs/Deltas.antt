@@ -48,6 +48,7 @@ fits_back (ResourceSet name before after) w = can_set_resource w name after befo
 abbrev pub FitsOn : Delta → World → Type 0
 FitsOn d w = fits_on d w ≡ true
 
+-- that it can be taken back in a world
 abbrev pub FitsBack : Delta → World → Type 0
 FitsBack d w = fits_back d w ≡ true
 

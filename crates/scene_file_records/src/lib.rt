@@ -6,8 +6,8 @@
 //! read byte by byte. `specs/Writable.antt` says which records have a text that is read again, and `laws` that they
 //! are, and that nothing but the texts of records is read.
 //!
-//! `write_records` adds the text of records, by printers of their parts, which are there for answers too, and `RecordsForm` reads them, by a `Form` for
-//! each word of the walk.
+//! `write_records` adds the text of records, by printers of their parts, which are there for answers too, and
+//! `RecordsForm` reads them, by a `Form` for each word of the walk.
 #![tactic(auto)]
 
 mod examples;

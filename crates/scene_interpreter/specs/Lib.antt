@@ -14,4 +14,5 @@ pub mod Interpreter
 pub mod Questions
 pub mod Said
 pub mod Setup
+pub mod Turns
 pub mod WholeFrame

@@ -29,6 +29,7 @@ mod setup;
 mod setup_line;
 mod state_line;
 mod systems_line;
+mod turn;
 mod usual;
 mod whole_frame;
 
@@ -38,5 +39,6 @@ pub use file_fault_text::answer_file_fault;
 pub use halt::Halt;
 pub use interpreter::Interpreter;
 pub use laws::{a_line_that_changes_nothing_leaves_the_interpreter, a_lock_changes_no_answer};
+pub use scene_session::Way;
 pub use script_owner::ScriptOwner;
 pub use settings::InterpreterSettings;

@@ -1,11 +1,13 @@
 //! A world that keeps a record of what is done to it, and can always go back.
-ghost use Rattle.std.specs.Prelude.{◌≡◌, [], true, Some, OnOk, OnErr, string_bytes};
+ghost use Rattle.std.specs.Prelude.{◌≡◌, [], reverse, true, Some, OnOk, OnErr, string_bytes};
+ghost use Rattle.std.specs.List.{filter};
 ghost use Rattle.scene_kinds.specs.Answers.{Answers, Gives};
 ghost use Rattle.scene_model.specs.Can.{can_set_tick};
 ghost use Rattle.scene_model.specs.Commands.{raise_tick};
 ghost use Rattle.scene_model.specs.Valid.{IsValid};
 ghost use Rattle.scene_world.specs.FurtherKind.{declare};
 ghost use Rattle.scene_world.specs.Room.{Holds, IsWider};
+ghost use Rattle.scene_deltas.specs.Copies.{copies_again, copies_back};
 ghost use Rattle.scene_deltas.specs.Notes.{deltas_of};
 ghost use Rattle.scene_deltas.specs.Ready.{AreReady, AreReadyOn};
 ghost use Rattle.scene_journal.specs.Records.{raised, record_of, redone, undone, RecordFitsBack, RecordFitsOn};
@@ -198,32 +200,34 @@ impl Recorder {
         self.world.declare(name, shape)
     }
 
-    /// Undoes a record between two frames, in a world that has room for that, as `FrameRecord::undo_reserved` does.
-    pub fn undo_record(&mut self, frame: &FrameRecord) -> Result<(), AllocError>
+    /// Undoes a record between two frames, in a world that has room for that, by copies that were made before, as
+    /// `FrameRecord::undo_copied` does. It takes no memory.
+    pub fn undo_copied(&mut self, frame: &FrameRecord, copies: Vec<Delta>)
         requires empty { self.old.frame.deltas ≡ [] }
         requires fits { RecordFitsBack frame.now self.old.world }
         requires ready { AreReady self.old.room frame.now.deltas self.old.world }
-        ensures done { OnOk result (self.new.world ≡ undone frame.now self.old.world) }
-        ensures full { OnErr result (self.new.world ≡ self.old.world) }
+        requires copies { copies.items ≡ filter copies_back frame.now.deltas }
+        ensures done { self.new.world ≡ undone frame.now self.old.world }
         ensures room { self.new.room ≡ self.old.room }
         ensures empty { self.new.frame.deltas ≡ [] }
     {
         self.runs.end();
-        frame.undo_reserved(&mut self.world)
+        frame.undo_copied(&mut self.world, copies);
     }
 
-    /// Redoes a record between two frames, in a world that has room for that, as `FrameRecord::redo_reserved` does.
-    pub fn redo_record(&mut self, frame: &FrameRecord) -> Result<(), AllocError>
+    /// Redoes a record between two frames, in a world that has room for that, by copies that were made before, as
+    /// `FrameRecord::redo_copied` does. It takes no memory.
+    pub fn redo_copied(&mut self, frame: &FrameRecord, copies: Vec<Delta>)
         requires empty { self.old.frame.deltas ≡ [] }
         requires fits { RecordFitsOn frame.now self.old.world }
         requires ready { AreReadyOn self.old.room frame.now.deltas (raised self.old.world) }
-        ensures done { OnOk result (self.new.world ≡ redone frame.now self.old.world) }
-        ensures full { OnErr result (self.new.world ≡ self.old.world) }
+        requires copies { copies.items ≡ reverse (filter copies_again frame.now.deltas) }
+        ensures done { self.new.world ≡ redone frame.now self.old.world }
         ensures room { self.new.room ≡ self.old.room }
         ensures empty { self.new.frame.deltas ≡ [] }
     {
         self.runs.end();
-        frame.redo_reserved(&mut self.world)
+        frame.redo_copied(&mut self.world, copies);
     }
 }
 

@@ -42,6 +42,7 @@ if_live w e d = if is_live w e then d else refused_json (refusal_of NoSuchEntity
 abbrev pub child_list : List Entity → Data
 child_list es = answer_of (codes "children") ((codes "entities", list_text entity_json es) ∷ [])
 
+-- the answer, where the entity is alive
 abbrev pub children_answer : World → Entity → Data
 children_answer w e = if_live w e (child_list (children_of w.children e))
 
@@ -54,6 +55,7 @@ maybe_entity (Some e) = entity_json e
 abbrev pub parent_json : Option Entity → Data
 parent_json parent = answer_of (codes "parent") ((codes "entity", maybe_entity parent) ∷ [])
 
+-- the answer, where the entity is alive
 abbrev pub parent_answer : World → Entity → Data
 parent_answer w e = if_live w e (parent_json (parent_of w.children e))
 

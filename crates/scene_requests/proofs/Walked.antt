@@ -1,20 +1,18 @@
 -- What a text and its walk make of a request.
 use Rattle.std.proofs.Common.{◌≡◌, ℕ, Bool, true, false, List, [], None, Some, Result, Ok, Err, length, refl, ap, subst, sym, ◌∙◌}
-use Rattle.std.specs.Prelude.{codes, if◌then◌else◌, nat_le}
+use Rattle.std.specs.Prelude.{if◌then◌else◌, nat_le}
 use Rattle.std.specs.Str.{IsUtf8, is_utf8}
 use Rattle.std.proofs.lemmas.Str.{IsUtf8-from_is_utf8, is_utf8-from_IsUtf8}
 use Rattle.serde_json.specs.Data.{Data}
 use Rattle.serde_json.specs.Read.{read}
 use Rattle.scene_kinds.specs.Schema.{Kinds}
-use Rattle.scene_script.specs.declared.script_line.Line.{Line as ScriptLine}
 use Rattle.scene_json_forms.specs.declared.fault.FileFault.{FileFault}
 use Rattle.scene_json_forms.specs.declared.fault.FileFault.TheVariants as file
 use Rattle.scene_json_forms.specs.Outcome.{IsTextFault}
-use Rattle.scene_requests.specs.declared.bad_request.BadRequest.TheVariants.{BadField, NotJson, TooLong}
+use Rattle.scene_requests.specs.declared.bad_request.BadRequest.TheVariants.{NotJson, TooLong}
 use Rattle.scene_requests.specs.declared.bad_request.RequestError.{RequestError}
-use Rattle.scene_requests.specs.declared.bad_request.RequestError.TheVariants.{Bad, NoMemory}
-use Rattle.scene_requests.specs.Reading.{IsNoLine, Reads, error_by}
-use Rattle.scene_requests.specs.Request.{if_json, if_walked, line_request_in, only_line, request_in, said_by}
+use Rattle.scene_requests.specs.Reading.{Reads, error_by}
+use Rattle.scene_requests.specs.Request.{if_json, if_walked, request_in, said_by}
 use Rattle.scene_requests.specs.Questions.{request_at}
 use Rattle.scene_requests.specs.declared.request.Request.{Request}
 
@@ -63,23 +61,3 @@ pub long_said : (kinds : Kinds) (text : List ℕ) → nat_le (length text) 67108
 long_said kinds text h = ap (λ b. if b then said_by kinds text else Err TooLong) h
 
 pub ruleset requests = (json_said, no_json_said, short_said, long_said)
-
--- ---- who wants a line
-
--- what stands for no line is bad at `do`
-pub no_line_reads : (error : RequestError) → IsNoLine error → Reads {A = ScriptLine} (Err error) (Err (BadField (codes "do")))
-no_line_reads NoMemory is = tt
-no_line_reads (Bad reason) is = ap Err (sym is)
-
--- a request that was read
-pub line_read : (kinds : Kinds) (text : List ℕ) (request : Request) (r : Result ScriptLine RequestError) → request_in kinds text ≡ Ok request
-    → Reads r (only_line (Ok request)) → Reads r (line_request_in kinds text)
-line_read kinds text request r is reads = subst (λ said. Reads r (only_line said)) (sym is) reads
-
--- and one that wasn't
-pub line_unread : (kinds : Kinds) (text : List ℕ) (error : RequestError) → Reads {A = Request} (Err error) (request_in kinds text)
-    → Reads {A = ScriptLine} (Err error) (line_request_in kinds text)
-line_unread kinds text NoMemory is = tt
-line_unread kinds text (Bad reason) is = ap only_line is
-
-pub ruleset lines = (line_read, line_unread)

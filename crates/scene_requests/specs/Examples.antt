@@ -15,10 +15,10 @@ use Rattle.scene_requests.specs.declared.bad_request.BadRequest.{BadRequest}
 use Rattle.scene_requests.specs.declared.bad_request.BadRequest.TheVariants.{NotJson, UnknownKey, BadField}
 use Rattle.scene_requests.specs.declared.request.Request.TheVariants as of
 use Rattle.scene_requests.specs.declared.question.Side.TheVariants.{Past, Future}
-use Rattle.scene_requests.specs.declared.question.Way.TheVariants.{Back}
+use Rattle.scene_requests.specs.declared.question.Way.TheVariants.{Back, Forth}
 use Rattle.scene_requests.specs.declared.question.Question.{Question}
 use Rattle.scene_requests.specs.declared.question.Question.TheVariants as ask
-use Rattle.scene_requests.specs.Request.{line_request_in, request_in}
+use Rattle.scene_requests.specs.Request.{request_in}
 
 -- five kinds: a name, a number, three numbers, a link and a mark
 abbrev pub schema : Kinds
@@ -130,7 +130,7 @@ SystemFaultsAreNamed =
 abbrev pub Asks : List ℕ → Question → Type 0
 Asks bytes question = request_in schema bytes ≡ Ok (of.Ask question)
 
--- what no line asks, the end of an open frame, and a kind that is declared behind the setup; to who wants a line these are bad at `do`
+-- what no line asks, several undos or redos, the end of an open frame, and a kind that is declared at any time
 abbrev pub QuestionsAreRead : Type 0
 QuestionsAreRead =
     Asks (codes "{\"do\":\"status\"}") ask.Status
@@ -143,10 +143,13 @@ QuestionsAreRead =
     × Asks (codes "{\"do\":\"step\",\"way\":\"back\"}") (ask.Step Back)
     × Asks (codes "{\"do\":\"changedsince\",\"need\":[\"At\"],\"rewinds\":1,\"tick\":9,\"without\":[]}")
     (ask.ChangedSince (record { need = 4; without = 0 }) 1 9)
+    × (request_in schema (codes "{\"do\":\"undo\",\"count\":3}") ≡ Ok (of.Turn Back 3))
+    × (request_in schema (codes "{\"count\":0,\"do\":\"redo\"}") ≡ Ok (of.Turn Forth 0))
+    × Says (codes "{\"do\":\"redo\"}") line.Redo
     × (request_in schema (codes "{\"do\":\"dropframe\"}") ≡ Ok of.DropFrame)
     × (request_in schema (codes "{\"do\":\"declare\",\"name\":\"Mood\",\"shape\":\"Int\"}") ≡ Ok (of.Declare (codes "Mood") shape.Int))
+    × IsBad (codes "{\"do\":\"undo\",\"count\":-1}") (BadField (codes "count"))
+    × IsBad (codes "{\"do\":\"redo\",\"times\":1}") (UnknownKey (codes "times"))
     × IsBad (codes "{\"do\":\"step\",\"way\":\"forward\"}") (BadField (codes "way"))
     × IsBad (codes "{\"do\":\"rows\",\"need\":[],\"without\":[],\"from\":-1,\"count\":50}") (BadField (codes "from"))
     × IsBad (codes "{\"do\":\"kinds\",\"entity\":\"3v1\"}") (UnknownKey (codes "entity"))
-    × (line_request_in schema (codes "{\"do\":\"status\"}") ≡ Err (BadField (codes "do")))
-    × (line_request_in schema (codes "{\"do\":\"undo\"}") ≡ Ok line.Undo)

@@ -1,21 +1,26 @@
 -- The walk through a request (docs/SHELL.md, "Questions"): what it asks for, by the word of its key `do`, and then its
 -- other keys, or the first fault with its path.
-use Rattle.std.specs.Prelude.{ℕ, List, codes, Result, Ok, option_and_then}
+use Rattle.std.specs.Prelude.{ℕ, List, codes, Option, Some, None, Result, Ok, option_and_then}
 use Rattle.serde_json.specs.Data.{Data, Members}
-use Rattle.serde_json.specs.Find.{as_object, as_str}
+use Rattle.serde_json.specs.Find.{as_object, as_str, get_member}
 use Rattle.scene_kinds.specs.Schema.{Kinds}
 use Rattle.scene_systems.specs.declared.filter.Filter.{Filter}
+use Rattle.scene_script.specs.declared.form.LineForm.{LineForm}
+use Rattle.scene_script.specs.declared.form.LineForm.TheVariants as form
+use Rattle.scene_script.specs.declared.script_line.Line.{Line as ScriptLine}
+use Rattle.scene_script.specs.declared.script_line.Line.TheVariants as line
 use Rattle.scene_json_forms.specs.declared.fault.FileFault.{FileFault}
-use Rattle.scene_json_forms.specs.Reading.{◌>>=◌, field, string_at, object_at, key_of}
+use Rattle.scene_json_forms.specs.Reading.{◌>>=◌, field, string_at, object_at, key_of, under}
 use Rattle.scene_json_forms.specs.Walk.{u32_at, tick_at, entity_at, shape_at}
 use Rattle.scene_requests.specs.declared.question.Page.{Page}
 use Rattle.scene_requests.specs.declared.question.Side.{Side}
 use Rattle.scene_requests.specs.declared.question.Side.TheVariants.{Past, Future}
 use Rattle.scene_requests.specs.declared.question.Way.{Way}
+use Rattle.scene_requests.specs.declared.question.Way.TheVariants.{Forth, Back}
 use Rattle.scene_requests.specs.declared.question.Question.{Question}
 use Rattle.scene_requests.specs.declared.question.Question.TheVariants.{Status, Kinds as AsksKinds, Tables, Rows, Children, ParentOf, Resources, Steps, Deltas, Step, ChangedSince, AddedSince}
 use Rattle.scene_requests.specs.declared.request.Request.{Request}
-use Rattle.scene_requests.specs.declared.request.Request.TheVariants.{Line, Ask, DropFrame, Declare}
+use Rattle.scene_requests.specs.declared.request.Request.TheVariants.{Line, Ask, Turn, DropFrame, Declare}
 use Rattle.scene_requests.specs.declared.request_form.QuestionForm.{QuestionForm}
 use Rattle.scene_requests.specs.declared.request_form.QuestionForm.TheVariants as ask
 use Rattle.scene_requests.specs.declared.request_form.RequestForm.{RequestForm}
@@ -46,9 +51,11 @@ filter_of kinds path ms =
 
 -- ---- questions, of which the keys are known
 
+-- a question for a part of the rows
 abbrev pub rows_of : Kinds → List ℕ → Members → Result Question FileFault
 rows_of kinds path ms = page_of path ms >>= λ page. filter_of kinds path ms >>= λ filter. Ok (Rows filter page)
 
+-- a question for a record
 abbrev pub deltas_of : List ℕ → Members → Result Question FileFault
 deltas_of path ms = key_of side_at path (codes "of") ms >>= λ side. key_of u32_at path (codes "step") ms >>= λ place. Ok (Deltas side place)
 
@@ -84,9 +91,33 @@ abbrev pub declare_of : List ℕ → Members → Result Request FileFault
 declare_of path ms =
     key_of string_at path (codes "name") ms >>= λ name. key_of shape_at path (codes "shape") ms >>= λ shape. Ok (Declare name shape)
 
+-- how many frames a request is for, where it says so
+abbrev pub count_in : List ℕ → Option Data → Result (Option ℕ) FileFault
+count_in path None = Ok None
+count_in path (Some d) = u32_at path d >>= λ count. Ok (Some count)
+
+-- the same by the key `count`, which may be missing
+abbrev pub count_of : List ℕ → Members → Result (Option ℕ) FileFault
+count_of path ms = count_in (under path (codes "count")) (get_member (codes "count") ms)
+
+-- so many frames one way, or the line for one
+abbrev pub turn_or : Way → ScriptLine → Option ℕ → Request
+turn_or way line None = Line line
+turn_or way line (Some count) = Turn way count
+
+-- a request for frames of one way
+abbrev pub turn_of : Way → ScriptLine → List ℕ → Members → Result Request FileFault
+turn_of way line path ms = count_of path ms >>= λ count. Ok (turn_or way line count)
+
+-- what stands for a line, or for several undos or redos
+abbrev pub line_request_of : Kinds → LineForm → List ℕ → Members → Result Request FileFault
+line_request_of kinds form.Undo path ms = turn_of Back line.Undo path ms
+line_request_of kinds form.Redo path ms = turn_of Forth line.Redo path ms
+line_request_of kinds form path ms = line_of kinds form path ms >>= λ line. Ok (Line line)
+
 -- a request, by what it asks for
 abbrev pub request_of : Kinds → RequestForm → List ℕ → Members → Result Request FileFault
-request_of kinds (of.Line form) path ms = line_of kinds form path ms >>= λ line. Ok (Line line)
+request_of kinds (of.Line form) path ms = line_request_of kinds form path ms
 request_of kinds (of.Ask form) path ms = question_of kinds form path ms >>= λ question. Ok (Ask question)
 request_of kinds of.DropFrame path ms = Ok DropFrame
 request_of kinds of.Declare path ms = declare_of path ms

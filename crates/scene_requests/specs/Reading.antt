@@ -1,10 +1,9 @@
 -- What a reading of a request answers.
-use Rattle.std.specs.Prelude.{◌≡◌, ⊤, Result, Ok, Err, codes}
+use Rattle.std.specs.Prelude.{◌≡◌, ⊤, Result, Ok, Err}
 use Rattle.scene_json_forms.specs.declared.fault.FileFault.{FileFault}
 use Rattle.scene_json_forms.specs.declared.fault.FileFault.TheVariants as file
 use Rattle.scene_requests.specs.BadRequest.{bad_of}
 use Rattle.scene_requests.specs.declared.bad_request.BadRequest.{BadRequest}
-use Rattle.scene_requests.specs.declared.bad_request.BadRequest.TheVariants.{BadField}
 use Rattle.scene_requests.specs.declared.bad_request.RequestError.{RequestError}
 use Rattle.scene_requests.specs.declared.bad_request.RequestError.TheVariants.{Bad, NoMemory}
 
@@ -13,11 +12,6 @@ abbrev pub Reads : {A : Type 0} → Result A RequestError → Result A BadReques
 Reads (Ok a) said = said ≡ Ok a
 Reads (Err NoMemory) said = ⊤
 Reads (Err (Bad reason)) said = said ≡ Err reason
-
--- a request that is bad at `do`, or memory ran out
-abbrev pub IsNoLine : RequestError → Type 0
-IsNoLine NoMemory = ⊤
-IsNoLine (Bad reason) = reason ≡ BadField (codes "do")
 
 -- what a fault of a walk makes of the reading
 abbrev pub error_by : FileFault → RequestError

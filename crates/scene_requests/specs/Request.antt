@@ -1,15 +1,13 @@
 -- What a request asks for, by its bytes, or why it is bad (docs/SHELL.md, "Requests").
-use Rattle.std.specs.Prelude.{ℕ, ◌==◌, List, [], ◌∷◌, Bool, false, Option, Some, None, Result, Ok, Err, codes, length, nat_le, if◌then◌else◌}
+use Rattle.std.specs.Prelude.{ℕ, ◌==◌, List, [], ◌∷◌, Bool, false, Option, Some, None, Result, Ok, Err, length, nat_le, if◌then◌else◌}
 use Rattle.std.specs.Str.{is_utf8}
 use Rattle.serde_json.specs.Data.{Data}
 use Rattle.serde_json.specs.Read.{read}
 use Rattle.scene_kinds.specs.Schema.{Kinds}
-use Rattle.scene_script.specs.declared.script_line.Line.{Line as ScriptLine}
 use Rattle.scene_json_forms.specs.declared.fault.FileFault.{FileFault}
 use Rattle.scene_requests.specs.declared.bad_request.BadRequest.{BadRequest}
-use Rattle.scene_requests.specs.declared.bad_request.BadRequest.TheVariants.{NotJson, TooLong, BadField}
+use Rattle.scene_requests.specs.declared.bad_request.BadRequest.TheVariants.{NotJson, TooLong}
 use Rattle.scene_requests.specs.declared.request.Request.{Request}
-use Rattle.scene_requests.specs.declared.request.Request.TheVariants.{Line}
 use Rattle.scene_requests.specs.BadRequest.{bad_of}
 use Rattle.scene_requests.specs.Questions.{request_at}
 
@@ -35,13 +33,3 @@ said_by kinds bytes = if is_utf8 bytes then if_json kinds (read bytes) else Err 
 -- what a request asks for; it has at most as many bytes as a scene text
 abbrev pub request_in : Kinds → List ℕ → Result Request BadRequest
 request_in kinds bytes = if nat_le (length bytes) 67108864 then said_by kinds bytes else Err TooLong
-
--- the line that a request stands for; where it stands for none, what it asks for is no field of a line
-abbrev pub only_line : Result Request BadRequest → Result ScriptLine BadRequest
-only_line (Ok (Line line)) = Ok line
-only_line (Ok request) = Err (BadField (codes "do"))
-only_line (Err reason) = Err reason
-
--- the same by its bytes
-abbrev pub line_request_in : Kinds → List ℕ → Result ScriptLine BadRequest
-line_request_in kinds bytes = only_line (request_in kinds bytes)

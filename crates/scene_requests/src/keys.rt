@@ -47,6 +47,7 @@ fn known_form_keys(
             &["do", "name", "need", "steps", "without"],
         ),
         LineForm::As => object_at(alloc, path, value, &["do", "session"]),
+        LineForm::Undo | LineForm::Redo => object_at(alloc, path, value, &["count", "do"]),
         _ => object_at(alloc, path, value, &["do"]),
     }
 }

@@ -26,4 +26,4 @@ mod step_name;
 pub use bad_request::{BadRequest, RequestError};
 pub use examples::worked_requests;
 pub use question::{Page, Question, Side, Way};
-pub use request::{Request, is_request, read_line_request, read_request};
+pub use request::{Request, is_request, read_request};

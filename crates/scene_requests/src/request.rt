@@ -1,19 +1,19 @@
 //! A request, by its bytes.
-ghost use Rattle.std.specs.Prelude.{◌≡◌, [], Ok};
+ghost use Rattle.std.specs.Prelude.{◌≡◌, []};
 ghost use Rattle.scene_json.specs.View.{whole};
-ghost use Rattle.scene_requests.specs.Reading.{IsNoLine, Reads};
+ghost use Rattle.scene_requests.specs.Reading.{Reads};
 ghost use Rattle.scene_requests.specs.Questions.{request_at};
-ghost use Rattle.scene_requests.specs.Request.{if_walked, is_request, line_request_in, only_line, request_in, said_by};
+ghost use Rattle.scene_requests.specs.Request.{if_walked, is_request, request_in, said_by};
 
 use crate::bad_request::{BadRequest, RequestError, error_of};
-use crate::question::Question;
+use crate::question::{Question, Way};
 use crate::read_requests::request_at;
 use json::Scratch;
 use scene_json::{Document, DocumentError};
 use scene_json_forms::Path;
 use scene_kinds::{Schema, Shape, Text};
 use scene_script::Line;
-use std::alloc::{AllocError, Global};
+use std::alloc::Global;
 
 /// How many bytes a request has at most.
 const MOST_BYTES: usize = 67_108_864;
@@ -25,6 +25,8 @@ pub enum Request {
     Line(Line),
     /// What no line asks.
     Ask(Question),
+    /// So many frames are to be undone, back, or redone, forth: all of them or none.
+    Turn(Way, u32),
     /// The open frame is to be dropped, with its commands.
     DropFrame,
     /// A kind is to be declared, in the setup or behind it.
@@ -84,39 +86,4 @@ pub fn read_request(alloc: Global, schema: &Schema, bytes: &[u8]) -> Result<Requ
         return Err(RequestError::Bad(BadRequest::TooLong));
     }
     said_by(alloc, schema, bytes)
-}
-
-/// Why a request is bad that stands for no line, where one has to.
-fn no_line(alloc: Global) -> RequestError
-    ensures { IsNoLine result }
-{
-    match String::from_str(alloc, "do") {
-        Ok(path) => RequestError::Bad(BadRequest::BadField(Text::from(path))),
-        Err(AllocError) => RequestError::NoMemory,
-    }
-}
-
-/// The line that is asked for.
-#[tactic(auto, using(crate::proofs::Walked::no_line_reads))]
-fn only_line(alloc: Global, request: Request) -> Result<Line, RequestError>
-    ensures { Reads result (only_line (Ok request)) }
-{
-    match request {
-        Request::Line(line) => Ok(line),
-        Request::Ask(_) | Request::DropFrame | Request::Declare(..) => Err(no_line(alloc)),
-    }
-}
-
-/// The line that a request stands for, as `read_request` reads it: for callers that have calls of their own for what no
-/// line asks.
-///
-/// Refused as by `read_request`; and with a `BadField` at `do` where a good request stands for no line.
-#[tactic(auto, using(crate::proofs::Walked::lines))]
-pub fn read_line_request(alloc: Global, schema: &Schema, bytes: &[u8]) -> Result<Line, RequestError>
-    ensures { Reads result (line_request_in schema.now bytes.now) }
-{
-    match read_request(alloc, schema, bytes) {
-        Ok(request) => only_line(alloc, request),
-        Err(error) => Err(error),
-    }
 }

@@ -9,4 +9,5 @@ mod Performances
 pub mod Places
 mod Props
 mod Replays
+mod Turns
 mod Wholes

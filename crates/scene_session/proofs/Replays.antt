@@ -8,6 +8,11 @@ module _ {M E : Type 0} (next : M → E → M) where
   replay_entered m [] e = refl
   replay_entered m (x ∷ es) e = replay_entered (next m x) es e
 
+  -- and so do several
+  pub replay_appended : (m : M) (es others : List E) → replay next m (es ++ others) ≡ replay next (replay next m es) others
+  replay_appended m [] others = refl
+  replay_appended m (x ∷ es) others = replay_appended (next m x) es others
+
   module _ (IsTrue : M → E → Type 0) where
     -- a true history stays true with an entry that is true after it
     pub true_entered : (m : M) (es : List E) (e : E) → AreTrue next IsTrue m es → IsTrue (replay next m es) e → AreTrue next IsTrue m (es ++ e ∷ [])

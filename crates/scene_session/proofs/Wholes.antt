@@ -20,7 +20,7 @@ use Rattle.scene_undo.proofs.Machines.{along_newest}
 use Rattle.scene_session.specs.Owner.{whole_at_depth}
 use Rattle.scene_session.specs.Whole.{Whole, whole_of, moved, accepted_whole, advance_record, notes_of, stepped, step}
 
-step_done : (w : Whole) (a : Asked) (es : List Entity) (m : Machine World) → call w.machine (machine_call a) ≡ Ok (es, m) → step w a ≡ (accepted_whole w a m, accepted_answer a es)
+pub step_done : (w : Whole) (a : Asked) (es : List Entity) (m : Machine World) → call w.machine (machine_call a) ≡ Ok (es, m) → step w a ≡ (accepted_whole w a m, accepted_answer a es)
 step_done w a es m is = ap (stepped w a) is
 
 moved_is : (r : Record) (from old_from old_to : List Record) → old_from ≡ r ∷ from → moved old_from old_to ≡ (from, r ∷ old_to)

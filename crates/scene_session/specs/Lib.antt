@@ -11,4 +11,5 @@ pub mod Performed
 pub mod Queries
 pub mod Session
 pub mod State
+pub mod Turns
 pub mod Whole

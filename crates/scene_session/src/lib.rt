@@ -25,6 +25,8 @@ mod session;
 mod shared_owner;
 mod state;
 mod step;
+mod turn;
+mod way;
 
 pub use all_passes::{ask_with_all, perform_with_all};
 pub use call::{Call, Reply, Stopped};
@@ -39,3 +41,4 @@ pub use session::Session;
 pub use shared_owner::SharedOwner;
 pub use state::{Beginning, State};
 pub use step::{call_editor, call_editor_with};
+pub use way::Way;

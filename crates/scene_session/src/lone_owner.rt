@@ -1,5 +1,5 @@
 //! An owner without a lock: an editor that no other thread can reach.
-ghost use Rattle.std.specs.Prelude.{◌≡◌, ◌≢◌, ◌≤◌, ◌<◌, ◌+◌, ◌++◌, ◌∷◌, [], length, IfOk, IfErr, OnErr, MatchResult, Some, None, string_bytes};
+ghost use Rattle.std.specs.Prelude.{◌≡◌, ◌≢◌, ◌≤◌, ◌<◌, ◌+◌, ◌++◌, ◌∷◌, [], ℕ, length, replicate, Err, IfOk, IfErr, OnErr, MatchResult, Some, None, string_bytes};
 ghost use Rattle.scene_kinds.specs.Answers.{Answers, refusal_of};
 ghost use Rattle.scene_kinds.specs.declared.fault.Fault.TheVariants.{HistoryFull, NoMemory};
 ghost use Rattle.scene_queue.specs.Frames.{lone_frame};
@@ -7,6 +7,7 @@ ghost use Rattle.scene_session.specs.Calls.{Redo, Refused, Submit, Undo, asked, 
 ghost use Rattle.scene_session.specs.FurtherKind.{declare_owner};
 ghost use Rattle.scene_session.specs.Logged.{asked_in, logged};
 ghost use Rattle.scene_session.specs.State.{stopping_at};
+ghost use Rattle.scene_session.specs.Turns.{owner_by, turned};
 ghost use Rattle.scene_session.specs.Whole.{whole_of};
 ghost use Rattle.scene_session.specs.Owner.{opening_owner, owner_at_depth, performed, whole_at};
 
@@ -15,6 +16,7 @@ use crate::log::{Log, Logged, LoggedCall};
 use crate::owner::SessionOwner;
 use crate::query::EditorQuery;
 use crate::step::{call_editor, call_editor_one, call_editor_with, redo_editor, undo_editor};
+use crate::way::Way;
 use scene_commands::Command;
 use scene_kinds::{Fault, Refusal, Shape};
 use scene_undo::Editor;
@@ -139,6 +141,17 @@ fn enter_lone(
     Ok(enter(log, room, done))
 }
 
+/// Enters so many calls along a way that were done.
+fn enter_turns(log: &mut Log, room: &mut u64, session: u32, way: Way, count: usize)
+    requires { count ≤ room.old }
+    ensures entered { log.new.calls ≡ log.old.calls ++ replicate count (turned session way) }
+    ensures room { room.new + count ≡ room.old }
+{
+    'turns: for _ in 0..count {
+        let _reply = enter(log, room, way.done_by(session));
+    }
+}
+
 /// No calls yet, and room for all.
 fn begin_anew(log: &mut Log, room: &mut u64, limit: u64)
     ensures none { log.new.calls ≡ [] }
@@ -259,6 +272,38 @@ impl LoneOwner {
         let call = LoggedCall::of_call(&Call::Redo);
         let reply = redo_editor(&mut self.editor);
         enter_lone(&mut self.log, &mut self.room, self.session, call, reply)
+    }
+
+    /// Goes so many frames along a way, as that many calls of the session whose turn it is do one after another, all or
+    /// none (docs/SESSIONS.md, "One owner"). Where all are done, all are entered, each with its answer. It costs what
+    /// they cost; a count of 0 does nothing.
+    ///
+    /// Where one of them would be refused, this is refused as that one is, nothing changes, and no call is entered:
+    /// `HistoryFull`, where there would be more calls than may be; `NothingToUndo` or `NothingToRedo`, where there are
+    /// fewer frames; `TickFull`, where an undo can't be counted; `NoMemory`.
+    pub fn turn_by(&mut self, way: Way, count: usize) -> Result<(), Refusal>
+        ensures { Answers result self.old self.new (owner_by way count self.old) }
+    {
+        if self.room < count as u64 {
+            return Err(self.first_refusal(way));
+        }
+        match way.turn(&mut self.editor, count) {
+            Ok(()) => {
+                enter_turns(&mut self.log, &mut self.room, self.session, way, count);
+                Ok(())
+            }
+            Err(refusal) => Err(refusal),
+        }
+    }
+
+    /// The first refusal of more calls along a way than there is room for.
+    fn first_refusal(&self, way: Way) -> Refusal
+        ensures { (count : ℕ) → self.now.limit < length self.now.history + count → owner_by way count self.now ≡ Err result }
+    {
+        match way.may_turn(&self.editor, self.room as usize) {
+            Ok(()) => Refusal::from(Fault::HistoryFull(self.limit)),
+            Err(refusal) => refusal,
+        }
     }
 
     /// Asks a question of the editor.

@@ -10,6 +10,7 @@ use Rattle.scene_interpreter.specs.Interpreter.{Interpreter}
 use Rattle.scene_interpreter.specs.Changes.{frame_is_open}
 use Rattle.scene_shell.specs.ShellLine.{shell_changes, shell_reply}
 use Rattle.scene_shell.specs.Shell.{interpreter_after}
+use Rattle.scene_shell.specs.Dated.{IsWhole}
 use Rattle.scene_shell.specs.Kept.{Keeping, noted, kept_line, kept_after, starting, kept_of, ended}
 use Rattle.scene_shell.proofs.Requests.{shell_unchanged}
 use Rattle.scene_shell.proofs.Lines.{HasPart, has_part, is_end, line_before}
@@ -40,17 +41,13 @@ ended_by false l ys is line =
 pub ended_first : (l ys : List ℕ) → IsLine l → lines (ended l ++ ys) ≡ l ∷ lines ys
 ended_first l ys line = ended_by (slice_index l (length l - 1) == 13) l ys refl line
 
--- what stands behind a text begins a line
-abbrev IsWhole : List ℕ → Type 0
-IsWhole t = (ys : List ℕ) → lines (t ++ ys) ≡ lines t ++ lines ys
-
 whole_more : (t l : List ℕ) → IsWhole t → IsLine l → IsWhole (t ++ ended l)
 whole_more t l whole line ys =
     let one : lines (ended l) ≡ l ∷ [] = ap lines (sym (append-nil (ended l))) ∙ ended_first l [] line in
     ap lines (append_assoc t (ended l) ys) ∙ whole (ended l ++ ys) ∙ ap (λ ls. lines t ++ ls) (ended_first l ys line)
     ∙ ap (λ ls. lines t ++ (ls ++ lines ys)) (sym one) ∙ sym (append_assoc (lines t) (lines (ended l)) (lines ys)) ∙ ap (λ ls. ls ++ lines ys) (sym (whole (ended l)))
 
-after_append : (p : Interpreter) (xs ys : List (List ℕ)) → interpreter_after p (xs ++ ys) ≡ interpreter_after (interpreter_after p xs) ys
+pub after_append : (p : Interpreter) (xs ys : List (List ℕ)) → interpreter_after p (xs ++ ys) ≡ interpreter_after (interpreter_after p xs) ys
 after_append p [] ys = refl
 after_append p (x ∷ xs) ys = after_append (shell_reply p x).interpreter xs ys
 

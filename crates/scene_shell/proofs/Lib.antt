@@ -1,6 +1,6 @@
 mod Agreement
 mod BadTexts
-mod Declared
+mod Comments
 mod KeptLaws
 mod KeptLead
 mod LineFaults

@@ -1,39 +1,21 @@
 -- Requests among the lines of a shell.
-use Rattle.std.proofs.Common.{◌≡◌, ℕ, List, Bool, true, false, cond, [], ◌++◌, Option, None, Some, Result, Ok, Err, IfErr, IfOk, OnOk, option_map, refl, sym, ap, subst, ◌∙◌}
-use Rattle.std.specs.Prelude.{codes, is_some}
+use Rattle.std.proofs.Common.{◌≡◌, ℕ, List, Bool, true, false, cond, [], ◌++◌, Option, Result, Ok, Err, IfErr, IfOk, OnOk, option_map, refl, sym, ap, subst, ◌∙◌}
 use Rattle.scene_script.specs.declared.bad_line.BadLine.{BadLine}
-use Rattle.scene_script.specs.declared.bad_line.BadLine.TheVariants.{NoFrame}
-use Rattle.scene_script.specs.declared.script_line.Line.{Line as ScriptLine}
-use Rattle.scene_script.specs.declared.script_line.Line.TheVariants.{Show}
-use Rattle.scene_requests.specs.declared.question.Question.{Question}
 use Rattle.scene_requests.specs.declared.request.Request.{Request}
-use Rattle.scene_requests.specs.declared.request.Request.TheVariants.{Line, Ask, DropFrame, Declare}
 use Rattle.scene_requests.specs.declared.bad_request.BadRequest.{BadRequest}
 use Rattle.scene_requests.specs.Request.{is_request, request_in}
-use Rattle.scene_interpreter.specs.Changes.{changes, frame_is_open}
+use Rattle.scene_interpreter.specs.Changes.{changes}
 use Rattle.scene_interpreter.specs.declared.halt.Halt.{Halt}
-use Rattle.scene_interpreter.specs.Interpreter.{Interpreter, Setting, Playing, halted, interpreter_kinds, interpreter_reply, without_frame}
-use Rattle.scene_interpreter.specs.OpenFrame.{Opened}
-use Rattle.scene_interpreter.specs.Play.{with_frame}
-use Rattle.scene_interpreter.specs.JsonAnswer.{bad_json, json_line, word_json}
-use Rattle.scene_interpreter.specs.JsonLine.{AddsJson, IsAsked, IsSaidAsJson, asked_by}
-use Rattle.scene_interpreter.proofs.ChangeLaws.{said_unchanged, unchanged}
+use Rattle.scene_interpreter.specs.Interpreter.{Interpreter, halted, interpreter_kinds, interpreter_reply}
+use Rattle.scene_interpreter.specs.JsonAnswer.{json_line}
+use Rattle.scene_interpreter.proofs.ChangeLaws.{unchanged}
+use Rattle.scene_answers.specs.Asked.{AddsAsked, IsAskedAnswer}
+use Rattle.scene_answers.proofs.AskedLaws.{asked_unchanged}
 use Rattle.scene_shell.specs.declared.bad_shell_line.BadShellLine.{BadShellLine}
 use Rattle.scene_shell.specs.declared.bad_shell_line.BadShellLine.TheVariants as why
-use Rattle.scene_shell.specs.ShellLine.{IsAnswerBy, IsAskedAnswer, IsBadAnswer, IsDropAnswer, IsLineAnswer, IsRequestAnswer, ShellReply, asked_changes, bad_request_json, dropped_frame, of_asked, of_line, of_request, request_changes, shell_changes, shell_reply}
+use Rattle.scene_shell.specs.ShellLine.{IsAnswerBy, IsBadAnswer, IsGoodAnswer, IsLineAnswer, IsRequestAnswer, ShellReply, bad_request_json, of_line, of_request, request_changes, shell_changes, shell_reply}
 
 -- ---- a line that changes nothing
-
--- where no frame is open none is dropped
-undropped : (p : Interpreter) (b : Bool) → b ≡ false → (dropped_frame p b).interpreter ≡ p
-undropped p true is = absurd (cc is)
-undropped p false is = refl
-
-asked_unchanged : (p : Interpreter) (asked : Request) → asked_changes p asked ≡ false → (of_asked p asked).interpreter ≡ p
-asked_unchanged p (Line line) is = said_unchanged p (Ok line) is
-asked_unchanged p (Ask question) is = said_unchanged p (Ok Show) is
-asked_unchanged p DropFrame is = undropped p (frame_is_open p) is
-asked_unchanged p (Declare name shape) is = absurd (cc is)
 
 request_unchanged : (p : Interpreter) (said : Result Request BadRequest) → request_changes p said ≡ false → (of_request p said).interpreter ≡ p
 request_unchanged p (Ok asked) is = asked_unchanged p asked is
@@ -106,49 +88,11 @@ line_halted h p q l is so = so ∙ ap (λ (s : ShellReply). halted h p s.interpr
 
 -- ---- the answer to a request
 
--- a request that was answered as the line that it stands for
-pub is_request_answer : (p after : Interpreter) (line : ScriptLine) (old text : List ℕ) (reason : Option BadLine) → old ≡ []
-    → IsSaidAsJson old text p after (Ok line) reason → IsAskedAnswer p (Line line) text
-is_request_answer p after line old text reason empty h =
-    let so = subst (λ o. IsSaidAsJson o text p after (Ok line) reason) empty h in
-    (refl, refl, subst (λ a. AddsJson [] text p a (Ok line) (asked_by p (Ok line))) so.1 so.2)
-
--- a question that was answered
-pub is_question_answer : (p after : Interpreter) (question : Question) (old text : List ℕ) (reason : Option BadLine) → old ≡ []
-    → IsAsked old text p after question reason → IsAskedAnswer p (Ask question) text
-is_question_answer p after question old text reason empty h =
-    let so = subst (λ o. IsAsked o text p after question reason) empty h in (refl, refl, so.2)
-
--- a frame that was dropped
-pub is_dropped : (old text : List ℕ) (b : Bool) → old ≡ [] → b ≡ true → text ≡ old ++ json_line (word_json (codes "ok")) → IsDropAnswer b text
-is_dropped old text b empty is h =
-    subst (λ c. IsDropAnswer c text) (sym is) (h ∙ ap (λ o. o ++ json_line (word_json (codes "ok"))) empty)
-
--- and where none was open
-pub is_undropped : (words old text : List ℕ) (b : Bool) → old ≡ [] → b ≡ false → text ≡ old ++ json_line (bad_json words) → IsDropAnswer b text
-is_undropped words old text b empty is h =
-    subst (λ c. IsDropAnswer c text) (sym is) (words, h ∙ ap (λ o. o ++ json_line (bad_json words)) empty)
-
-pub drops : (p q : Interpreter) (b : Bool) → b ≡ frame_is_open p → b ≡ true → q ≡ without_frame p
-    → (q ≡ (of_asked p DropFrame).interpreter) × (None ≡ (of_asked p DropFrame).bad)
-drops p q b is so h =
-    let opened : frame_is_open p ≡ true = sym is ∙ so in
-    (h ∙ ap (λ c. (dropped_frame p c).interpreter) (sym opened), ap (λ c. (dropped_frame p c).bad) (sym opened))
-
--- where no frame is open there is none to drop
-unopened : (p : Interpreter) → frame_is_open p ≡ false → without_frame p ≡ p
-unopened (Setting s) is = refl
-unopened (Playing s) is = by_frame s.frame refl is
-  where
-    by_frame : (f : Option Opened) → s.frame ≡ f → is_some f ≡ false → without_frame (Playing s) ≡ Playing s
-    by_frame None none so = ap (λ f. Playing (with_frame s f)) (sym none)
-    by_frame (Some f) some so = absurd (cc so)
-
-pub drops_none : (p q : Interpreter) (b : Bool) → b ≡ frame_is_open p → b ≡ false → q ≡ without_frame p
-    → (q ≡ (of_asked p DropFrame).interpreter) × (Some (why.Line NoFrame) ≡ (of_asked p DropFrame).bad)
-drops_none p q b is so h =
-    let shut : frame_is_open p ≡ false = sym is ∙ so in
-    (h ∙ unopened p shut ∙ ap (λ c. (dropped_frame p c).interpreter) (sym shut), ap (λ c. (dropped_frame p c).bad) (sym shut))
+-- what a request asks for
+pub is_good_answer : (p after : Interpreter) (asked : Request) (old text : List ℕ) (bad : Option BadLine) → old ≡ []
+    → IsAskedAnswer old text p after asked bad → IsGoodAnswer p asked text
+is_good_answer p after asked old text bad empty h =
+    let so = subst (λ o. IsAskedAnswer o text p after asked bad) empty h in subst (λ a. AddsAsked [] text p a asked) so.1 so.2
 
 -- and one that is bad
 pub is_bad_answer : (reason : BadRequest) (words old text : List ℕ) → old ≡ []

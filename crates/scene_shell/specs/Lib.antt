@@ -1,5 +1,6 @@
 pub mod AnswerText
 pub mod Compacted
+pub mod Dated
 pub mod Kept
 pub mod Opening
 pub mod Replayed

@@ -1,5 +1,5 @@
 //! What lines that were kept have come to, as a line tells it.
-ghost use Rattle.std.specs.Prelude.{◌≡◌, ◌++◌, IfErr, OnOk, codes, string_bytes};
+ghost use Rattle.std.specs.Prelude.{◌≡◌, ◌++◌, IfErr, OnOk, codes, if◌then◌else◌, string_bytes};
 ghost use Rattle.std.specs.Str.Lines.{lines};
 ghost use Rattle.scene_interpreter.specs.Interpreter.{lone_interpreter, interpreter_of, interpreter_reply};
 ghost use Rattle.scene_shell.specs.Shell.{interpreter_after};
@@ -50,4 +50,27 @@ pub fn show_lines(
 {
     let mut interpreter = Interpreter::alone(alloc, settings);
     play_and_ask(alloc, &mut interpreter, text, b"show", world)
+}
+
+/// Adds the scene text of what the lines of a text lead to, with its line break: as `dump` prints it, or as `dumpall`
+/// where it is to be whole, with the past and the future. Where it would have more than 67,108,864 bytes it is what
+/// these answer then, `fault 56 TooLong`. It costs what the lines cost in a script, and the text. The interpreter has
+/// no lock, and begins with these settings.
+///
+/// Refused: `Bad` at the first line that is bad, `Halted` and `NoMemory` for want of memory.
+pub fn dump_lines(
+    alloc: Global,
+    settings: InterpreterSettings,
+    text: &[u8],
+    is_whole: bool,
+    scene: &mut String,
+) -> Result<(), KeptLineFault>
+    ensures dumped { OnOk result (string_bytes scene.new ≡ string_bytes scene.old
+        ++ answer_text (lone_interpreter settings.depth settings.calls) (if is_whole then codes "dumpall" else codes "dump") text.now) }
+    ensures good { OnOk result (NoneIsBad (lone_interpreter settings.depth settings.calls) (lines text.now)) }
+    ensures bad { IfErr result (NamesFirst (lone_interpreter settings.depth settings.calls) (lines text.now)) }
+{
+    let mut interpreter = Interpreter::alone(alloc, settings);
+    let question: &[u8] = if is_whole { b"dumpall" } else { b"dump" };
+    play_and_ask(alloc, &mut interpreter, text, question, scene)
 }

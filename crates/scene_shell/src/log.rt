@@ -1,11 +1,12 @@
 //! What lines that are kept have done.
+use crate::frame_account::FrameAccount;
 use crate::line_fault::KeptLineFault;
-use crate::request_line::{declare, request_said, shell_line_said};
+use crate::log_line::{LineSort, answer_to, said_by, sort_of};
+use crate::moment::Moment;
 use scene_interpreter::{Halt, Interpreter, InterpreterSettings, LineAnswer};
-use scene_kinds::Refusal;
-use scene_requests::{Request, is_request};
-use scene_script::{Line, SessionNumber, first_line};
-use scene_session::{LoneOwner, Reply, ThisThread};
+use scene_kinds::Schema;
+use scene_script::first_line;
+use scene_session::{LoneOwner, Reply};
 use std::alloc::{AllocError, Global};
 use std::fmt;
 use std::io::Write;
@@ -71,26 +72,53 @@ fn first_of(text: &str) -> &str {
     }
 }
 
+/// What a line came to.
+#[derive(Drop)]
+struct Played {
+    sort: LineSort,
+    answer: LineAnswer,
+    /// Whose call it is.
+    session: u32,
+    /// Whether it ended the setup.
+    ends_setup: bool,
+}
+
+/// Plays a line, and gives what it came to.
+fn play_line(
+    alloc: Global,
+    interpreter: &mut Interpreter<LoneOwner>,
+    line: &[u8],
+) -> Result<Played, Halt> {
+    let Ok(said) = said_by(alloc, interpreter.schema(), line) else {
+        return Err(Halt::Before);
+    };
+    let sort = sort_of(&said);
+    let session = interpreter.session();
+    let was_setting = interpreter.editor().is_none();
+    let answer = answer_to(alloc, interpreter, said)?;
+    Ok(Played {
+        sort,
+        answer,
+        session,
+        ends_setup: was_setting && interpreter.editor().is_some(),
+    })
+}
+
 /// How far a log has come.
 #[derive(Drop)]
 struct Log {
     alloc: Global,
     counts: LogCounts,
-    /// Whose calls the next lines are.
-    session: u32,
-    /// The answer to the line.
+    /// How many entries there are.
+    entries: u64,
+    /// When the next lines were kept.
+    moment: Moment,
+    /// The commands of the frame that is open.
+    frame: FrameAccount,
+    /// The answer that an entry has.
     answer: String,
-    /// What the log says of it.
+    /// What the log says of a line.
     entry: String,
-}
-
-/// The answer of a declaration.
-fn answer_of(declared: Result<Result<u8, Refusal>, AllocError>) -> Result<LineAnswer, Halt> {
-    match declared {
-        Ok(Ok(_)) => Ok(LineAnswer::Taken),
-        Ok(Err(refusal)) => Ok(LineAnswer::Replied(Reply::Refused(refusal))),
-        Err(AllocError) => Err(Halt::Before),
-    }
 }
 
 impl Log {
@@ -99,105 +127,85 @@ impl Log {
         Log {
             alloc,
             counts: LogCounts::none(),
-            session: SessionNumber::first().get(),
+            entries: 0,
+            moment: Moment::unknown(),
+            frame: FrameAccount::new(alloc),
             answer: String::new(alloc),
             entry: String::new(alloc),
         }
     }
 
-    /// Does what a request asks for, and gives its answer. A question, which is kept only
-    /// where it ends the setup, is told as that; a bad request has none.
-    fn answer_request(
-        &self,
-        interpreter: &mut Interpreter<LoneOwner>,
-        request: &[u8],
-    ) -> Result<LineAnswer, Halt> {
-        match request_said(self.alloc, interpreter.schema(), request) {
-            Ok(Ok(Request::Line(said))) => interpreter.play_said(&ThisThread, Ok(said)),
-            Ok(Ok(Request::Ask(_))) => {
-                interpreter.play_said(&ThisThread, Ok(Line::Show))?;
-                Ok(LineAnswer::Taken)
-            }
-            Ok(Ok(Request::DropFrame)) if interpreter.drop_frame() => Ok(LineAnswer::Taken),
-            Ok(Ok(Request::Declare(name, shape))) => {
-                answer_of(declare(self.alloc, interpreter, name, shape))
-            }
-            Ok(_) => Ok(LineAnswer::Nothing),
-            Err(AllocError) => Err(Halt::Before),
-        }
+    /// Begins an entry in the place of the one before.
+    fn begin_entry(&mut self, session: u32) -> Result<(), AllocError> {
+        self.entries = self.entries.saturating_add(1);
+        let Log {
+            entries,
+            moment,
+            ..
+        } = *self;
+        Ok(write!(&mut self.entry, "{entries} {moment} as {session}: ")?)
     }
 
-    /// Plays a line, a request or not, and gives its answer.
-    fn answer_to(
-        &self,
-        interpreter: &mut Interpreter<LoneOwner>,
-        line: &[u8],
-    ) -> Result<LineAnswer, Halt> {
-        if is_request(line) {
-            self.answer_request(interpreter, line)
-        } else {
-            interpreter.play(&ThisThread, line)
-        }
-    }
-
-    /// Plays a line, counts its answer, and puts it in the place of the one before.
-    fn play(&mut self, interpreter: &mut Interpreter<LoneOwner>, line: &[u8]) -> Result<(), Halt> {
+    /// Ends an entry with the first line of an answer.
+    fn end_entry(&mut self, schema: &Schema, answer: LineAnswer) -> Result<(), AllocError> {
         self.answer.clear();
-        let answer = self.answer_to(interpreter, line)?;
-        self.counts.count(&answer);
-        match answer.write_text(self.alloc, interpreter.schema(), &mut self.answer) {
+        answer.write_text(self.alloc, schema, &mut self.answer)?;
+        let came_to = first_of(self.answer.as_str());
+        Ok(write!(&mut self.entry, " -> {came_to}\n")?)
+    }
+
+    /// Makes the entry of a line that says this, and the command that a frame has more.
+    fn tell(&mut self, schema: &Schema, line: &str, played: Played) -> Result<(), AllocError> {
+        let Played {
+            sort,
+            answer,
+            session,
+            ends_setup,
+        } = played;
+        match (sort, &answer) {
+            (LineSort::Begin, _) => {
+                self.frame.clear();
+                return Ok(());
+            }
+            (LineSort::Command(place), LineAnswer::Queued) => return self.frame.add(place, line),
+            (LineSort::Untold, _) => return Ok(()),
+            (LineSort::Aside, _) if !ends_setup => return Ok(()),
+            _ => {}
+        }
+        self.begin_entry(session)?;
+        match sort {
+            LineSort::Commit | LineSort::DropFrame => write!(&mut self.entry, "{}", self.frame)?,
+            LineSort::Load(length) => write!(&mut self.entry, "load of {length} bytes")?,
+            _ => self.entry.push_str(line)?,
+        }
+        match sort {
+            LineSort::DropFrame => self.entry.push_str(" -> dropped\n"),
+            LineSort::Aside => self.entry.push_str(" -> ok\n"),
+            LineSort::Bad => self.entry.push_str(" -> bad line\n"),
+            _ => self.end_entry(schema, answer),
+        }
+    }
+
+    /// Plays a line, and says what it came to, where a log does.
+    fn line(&mut self, interpreter: &mut Interpreter<LoneOwner>, line: &[u8]) -> Result<(), Halt> {
+        self.entry.clear();
+        if let Some(moment) = Moment::said_by(line) {
+            self.moment = moment;
+            return Ok(());
+        }
+        let played = play_line(self.alloc, interpreter, line)?;
+        self.counts.count(&played.answer);
+        let said = match str::from_utf8(line) {
+            Ok(said) => said,
+            Err(_) => "",
+        };
+        match self.tell(interpreter.schema(), said, played) {
             Ok(()) => Ok(()),
             Err(AllocError) => Err(Halt::After),
         }
     }
 
-    /// What the log says of a line, in the place of the one before; nothing where its answer is empty.
-    fn write_entry(&mut self, number: u64, line: &[u8]) -> Result<(), AllocError> {
-        self.entry.clear();
-        if self.answer.is_empty() {
-            return Ok(());
-        }
-        let said = match str::from_utf8(line) {
-            Ok(said) => said,
-            Err(_) => "",
-        };
-        let session = self.session;
-        let came_to = first_of(self.answer.as_str());
-        Ok(write!(
-            &mut self.entry,
-            "{number} as {session}: {said} -> {came_to}\n"
-        )?)
-    }
-
-    /// Notes whose calls the next lines are.
-    fn turn(&mut self, said: &Line) {
-        if let Line::As(next) = said {
-            self.session = next.get();
-        }
-    }
-
-    /// Plays a line, and says what it came to.
-    fn line(
-        &mut self,
-        interpreter: &mut Interpreter<LoneOwner>,
-        number: u64,
-        line: &[u8],
-    ) -> Result<(), KeptLineFault> {
-        if let Err(halt) = self.play(interpreter, line) {
-            return Err(KeptLineFault::Halted(number, halt));
-        }
-        if self.write_entry(number, line).is_err() {
-            return Err(KeptLineFault::Halted(number, Halt::After));
-        }
-        match shell_line_said(self.alloc, interpreter.schema(), line) {
-            Ok(Some(said)) => self.turn(&said),
-            Ok(None) => {}
-            Err(AllocError) => return Err(KeptLineFault::Halted(number, Halt::After)),
-        }
-        Ok(())
-    }
-
-    /// Plays a line, and writes what it came to.
+    /// Plays a line of this number, and writes what it came to.
     fn write_line<W: Write>(
         &mut self,
         interpreter: &mut Interpreter<LoneOwner>,
@@ -205,7 +213,9 @@ impl Log {
         line: &[u8],
         writer: &mut W,
     ) -> Result<(), KeptLineFault> {
-        self.line(interpreter, number, line)?;
+        if let Err(halt) = self.line(interpreter, line) {
+            return Err(KeptLineFault::Halted(number, halt));
+        }
         match writer.write_all(self.entry.as_bytes()) {
             Ok(()) => Ok(()),
             Err(_) => Err(KeptLineFault::Unwritten),
@@ -235,9 +245,10 @@ fn write_lines<W: Write>(
     Ok(log.counts)
 }
 
-/// Plays the lines of a text from a new interpreter with these settings on, which has no lock, and writes for each its
-/// number, whose call it is, what it says, and the first line of its answer. It gives how many calls came to what. It
-/// costs what the lines cost in a script.
+/// Plays the lines of a text from a new interpreter with these settings on, which has no lock, and writes an entry for
+/// each frame and each further line that did something (docs/SHELL.md, "The log"): its number, when it was kept, whose
+/// call it is, what it says, and the first line of its answer. It gives how many calls came to what. It costs what the
+/// lines cost in a script.
 ///
 /// Refused: `Halted` for want of memory, and `Unwritten`. The entries of the lines before are written then.
 pub fn write_log<W: Write>(

@@ -3,6 +3,7 @@ pub mod FurtherKind
 pub mod EditorLaws
 pub mod Kept
 pub mod Machines
+pub mod SeveralCalls
 pub mod Sizes
 pub mod StackLaws
 pub mod Turns

@@ -1,9 +1,11 @@
 pub mod BackAndForth
+pub mod Copies
 pub mod Cursor
 pub mod FurtherKind
 pub mod Direction
 pub mod Editor
 pub mod Kept
 pub mod Parts
+pub mod Several
 pub mod Stacks
 pub mod Size

@@ -1,12 +1,13 @@
 //! Which way records are gone through.
-ghost use Rattle.std.specs.Prelude.{◌≡◌, OnOk, OnErr, IfErr};
+ghost use Rattle.std.specs.Prelude.{◌≡◌, OnOk, OnErr, IfErr, IfOk};
 ghost use Rattle.scene_journal.specs.Faults.{Names};
 ghost use Rattle.scene_journal.specs.Newest.{Covers};
 ghost use Rattle.scene_world.specs.Room.{IsWider};
 ghost use Rattle.scene_undo.specs.declared.direction.Direction.TheVariants.{Undo};
+ghost use Rattle.scene_undo.specs.Copies.{copied};
 ghost use Rattle.scene_undo.specs.Direction.{Can, IsFault, opposite, step};
 
-use scene_journal::{FrameRecord, NewestCells};
+use scene_journal::{Delta, FrameRecord, NewestCells};
 use scene_kinds::Refusal;
 use scene_world::World;
 use std::alloc::AllocError;
@@ -60,6 +61,16 @@ impl Direction {
         match self {
             Direction::Undo => frame.undo_reserved(world),
             Direction::Redo => frame.redo_reserved(world),
+        }
+    }
+
+    /// Copies of what a record brings that only memory can copy. Only want of memory is an error.
+    pub(crate) fn copies(self, frame: &FrameRecord) -> Result<Vec<Delta>, AllocError>
+        ensures { IfOk result (λ copies. copies.items ≡ copied self frame.now) }
+    {
+        match self {
+            Direction::Undo => frame.copies_to_undo(),
+            Direction::Redo => frame.copies_to_redo(),
         }
     }
 }

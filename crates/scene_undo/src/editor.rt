@@ -1,5 +1,5 @@
 //! The editor: a world with the records of its frames, and how a frame is done on a world with its record.
-ghost use Rattle.std.specs.Prelude.{◌≡◌, ◌≢◌, ◌≤◌, ◌∷◌, [], length, reverse, take, Ok, Err, IfOk, IfErr, OnOk, OnErr, string_bytes};
+ghost use Rattle.std.specs.Prelude.{◌≡◌, ◌≢◌, ◌≤◌, ◌<◌, ◌+◌, ◌∷◌, [], length, reverse, take, Ok, Err, IfOk, IfErr, OnOk, OnErr, string_bytes};
 ghost use Rattle.scene_kinds.specs.Answers.{Answers, refusal_of};
 ghost use Rattle.scene_kinds.specs.declared.fault.Fault.TheVariants.{NoMemory};
 ghost use Rattle.scene_machine.specs.Frame.{Submit, call, framed};
@@ -11,6 +11,7 @@ ghost use Rattle.scene_deltas.specs.Notes.{deltas_of};
 ghost use Rattle.scene_journal.specs.Records.{Record, undone};
 ghost use Rattle.scene_undo.specs.declared.direction.Direction.TheVariants.{Undo, Redo};
 ghost use Rattle.scene_undo.specs.BackAndForth.{IsWithinDepth, RedoThenUndo, UndoThenRedo};
+ghost use Rattle.scene_undo.specs.Copies.{AreOfFirst};
 ghost use Rattle.scene_undo.specs.Cursor.{cursor_of, since};
 ghost use Rattle.scene_undo.specs.FurtherKind.{declare_throughout, with_kind_now};
 ghost use Rattle.scene_undo.specs.Direction.{AllFit};
@@ -28,7 +29,7 @@ use crate::once::{FrameOnce, Lent, LoneCommand};
 use crate::parts::{after_frames, try_records};
 use crate::stacks::Stacks;
 use scene_commands::Command;
-use scene_journal::{FrameRecord, Recorder};
+use scene_journal::{Delta, FrameRecord, Recorder};
 use scene_kinds::{Entity, Fault, Refusal, Shape};
 use scene_queue::{Queue, Queues};
 use scene_world::{Frame, Stage, World};
@@ -45,8 +46,8 @@ use std::marker::Model;
 pub struct Editor {
     pub(crate) alloc: Global,
     recorder: Recorder,
-    stacks: Stacks,
-    rewinds: u64,
+    pub(crate) stacks: Stacks,
+    pub(crate) rewinds: u64,
 }
 
 impl Drop for Editor {
@@ -362,17 +363,32 @@ impl Editor {
         ensures records { OnOk result (IsUndone self.old.past self.old.future self.new.past self.new.future) }
         ensures same { OnErr result (self.new ≡ self.old) }
     {
-        self.recorder.world_is_sound();
         let Some(record) = self.stacks.newest() else {
             return Err(Refusal::from(Fault::NothingToUndo));
         };
         if self.rewinds == u64::MAX {
             return Err(Refusal::from(Fault::TickFull));
         }
-        self.recorder.undo_record(record)?;
+        let copies = record.copies_to_undo()?;
+        self.undo_copied(copies);
+        Ok(())
+    }
+
+    /// Takes the newest frame back by the copies of its record, where an undo can be counted. It takes no memory.
+    pub(crate) fn undo_copied(&mut self, copies: Vec<Delta>)
+        requires copies { AreOfFirst Undo copies.items self.old.past }
+        requires counted { self.old.rewinds < 18446744073709551615 }
+        ensures machine { undo (machine_of self.old) ≡ Ok (tt, machine_of self.new) }
+        ensures records { IsUndone self.old.past self.old.future self.new.past self.new.future }
+        ensures counted { self.new.rewinds ≡ self.old.rewinds + 1 }
+    {
+        self.recorder.world_is_sound();
+        let Some(record) = self.stacks.newest() else {
+            unreachable!();
+        };
+        self.recorder.undo_copied(record, copies);
         self.stacks.undo();
         self.rewinds += 1;
-        Ok(())
     }
 
     /// Does the newest undone frame again. It costs what the frame changes, and a copy of the cells of rows and of the
@@ -384,14 +400,29 @@ impl Editor {
         ensures records { OnOk result (IsRedone self.old.depth self.old.past self.old.future self.new.past self.new.future) }
         ensures same { OnErr result (self.new ≡ self.old) }
     {
-        self.recorder.world_is_sound();
         let Some(record) = self.stacks.next() else {
             return Err(Refusal::from(Fault::NothingToRedo));
         };
-        self.recorder.redo_record(record)?;
-        self.stacks.redo();
+        let copies = record.copies_to_redo()?;
+        self.redo_copied(copies);
         Ok(())
     }
+
+    /// Does the newest undone frame again by the copies of its record. It takes no memory.
+    pub(crate) fn redo_copied(&mut self, copies: Vec<Delta>)
+        requires { AreOfFirst Redo copies.items self.old.future }
+        ensures machine { redo (machine_of self.old) ≡ Ok (tt, machine_of self.new) }
+        ensures records { IsRedone self.old.depth self.old.past self.old.future self.new.past self.new.future }
+        ensures depth { self.new.depth ≡ self.old.depth }
+    {
+        self.recorder.world_is_sound();
+        let Some(record) = self.stacks.next() else {
+            unreachable!();
+        };
+        self.recorder.redo_copied(record, copies);
+        self.stacks.redo();
+    }
+
     /// A law of every editor: its past has no more frames than the depth says. So an undo and then a redo give the same
     /// past, world and future. A redo and then an undo give the same world and future, and the same past, but for its
     /// oldest frame where the redo dropped that. It does nothing.

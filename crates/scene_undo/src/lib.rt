@@ -2,7 +2,8 @@
 //!
 //! `Editor::submit` does the queues of a frame, all or nothing, `Editor::advance` the systems of a schedule, whose large
 //! columns as many threads write as there are workers, `Editor::submit_one` a command without a queue, and `Editor::run`
-//! a frame of any kind; `undo` takes the newest frame back and `redo` does the newest undone one again. Contracts speak
+//! a frame of any kind; `undo` takes the newest frame back and `redo` does the newest undone one again, and `undo_by` and
+//! `redo_by` several, all or none. Contracts speak
 //! of the machine of saved worlds (`machine_of` in `specs/Editor.antt`), but no world is saved: what was before and
 //! after the world now is told by the records (docs/JOURNAL.md, "The editor").
 #![tactic(auto)]
@@ -14,6 +15,7 @@ mod editor;
 mod made;
 mod once;
 mod parts;
+mod several;
 mod stacks;
 
 pub use cursor::Cursor;

@@ -43,7 +43,7 @@ pub(crate) fn after_frames(refusal: Refusal, before: usize) -> Refusal
 }
 
 /// The record of a list, which begins with the oldest, whose turn it is after so many others.
-fn at_turn(direction: Direction, frames: &[FrameRecord], number: usize) -> &FrameRecord
+pub(crate) fn at_turn(direction: Direction, frames: &[FrameRecord], number: usize) -> &FrameRecord
     requires { number < length frames.now }
     ensures { slice_get (in_turn direction frames.now) number ≡ Some result.now }
 {

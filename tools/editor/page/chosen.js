@@ -40,8 +40,7 @@ export class Chosen {
 
   // All on the lines from the one that was chosen first up to an entity.
   upTo(entity, list) {
-    const from = list.lines.findIndex((line) => line.entity === this.anchor);
-    const to = list.lines.findIndex((line) => line.entity === entity);
+    const [from, to] = [this.anchor, entity].map((each) => list.lines.placeOf(each));
     if (from < 0) return this.only(entity, list);
     const between = list.lines.slice(Math.min(from, to), Math.max(from, to) + 1);
     this.entities = new Set(between.map((line) => line.entity).filter((each) => each !== undefined));

@@ -1,32 +1,28 @@
 // What is chosen: its components as fields, for one entity or for all chosen at once; the parent of one, and the frames
 // that changed it.
 
-import { showFault } from "./field_faults.js";
+import { Adding } from "./adding.js";
 import { called, nameOf } from "./names.js";
 import { adopt, part, putIn } from "./parts.js";
 import { Property } from "./property.js";
 import { capital, counted, who } from "./sentences.js";
-import { HINTS, valueTyped } from "./values.js";
 
 const MOST_FRAMES_NAMED = 30;
 
 export class Detail {
   constructor(editor) {
-    Object.assign(this, { editor, properties: new Map(), actions: new Map() });
-    const at = (id) => document.getElementById(id);
-    Object.assign(this, { box: at("detail"), kind: at("add-kind"), value: at("add-value"), press: at("add") });
+    Object.assign(this, { editor, properties: new Map(), actions: new Map(), adding: new Adding(editor) });
+    this.box = document.getElementById("detail");
     [this.head, this.cells, this.foot] = ["head-of", "cells-of", "foot-of"].map((name) => part("div", name, ""));
     this.box.append(this.head, this.cells, this.foot);
     this.box.addEventListener("click", (event) => this.clicked(event.target.closest("[data-key]")));
-    at("add-form").addEventListener("submit", (event) => this.add(event));
-    this.kind.addEventListener("change", () => this.hint());
   }
 
   // What stays the same keeps its elements, and so the focus and what is being typed.
   show() {
     const { box, editor } = this;
     const hasFocus = box.contains(document.activeElement);
-    this.showKinds();
+    this.adding.show();
     this.actions.clear();
     const { last } = editor.chosen;
     const rows = [...editor.chosen.entities].map((entity) => editor.mirror.state.rows.get(entity)).filter(Boolean);
@@ -69,9 +65,7 @@ export class Detail {
         byKind.get(kind).push(row);
       }
     }
-    const key = [...this.editor.chosen.entities].join(" ") + this.kindsKey;
-    if (key !== this.cellsKey) this.properties.clear();
-    this.cellsKey = key;
+    this.forgetOthers();
     const order = [...byKind.keys()].sort((one, other) => one - other);
     const shown = order.map((kind) => {
       if (!this.properties.has(kind)) this.properties.set(kind, new Property(this, kind));
@@ -82,6 +76,16 @@ export class Detail {
     putIn(this.cells, shown);
     const none = part("p", "hint", "No components yet; add one below.");
     if (rows.length > 0 && shown.length === 0) putIn(this.cells, [none]);
+  }
+
+  // Fields are those of what is chosen, and of its kinds: a kind that comes last leaves them, and what is typed there.
+  forgetOthers() {
+    const { chosen, mirror } = this.editor;
+    const key = [...chosen.entities].join(" ");
+    const before = this.kinds ?? [];
+    const isSame = before.every(([name, shape], at) => mirror.kinds[at]?.[0] === name && mirror.kinds[at][1] === shape);
+    if (key !== this.chosenKey || !isSame) this.properties.clear();
+    Object.assign(this, { chosenKey: key, kinds: mirror.kinds });
   }
 
   // Who made the newest frame that changed an entity.
@@ -125,45 +129,5 @@ export class Detail {
       return this.keyed(`frame ${number}`, String(number), `show frame ${number}`, () => strip.goToFrame(number));
     }));
     return line;
-  }
-
-  // A component more
-
-  showKinds() {
-    const { kinds } = this.editor.mirror;
-    const key = JSON.stringify(kinds);
-    if (key !== this.kindsKey) {
-      this.kindsKey = key;
-      const option = ([name, shape]) => Object.assign(part("option", "", `${name} (${shape})`), { value: name });
-      const none = part("option", "", "no kinds yet");
-      this.kind.replaceChildren(...(kinds.length > 0 ? kinds.map(option) : [none]));
-    }
-    this.hint();
-  }
-
-  hint() {
-    const { mirror, chosen } = this.editor;
-    const number = mirror.kindNamed(this.kind.value);
-    const kind = mirror.kinds[number];
-    this.value.disabled = kind === undefined || kind[1] === "Tag";
-    this.value.placeholder = kind === undefined ? "" : HINTS[kind[1]];
-    const isThere = mirror.state.rows.get(chosen.last)?.cells.has(number);
-    this.press.textContent = isThere ? "Write" : "Add";
-  }
-
-  add(event) {
-    event.preventDefault();
-    const { editor } = this;
-    const kind = editor.mirror.kinds[editor.mirror.kindNamed(this.kind.value)];
-    const entities = [...editor.chosen.entities].filter((entity) => editor.mirror.isLive(entity));
-    const isReady = entities.length > 0 && kind !== undefined;
-    if (!isReady) return void editor.say("Choose an entity and a kind first.", "refused");
-    const [name, shape] = kind;
-    const { value, fault } = valueTyped(editor.mirror, shape, this.value.value);
-    if (fault !== undefined) {
-      showFault(this.value, fault);
-      return void editor.say(`Not sent: ${fault}.`, "refused");
-    }
-    editor.sendTyped(this.value, entities.map((entity) => ({ do: "insert", entity, kind: name, value })));
   }
 }

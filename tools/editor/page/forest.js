@@ -7,7 +7,7 @@ import { forestLines, isUnfolded, newFolds, turn } from "./lines.js";
 import { isMenuOpen } from "./menu.js";
 import { called } from "./names.js";
 import { counted } from "./sentences.js";
-import { fillTreeLine } from "./tree_line.js";
+import { fillTreeLine, sayTreeLine } from "./tree_line.js";
 import { valueTyped } from "./values.js";
 
 const SORT = "application/x-entities";
@@ -20,7 +20,8 @@ export class Forest {
     this.box = document.getElementById("forest");
     this.root = document.getElementById("to-root");
     this.list = new ListInSight(this.box, {
-      fill: (element, line) => this.fill(element, line), fold: (line) => this.turn(line),
+      fill: (element, line) => this.fill(element, line), sign: (line) => JSON.stringify(this.say(line)),
+      fold: (line) => this.turn(line),
       select: (line, event, target) => this.selected(line, event, target),
       press: (event, line) => this.pressed(event, line),
     });
@@ -43,15 +44,21 @@ export class Forest {
     this.inPlace.follow();
   }
 
-  fill(element, line) {
-    if (line.sort === "rest") return void (element.textContent = line.text);
+  // What stands on a line.
+  say(line) {
+    if (line.sort === "rest") return { text: line.text };
     // A scroll may come between a despawn and the list without its line.
-    if (!this.editor.mirror.isLive(line.entity)) return void (element.textContent = `${line.entity} is gone`);
-    fillTreeLine(element, line, this);
-    element.setAttribute("aria-selected", this.editor.chosen.has(line.entity));
-    element.classList.toggle("taken", this.taken.includes(line.entity));
-    if (line.entity === this.pointed?.entity) element.classList.add(this.pointed.way);
-    element.draggable = !this.editor.sights.holds("locked", line.entity);
+    if (!this.editor.mirror.isLive(line.entity)) return { text: `${line.entity} is gone` };
+    const way = line.entity === this.pointed?.entity ? this.pointed.way : undefined;
+    return { ...sayTreeLine(line, this), isTaken: this.taken.includes(line.entity), way };
+  }
+
+  fill(element, line) {
+    const said = this.say(line);
+    if (said.text !== undefined) return void (element.textContent = said.text);
+    fillTreeLine(element, said);
+    element.classList.toggle("taken", said.isTaken);
+    if (said.way !== undefined) element.classList.add(said.way);
   }
 
   selected(line, event, target) {
@@ -119,9 +126,9 @@ export class Forest {
 
   extend(step) {
     const { list, editor } = this;
-    if (editor.chosen.anchor === null) editor.chosen.anchor = list.lines[list.active].entity;
+    if (editor.chosen.anchor === null) editor.chosen.anchor = list.lines.at(list.active).entity;
     list.goTo(list.active + step);
-    const { entity } = list.lines[list.active];
+    const { entity } = list.lines.at(list.active);
     if (entity !== undefined) editor.chosen.upTo(entity, list);
   }
 
@@ -207,7 +214,7 @@ export class Forest {
   // As their lines stand.
   inOrder(entities) {
     if (entities.length < 2) return entities;
-    const places = new Map(this.list.lines.map(({ entity }, at) => [entity, at]));
+    const places = new Map(this.list.lines.entities.map((entity, at) => [entity, at]));
     return entities.sort((one, other) => (places.get(one) ?? Infinity) - (places.get(other) ?? Infinity));
   }
 
@@ -240,7 +247,7 @@ export class Forest {
 
   lineAt(event) {
     const element = event.target.closest?.("#forest [data-place]") ?? null;
-    return element === null ? undefined : this.list.lines[Number(element.dataset.place)];
+    return element === null ? undefined : this.list.lines.at(Number(element.dataset.place));
   }
 
   dragged(event) {

@@ -83,7 +83,14 @@ export class InPlace {
     this.editor.say(`Not sent: ${fault}.`, "refused");
     showFault(field, fault, field);
     field.fault.classList.add("field-fault");
-    Object.assign(field.fault.style, { left: field.style.left, top: `${field.offsetTop + field.offsetHeight + 2}px` });
+    this.putBelow(field.fault);
+  }
+
+  // A note stands below the field, in sight.
+  putBelow(note) {
+    const { field } = this;
+    Object.assign(note.style, { left: field.style.left, top: `${field.offsetTop + field.offsetHeight + 2}px` });
+    note.scrollIntoView({ block: "nearest" });
   }
 
   // The focus went elsewhere: what was typed is sent, but not over what another tab wrote meanwhile.
@@ -101,7 +108,7 @@ export class InPlace {
   // Stays with its line where that moves, and leaves where its cell is gone.
   follow() {
     if (this.field === null) return;
-    const place = this.list.lines.findIndex((line) => line.key === this.key);
+    const place = this.list.lines.placeOf(this.key);
     const value = this.now();
     if (place < 0 || value === undefined) {
       this.close(true);
@@ -136,8 +143,8 @@ export class InPlace {
       event.stopPropagation();
       if (event.key === "Escape") this.close(true);
     });
-    Object.assign(this.clash.style, { left: field.style.left, top: `${field.offsetTop + field.offsetHeight + 2}px` });
     this.list.box.append(this.clash);
+    this.putBelow(this.clash);
   }
 
   dropClash() {

@@ -17,11 +17,12 @@ import { called, withNames } from "./names.js";
 import { Panes } from "./panes.js";
 import { Picture } from "./picture.js";
 import { Play } from "./play.js";
+import { marksOf } from "./records.js";
 import { refusalText } from "./refusals.js";
 import { lineOf } from "./requests.js";
 import { Resources } from "./resources.js";
 import { Search } from "./search.js";
-import { capital, counted, eventText, who } from "./sentences.js";
+import { capital, counted, eventText } from "./sentences.js";
 import { Setup } from "./setup.js";
 import { Sights } from "./sights.js";
 import { Strip } from "./strip.js";
@@ -29,7 +30,6 @@ import { Systems } from "./systems.js";
 import { Tables } from "./tables.js";
 import { Undoing } from "./undoing.js";
 import { Wire } from "./wire.js";
-import { marksOf } from "./words.js";
 
 const OPEN_UP_TO = 200;
 // A page that isn't seen gets no frames of animation, and yet is kept up.
@@ -38,12 +38,13 @@ const HIDDEN_DRAW_AFTER = 100;
 class Editor {
   constructor() {
     const at = (id) => document.getElementById(id);
-    Object.assign(this, { mirror: new Mirror(), matched: null, touched: new Set(), awaited: null, refusal: null, at });
+    Object.assign(this, { mirror: new Mirror(), touched: new Set(), awaited: null, refusal: null, at });
     Object.assign(this, { found: at("found"), status: at("status"), banner: at("shell"), marks: marksOf(undefined) });
     const changed = (entity, list) => this.chosenChanged(entity, list);
     this.chosen = new Chosen(changed, (entity) => this.mirror.isLive(entity));
     this.wire = new Wire({
-      joined: (answer) => this.joined(answer), heard: (event) => this.heard(event), lost: (words) => this.lost(words),
+      joined: (answer, records) => this.joined(answer, records), lost: (words) => this.lost(words),
+      heard: (event, records) => this.heard(event, records),
     });
     this.makeParts();
     at("help-open").addEventListener("click", () => at("help").showModal());
@@ -71,6 +72,11 @@ class Editor {
     this.files = new Files(this);
   }
 
+  // The entities that the search finds, or null without one.
+  get matched() {
+    return this.searching.matched;
+  }
+
   say(words, sort = "done") {
     this.status.textContent = words;
     this.status.className = sort;
@@ -78,8 +84,8 @@ class Editor {
 
   // What the server says
 
-  joined({ session, scene }) {
-    this.take(scene);
+  joined({ session, scene }, records) {
+    this.take(scene, records);
     this.at("session").textContent = `You are session ${session}`;
     const { mirror } = this;
     const live = counted(mirror.state.rows.size, "entity", "entities");
@@ -87,10 +93,10 @@ class Editor {
     this.say(mirror.isSetup ? "A new scene: choose its kinds first." : words);
   }
 
-  take(scene) {
-    this.touch(this.mirror.take(scene));
+  take(scene, records) {
+    this.touch(this.mirror.take(scene, records));
     this.strip.forget();
-    this.searching.forget(null);
+    this.searching.begin();
     this.at("store").textContent = this.mirror.store;
     document.title = `${this.mirror.store} – Scene editor`;
     if (this.isTaken) return;
@@ -99,24 +105,34 @@ class Editor {
     else this.forest.folds = newFolds(true);
   }
 
-  heard(event) {
+  heard(event, records) {
     const { mirror } = this;
-    if (event.sort === "whole") return this.heardWhole(event);
+    if (event.sort === "whole") return this.heardWhole(event, records);
     const lost = event.sort === "frame" ? mirror.records.length - mirror.position + mirror.later : 0;
     const number = mirror.numberOf(mirror.position + (event.sort === "undo" ? 0 : 1));
-    this.touch(mirror.apply(event));
-    if (mirror.written !== null) this.searching.forget(mirror.written);
+    const touched = mirror.apply(event, records[0]);
+    this.touch(touched);
+    if (mirror.written !== null) {
+      this.searching.follow(mirror.written);
+      this.picture.follow(mirror.written, touched.has("forest"));
+    }
     const isMine = event.session === this.wire.session;
     const text = eventText(event, isMine, { number, lost });
     const words = text === null ? null : withNames(mirror, text);
     if (words !== null && !(isMine && this.play.isPlaying)) this.say(words, isMine ? "done" : "other");
-    if (event.sort === "shell") this.shellWords = event.words;
-    if (event.sort === "shell" && event.state === "here") this.say(capital(event.words ?? "the shell is back"));
+    if (event.sort === "shell") this.heardOfShell(event);
   }
 
-  heardWhole(event) {
+  // That it was gone is told at once, however soon it is here again.
+  heardOfShell({ state, words }) {
+    this.shellWords = words;
+    this.showBanner();
+    if (state === "here") this.say(capital(words ?? "the shell is back"));
+  }
+
+  heardWhole(event, records) {
     const before = { store: this.mirror.store, total: this.play.total() };
-    this.take(event.scene);
+    this.take(event.scene, records);
     this.play.wasRead(before);
     this.say(eventText(event, false, {}), "other");
   }
@@ -172,7 +188,7 @@ class Editor {
   }
 
   // Sends what stands in a field, as one frame; the field is empty from then on, but for a refusal: then it may be
-  // mended there.
+  // mended there. Gives whether it was done.
   async sendTyped(field, commands, words) {
     const typed = field.value;
     field.value = "";
@@ -180,6 +196,7 @@ class Editor {
     const isDone = await this.send(this.asFrame(commands), words);
     if (!isDone && field.value === "") field.value = typed;
     if (!isDone) showFault(field, this.refusal ?? "It wasn't done.");
+    return isDone;
   }
 
   asFrame(commands) {
@@ -201,7 +218,7 @@ class Editor {
     const live = [...this.chosen.entities].filter((entity) => this.mirror.isLive(entity));
     if (live.length > 0) return live.filter((entity) => this.isInSearch(entity));
     const { list } = [this.forest, this.tables].find(({ box }) => box === document.activeElement) ?? {};
-    const entity = list?.lines[list.active]?.entity;
+    const entity = list?.lines.at(list.active)?.entity;
     return entity === undefined ? [] : [entity];
   }
 
@@ -267,14 +284,14 @@ class Editor {
     this.touched = new Set();
     this.isDrawing = false;
     const has = (...names) => names.some((name) => touched.has(name));
-    const { records, position } = this.mirror;
-    if (has("frames", "all")) this.marks = marksOf(records[position - 1]);
+    if (has("frames", "all")) this.marks = this.marksNow();
     if (has("kinds", "all")) this.searching.showKinds();
-    const isSearched = this.showFound(has);
-    if (isSearched || has("forest")) this.showForest();
-    else if (has("frames", "chosen", "sights")) this.forest.draw();
-    if (isSearched || has("tables")) this.tables.show();
-    else if (has("frames", "chosen")) this.tables.draw();
+    const isOther = this.searching.look();
+    this.showFound();
+    if (isOther || has("forest")) this.showForest();
+    else if (has("frames", "chosen", "sights", "kinds")) this.forest.draw();
+    if (isOther || has("tables")) this.tables.show();
+    else if (has("frames", "chosen", "kinds")) this.tables.draw();
     if (has("frames", "all")) this.strip.show();
     if (has("frames", "all", "sessions")) this.undoing.show();
     if (has("frames", "all")) this.resources.show();
@@ -287,10 +304,23 @@ class Editor {
     if (isThere) this.reveal(this.awaited);
   }
 
+  // The marks of the last frame. A very long record that is still to be read is shown a moment later.
+  marksNow() {
+    const { mirror } = this;
+    const { position } = mirror;
+    if (mirror.isToRead(position)) setTimeout(() => this.readRecord(position));
+    return marksOf(mirror.recordAt(position));
+  }
+
+  readRecord(position) {
+    this.mirror.records[position - 1]?.read();
+    this.touch(["frames"]);
+  }
+
   showForest() {
     this.forest.show();
     const { matched, mirror } = this;
-    this.shownInSearch = matched === null ? null : new Set(this.forest.list.lines.map(({ entity }) => entity));
+    this.shownInSearch = this.forest.list.lines.shown;
     const isEmpty = this.forest.list.lines.length === 0;
     const words = mirror.isSetup ? "Choose the kinds above first." : "Nothing here yet: write cells below, and Spawn.";
     this.at("forest-empty").hidden = !isEmpty;
@@ -298,21 +328,16 @@ class Editor {
     this.at("forest-empty").textContent = matched === null ? words : none;
   }
 
-  // Says what the search finds, and whether the lists have to be made anew for it.
-  showFound(has) {
-    const isAsked = has("search") || (this.matched !== null && has("values", "all"));
-    if (isAsked) this.matched = this.searching.found();
-    const live = this.mirror.state.rows.size;
-    const all = counted(live, "entity", "entities");
+  showFound() {
+    const all = counted(this.mirror.state.rows.size, "entity", "entities");
     const words = this.matched === null ? all : `${this.matched.size} of ${all}`;
     if (this.found.textContent !== words) this.found.textContent = words;
-    return isAsked;
   }
 
   showSessions() {
     const others = this.mirror.sessions.filter((session) => session !== this.wire.session && session !== 0);
-    const are = `${others.map(who).join(", ")} ${others.length === 1 ? "is" : "are"} here too`;
-    this.at("others").textContent = others.length === 0 ? "nobody else is here" : are;
+    const are = `with session${others.length === 1 ? "" : "s"} ${others.join(", ")}`;
+    this.at("others").textContent = others.length === 0 ? "alone here" : are;
     this.at("others").title = this.at("others").textContent;
     this.showBanner();
   }

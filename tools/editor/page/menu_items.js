@@ -5,7 +5,7 @@ export function menuItems(editor) {
   const entity = chosen.liveLast();
   const targets = editor.targets();
   const isOff = targets.length === 0;
-  const line = forest.list.lines.find((each) => each.entity === entity);
+  const line = forest.list.lines.at(forest.list.lines.placeOf(entity));
   const isOn = (sort) => targets.length > 0 && targets.every((each) => sights.has(sort, each));
   const place = () => {
     forest.reveal(entity);

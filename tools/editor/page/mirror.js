@@ -1,12 +1,13 @@
 // The scene as the server has it: from a whole, and from the events after it. Nothing here draws.
 
+import { HeldRecord } from "./held_record.js";
 import { nameKind } from "./names.js";
-import { goTo, timelineOf } from "./state.js";
-import { framesOf } from "./words.js";
+import { despawns, framesOf } from "./records.js";
+import { timelineOf } from "./state.js";
 
-const EMPTY = { tables: [], children: [], resources: [], generations: [], free: [], tick: 0, undo: [], redo: [] };
+const EMPTY = { tables: [], children: [], resources: [], generations: [], free: [], tick: 0 };
 const ALL = ["forest", "tables", "values", "frames", "phases", "sessions", "all"];
-const BY_KINDS = ["forest", "tables", "values", "kinds"];
+const BY_KINDS = ["values", "kinds"];
 const BY_DELTA = {
   spawned: ["forest", "tables", "values"], despawned: ["forest", "tables", "values"], shifted: ["tables", "values"],
   cellset: ["values"], linked: ["forest", "values"], resourceset: ["values"],
@@ -26,11 +27,14 @@ export class Mirror {
   // A frame keeps its number when older ones are no longer held.
   numberOf(position) { return position + this.older; }
 
-  take(whole) {
-    this.timeline = timelineOf(whole.text ?? { ...EMPTY, kinds: whole.kinds });
+  // A whole has the texts of the records that are held.
+  take(whole, texts = []) {
+    const records = texts.map((text) => new HeldRecord(text));
+    const [undo, redo] = [records.slice(0, whole.position), records.slice(whole.position)];
+    this.timeline = timelineOf({ ...(whole.text ?? { ...EMPTY, kinds: whole.kinds }), undo, redo });
     const { frames, phases, sessions, setup, shell, store, older = 0, later = 0 } = whole;
     Object.assign(this, { frames, phases, sessions, isSetup: setup, shell, store, older, later, known: null });
-    Object.assign(this, { nameKind: nameKind(this.kinds), written: null });
+    Object.assign(this, { nameKind: nameKind(this.kinds), written: null, newest: records[whole.position - 1] });
     return new Set(ALL);
   }
 
@@ -42,21 +46,23 @@ export class Mirror {
   }
 
   // Makes the change that an event tells, and says which parts of the page it may have changed.
-  apply(event) {
+  // Some events have the text of a record.
+  apply(event, text) {
+    this.written = null;
+    const record = text === undefined ? undefined : new HeldRecord(text);
     switch (event.sort) {
-      case "frame": return this.frame(event);
-      case "undo": return this.undo(event);
-      case "redo": return this.redo(event);
+      case "frame": return this.frame(event, record);
+      case "undo": return this.undo(event, record);
+      case "redo": return this.redo(event, record);
       case "kinds": return this.takeKinds(event.kinds);
       case "phases": this.phases = event.phases; return new Set(["phases"]);
       case "sessions": this.sessions = event.sessions; return new Set(["sessions"]);
       case "shell": this.shell = event.state; return new Set(["sessions"]);
-      case "whole": return this.take(event.scene);
       default: return new Set();
     }
   }
 
-  frame({ session, words, record, dropped }) {
+  frame({ session, words, dropped }, record) {
     const { timeline, frames } = this;
     this.forget(timeline.position);
     this.later = 0;
@@ -70,7 +76,7 @@ export class Mirror {
   }
 
   // Of a record that wasn't held the event tells it, and whose frame it is.
-  undo({ record, frame, dropped }) {
+  undo({ frame, dropped }, record) {
     const { timeline, frames } = this;
     if (timeline.position === 0) {
       timeline.records.unshift(record);
@@ -84,7 +90,7 @@ export class Mirror {
     return touched;
   }
 
-  redo({ record, frame, dropped }) {
+  redo({ frame, dropped }, record) {
     const { timeline, frames } = this;
     if (timeline.position === timeline.records.length) {
       timeline.records.push(record);
@@ -115,11 +121,12 @@ export class Mirror {
   step(by) {
     const { timeline } = this;
     const record = timeline.records[Math.min(timeline.position, timeline.position + by)];
-    goTo(timeline, timeline.position + by);
-    const touched = new Set(["frames"]);
-    for (const { op } of record.deltas) for (const name of BY_DELTA[op]) touched.add(name);
-    this.written = record.deltas.map(({ entity }) => entity);
-    return touched;
+    this.newest?.letGo();
+    const { entities, sorts } = record.stepIn(timeline.state, by > 0);
+    timeline.position += by;
+    this.newest = timeline.records[timeline.position - 1];
+    this.written = entities;
+    return new Set(["frames", ...[...sorts].flatMap((op) => BY_DELTA[op])]);
   }
 
   // The positions behind the frames that name an entity. Those of the one that was asked for last are kept, so that a
@@ -147,6 +154,16 @@ export class Mirror {
     return this.kinds[this.kindNamed(name)]?.[1];
   }
 
+  // The record behind a position; undefined where there is none, or where it is still to be read, by `read`.
+  recordAt(position) {
+    const record = this.records[position - 1];
+    return record?.isToRead ? undefined : record;
+  }
+
+  isToRead(position) {
+    return this.records[position - 1]?.isToRead === true;
+  }
+
   isLive(entity) {
     return this.state.rows.has(entity);
   }
@@ -154,8 +171,7 @@ export class Mirror {
   // The newest frame of the past that despawned an entity, as its position, or 0.
   despawnedBy(entity) {
     let at = this.position;
-    const despawns = (delta) => delta.op === "despawned" && delta.entity === entity;
-    while (at > 0 && !this.records[at - 1].deltas.some(despawns)) at -= 1;
+    while (at > 0 && !despawns(this.records[at - 1], entity)) at -= 1;
     return at;
   }
 }

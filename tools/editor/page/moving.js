@@ -16,8 +16,7 @@ export class Moving {
   // The chosen that are drawn and free; those that are locked are told of where none is left.
   begin() {
     const { editor, picture } = this;
-    const drawn = new Set(picture.points.map(({ entity }) => entity));
-    const found = [...editor.chosen.entities].filter((entity) => drawn.has(entity));
+    const found = picture.points.among(editor.chosen.entities).map(({ entity }) => entity);
     this.entities = new Set(found.filter((entity) => !editor.sights.holds("locked", entity)));
     this.by = { x: 0, y: 0 };
     if (this.entities.size > 0) return true;
@@ -49,6 +48,15 @@ export class Moving {
     this.picture.draw();
   }
 
+  // Whether a point may be shown elsewhere than it is.
+  isElsewhere(entity) {
+    return this.entities.has(entity) || this.sent.has(entity);
+  }
+
+  elsewhere() {
+    return new Set([...this.entities, ...this.sent.keys()]);
+  }
+
   // Where a point is shown. One whose move was sent is shown there until the page hears of it.
   shown(point) {
     const { x, y, by } = this.sent.get(point.entity) ?? {};
@@ -77,8 +85,7 @@ export class Moving {
   }
 
   keepSent(entities, by) {
-    const points = this.picture.points.filter(({ entity }) => entities.has(entity));
-    const sent = points.map(({ entity, x, y }) => [entity, { x, y, by }]);
+    const sent = this.picture.points.among(entities).map(({ entity, x, y }) => [entity, { x, y, by }]);
     for (const [entity, each] of sent) this.sent.set(entity, each);
     return sent;
   }

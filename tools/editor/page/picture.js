@@ -2,9 +2,11 @@
 // there; the ground is panned by a drag, and zoomed by the wheel.
 
 import { Camera, gridStep } from "./camera.js";
+import { drawFew, drawSquares, Squares } from "./dots.js";
 import { Moving } from "./moving.js";
 import { called } from "./names.js";
 import { part } from "./parts.js";
+import { Points } from "./points.js";
 import { counted } from "./sentences.js";
 
 const NEAR = 12;
@@ -13,7 +15,11 @@ const AXES = ["x", "y", "z"];
 const MOST_NAMES = 80;
 const MANY = 2000;
 const LATER_FROM = 20000;
-const LATER = 150;
+const LATER = 50;
+// After so many frames that weren't drawn all is read.
+const MOST_CHANGES = 64;
+const CHOSEN = 5;
+const CHOSEN_OF_MANY = 3.5;
 const GRID_APART = 60;
 const PAN = 40;
 const ZOOM = 1.25;
@@ -50,7 +56,8 @@ function firstAxes(axes) {
 
 export class Picture {
   constructor(editor) {
-    Object.assign(this, { editor, points: [], bounds: null, all: [], camera: new Camera() });
+    Object.assign(this, { editor, points: new Points(), bounds: null, all: [], camera: new Camera() });
+    Object.assign(this, { squares: new Squares(), known: null, changed: [] });
     const at = (id) => document.getElementById(id);
     Object.assign(this, { box: at("drawing"), canvas: at("canvas") });
     Object.assign(this, { words: at("canvas-words"), empty: at("canvas-empty") });
@@ -65,8 +72,11 @@ export class Picture {
     this.canvas.addEventListener("wheel", (event) => this.wheeled(event), { passive: false });
     this.canvas.addEventListener("keydown", (event) => this.keyed(event));
     this.canvas.addEventListener("blur", () => this.moving.isUnderWay() && !this.isHeld && this.moving.end());
-    new ResizeObserver(() => this.show()).observe(this.canvas);
-    matchMedia("(prefers-color-scheme: dark)").addEventListener("change", () => this.draw());
+    new ResizeObserver(() => this.measure()).observe(this.canvas);
+    matchMedia("(prefers-color-scheme: dark)").addEventListener("change", () => {
+      this.colors = undefined;
+      this.draw();
+    });
   }
 
   // What is drawn
@@ -102,36 +112,45 @@ export class Picture {
     const [x, y] = this.selects.map((select) => this.all.find(({ key }) => key === select.value));
     const isThere = !this.box.hidden && x !== undefined && y !== undefined;
     this.empty.hidden = isThere;
+    this.empty.textContent = "No two numbers to draw: a Vec3 kind or two Int kinds make a picture.";
     this.canvas.hidden = !isThere;
     this.axes = isThere ? { x, y } : null;
-    if (!isThere) return void (this.words.textContent = "");
-    this.points = this.pointsNow();
+    if (!isThere) return this.showNothing();
+    this.followPoints();
     this.bounds = this.boundsNow();
-    this.measure();
     if (!this.camera.isFree) this.camera.fit(this.bounds, x.kind === y.kind);
+    this.empty.hidden = this.points.length > 0;
+    const kinds = [...new Set([x, y].map(({ kind }) => this.editor.mirror.kinds[kind][0]))].join(" and ");
+    this.empty.textContent = `Nothing here yet: spawn an entity with ${kinds}, and it stands here.`;
     this.draw();
   }
 
-  pointsNow() {
-    const { editor, axes: { x, y } } = this;
-    const points = [];
-    for (const { entity, cells } of editor.mirror.state.rows.values()) {
-      const [one, other] = [cells.get(x.kind), cells.get(y.kind)];
-      if (!one || !other || editor.sights.holds("hidden", entity)) continue;
-      points.push({ entity, x: x.read(one[0]), y: y.read(other[0]) });
-    }
-    return points;
+  showNothing() {
+    this.words.textContent = "";
+    Object.assign(this, { known: null, changed: [] });
+  }
+
+  // Entities that a frame changed; where some went below others, what these hide goes along.
+  follow(entities, isForest) {
+    if (isForest && this.editor.sights.sets.hidden.size > 0) this.known = null;
+    if (this.changed.push(entities) > MOST_CHANGES) Object.assign(this, { known: null, changed: [] });
+  }
+
+  // All points are read anew where the state is another one, or the axes, or what is hidden.
+  followPoints() {
+    const { points, changed, axes: { x, y }, editor: { mirror: { state }, sights } } = this;
+    const isHidden = (entity) => sights.holds("hidden", entity);
+    const now = { state, x, y, turns: sights.turns };
+    const isSame = this.known !== null && Object.keys(now).every((key) => now[key] === this.known[key]);
+    if (!isSame) points.read(state.rows, { x, y }, isHidden);
+    else for (const entities of changed) points.follow(entities, state.rows, { x, y }, isHidden);
+    Object.assign(this, { known: now, changed: [] });
   }
 
   // The bounds grow with what is there, and shrink only where it takes less than half: so the picture stays calm.
   boundsNow() {
     return ["x", "y"].map((axis, at) => {
-      let [least, most] = [Infinity, -Infinity];
-      for (const point of this.points) {
-        least = Math.min(least, point[axis]);
-        most = Math.max(most, point[axis]);
-      }
-      if (least > most) [least, most] = [0, 1];
+      const [least, most] = this.points.span(axis) ?? [0, 1];
       const before = this.bounds?.[at];
       if (!before || (most - least) * 2 < before[1] - before[0]) return [least, most];
       return [Math.min(least, before[0]), Math.max(most, before[1])];
@@ -141,27 +160,51 @@ export class Picture {
   measure() {
     const { clientWidth: width, clientHeight: height } = this.canvas;
     this.camera.size = { width: Math.max(1, width), height: Math.max(1, height) };
+    this.show();
   }
 
   draw() {
     if (this.axes === null || this.axes === undefined) return;
-    const { canvas, camera, points, editor } = this;
-    const { width, height } = camera.size;
+    const { camera, points, editor } = this;
     const dots = devicePixelRatio;
-    Object.assign(canvas, { width: width * dots, height: height * dots });
-    const pen = canvas.getContext("2d");
-    const style = getComputedStyle(canvas);
-    const color = (name) => style.getPropertyValue(name);
-    pen.scale(dots, dots);
-    this.drawGrid(pen, color("--line"));
-    this.drawNames(pen, color("--text"), color("--paper"));
-    const isMany = points.length > MANY;
-    pen.fillStyle = style.color;
-    for (const point of points) this.dot(pen, point, isMany ? 1.5 : 3, isMany);
-    pen.fillStyle = color("--changed");
-    const chosen = editor.chosen.entities.size > 0 ? points.filter(({ entity }) => editor.chosen.has(entity)) : [];
-    for (const point of chosen) this.dot(pen, point, isMany ? 3.5 : 5, isMany);
+    const pen = this.emptied(dots);
+    this.colors ??= this.colorsNow();
+    const { line, text, paper, accent, changed } = this.colors;
+    this.drawGrid(pen, line);
+    this.drawNames(pen, text, paper);
+    this.drawPoints(pen, accent, dots);
+    pen.fillStyle = changed;
+    const chosen = points.among(editor.chosen.entities).map((point) => this.moving.shown(point));
+    if (points.length > MANY) drawSquares(pen, camera, chosen, CHOSEN_OF_MANY);
+    else drawFew(pen, camera, chosen, CHOSEN);
     this.say();
+  }
+
+  // The canvas without anything on it, whose pixels are as fine as those of the screen.
+  emptied(dots) {
+    const { canvas, camera } = this;
+    const [width, height] = [camera.size.width, camera.size.height].map((each) => Math.floor(each * dots));
+    if (canvas.width !== width || canvas.height !== height) Object.assign(canvas, { width, height });
+    const pen = canvas.getContext("2d");
+    pen.setTransform(dots, 0, 0, dots, 0, 0);
+    pen.clearRect(0, 0, camera.size.width, camera.size.height);
+    return pen;
+  }
+
+  // Those of the scheme, which are asked for once: to ask costs a layout.
+  colorsNow() {
+    const style = getComputedStyle(this.canvas);
+    const named = ["line", "text", "paper", "changed"].map((name) => [name, style.getPropertyValue(`--${name}`)]);
+    return { ...Object.fromEntries(named), accent: style.color };
+  }
+
+  drawPoints(pen, color, dots) {
+    const { points, camera, moving } = this;
+    pen.fillStyle = color;
+    const few = points.length > MANY ? points.among(moving.elsewhere()) : points.all();
+    const isLeftOut = few.length === 0 ? null : (entity) => moving.isElsewhere(entity);
+    if (points.length > MANY) this.squares.draw(pen, camera, points, { color, dots, isLeftOut });
+    drawFew(pen, camera, few.map((point) => moving.shown(point)));
   }
 
   drawGrid(pen, color) {
@@ -182,41 +225,38 @@ export class Picture {
     pen.stroke();
   }
 
-  dot(pen, point, size, isSquare) {
-    const place = this.camera.place(this.moving.shown(point));
-    if (!this.camera.shows(place)) return;
-    if (isSquare) return void pen.fillRect(place[0] - size, place[1] - size, 2 * size, 2 * size);
-    pen.beginPath();
-    pen.arc(place[0], place[1], size, 0, 2 * Math.PI);
-    pen.fill();
-  }
-
   // Names stand where few things are in sight, and none over another; those of the chosen come first.
   drawNames(pen, color, ground) {
     const { camera, editor } = this;
     const isChosen = ({ entity }) => editor.chosen.has(entity);
-    const some = this.points.length > MANY ? this.points.filter(isChosen) : this.points;
+    const some = this.points.length > MANY ? this.points.among(editor.chosen.entities) : this.points.all();
     const seen = some.filter((point) => camera.shows(camera.place(point)));
     const named = seen.length <= MOST_NAMES ? seen : seen.filter(isChosen).slice(0, MOST_NAMES);
     const order = [...named.filter(isChosen), ...named.filter((point) => !isChosen(point))];
     const taken = [];
+    // (to set a font costs as much as many points)
+    if (order.length === 0) return;
     Object.assign(pen, { font: "11px system-ui, sans-serif", textBaseline: "middle" });
     Object.assign(pen, { lineWidth: 3, strokeStyle: ground });
     for (const point of order) {
       const [left, top] = camera.place(this.moving.shown(point));
       const text = called(editor.mirror, point.entity);
-      const area = [left + 8, top - 7, left + 8 + pen.measureText(text).width, top + 7];
+      const { width } = pen.measureText(text);
+      // Where there is no room on the right it stands on the left.
+      const from = left + 8 + width > camera.size.width ? left - 8 - width : left + 8;
+      const area = [from, top - 7, from + width, top + 7];
       if (taken.some((each) => overlap(area, each))) continue;
       taken.push(area);
-      pen.strokeText(text, left + 8, top);
+      pen.strokeText(text, from, top);
       pen.fillStyle = color;
-      pen.fillText(text, left + 8, top);
+      pen.fillText(text, from, top);
     }
   }
 
   say() {
     const { axes: { x, y }, bounds: [[left, right], [bottom, top]], moving, points } = this;
     const { by } = moving;
+    if (points.length === 0) return void (this.words.textContent = counted(0, "entity", "entities"));
     const move = moving.isUnderWay() ? `; moving by ${by.x},${by.y}` : "";
     const where = `${x.text} ${left} to ${right}, ${y.text} ${bottom} to ${top}`;
     this.words.textContent = `${counted(points.length, "entity", "entities")}; ${where}${move}`;
@@ -244,11 +284,12 @@ export class Picture {
 
   nearest(left, top) {
     let [near, least] = [null, NEAR];
-    for (const point of this.points) {
-      const [x, y] = this.camera.place(point);
-      const far = Math.hypot(x - left, y - top);
-      if (far >= least || this.editor.sights.holds("locked", point.entity)) continue;
-      [near, least] = [point.entity, far];
+    const { points, camera, editor } = this;
+    const { x, y } = camera.at(left, top);
+    for (let place = 0; place < points.length; place += 1) {
+      const far = Math.hypot((points.x[place] - x) * camera.scale.x, (points.y[place] - y) * camera.scale.y);
+      if (far >= least || editor.sights.holds("locked", points.entities[place])) continue;
+      [near, least] = [points.entities[place], far];
     }
     return near;
   }
@@ -323,7 +364,7 @@ export class Picture {
   chooseNext(step) {
     const { points, editor } = this;
     if (points.length === 0) return;
-    const at = points.findIndex(({ entity }) => entity === editor.chosen.last);
-    editor.choose(points.at((at < 0 && step < 0 ? 0 : at + step) % points.length).entity);
+    const at = points.places.get(editor.chosen.last) ?? -1;
+    editor.choose(points.entities.at((at < 0 && step < 0 ? 0 : at + step) % points.length));
   }
 }

@@ -2,9 +2,13 @@
 // play, by undos of all frames since.
 
 import { ask } from "./ask.js";
+import { withNames } from "./names.js";
 import { capital, counted, who, wordsOf } from "./sentences.js";
 
 const BETWEEN_STEPS = 1000 / 30;
+const MOST_LATE = 3 * BETWEEN_STEPS;
+// Of two that a browser hears of within one of its own frames it draws one.
+const LEAST_BETWEEN = 1000 / 60;
 const MOST_WAIT = 5000;
 
 function wait(milliseconds) {
@@ -42,8 +46,9 @@ export class Play {
     if (this.base === null || this.total() < this.base) Object.assign(this, { base: this.total(), count: 0 });
   }
 
-  // One advance after the other, none before the one before it is answered. A refusal ends it. A play that was paused
-  // may still wait for its last answer when the next one begins, and doesn't go on beside it.
+  // One advance after the other: while one is on its way the next is sent, but none before the one before that is
+  // answered. A refusal ends it. A play that was paused may still wait for its last answer when the next one begins,
+  // and doesn't go on beside it.
   async play() {
     if (this.isPlaying) return;
     this.begin();
@@ -52,17 +57,23 @@ export class Play {
     const { turn } = this;
     this.show();
     this.editor.say("Playing. Stop gives back the level as it was.");
+    let [due, before] = [performance.now(), true];
     while (this.isPlaying && turn === this.turn) {
-      const began = performance.now();
-      if (!(await this.advance())) this.isPlaying = false;
-      await wait(Math.max(0, BETWEEN_STEPS - (performance.now() - began)));
+      const sent = this.advance();
+      if (!(await before)) this.isPlaying = false;
+      before = sent;
+      // (what was late isn't made up for by more than some steps)
+      due = Math.max(due + BETWEEN_STEPS, performance.now() - MOST_LATE);
+      await wait(Math.max(LEAST_BETWEEN, due - performance.now()));
     }
     this.show();
   }
 
+  // Whether an advance is done.
   async advance() {
-    this.advancing = this.editor.send(["advance"]);
-    const isDone = await this.advancing;
+    const sent = this.editor.send(["advance"], undefined, { beside: true });
+    this.advancing = Promise.all([this.advancing, sent]);
+    const isDone = await sent;
     if (isDone) this.count += 1;
     return isDone;
   }
@@ -111,7 +122,8 @@ export class Play {
   }
 
   async mayTake(others) {
-    const tell = ({ session, words }) => `${capital(who(session))}: ${wordsOf(words)}`;
+    const { mirror } = this.editor;
+    const tell = ({ session, words }) => `${capital(who(session))}: ${withNames(mirror, wordsOf(words))}`;
     const told = others.slice(0, 3).map(tell).join("; ");
     const more = others.length > 3 ? ` and ${others.length - 3} more` : "";
     const words = `These frames came since the play began, and would be taken back too: ${told}${more}.`;

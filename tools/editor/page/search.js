@@ -1,5 +1,5 @@
-// What a search and the filter by a kind find. The text of each entity is made once, and anew after its cells changed:
-// so a search over a large scene costs a walk over texts.
+// What a search and the filter by a kind find. The text of each row is made once, and anew after its cells changed: so
+// a search over a large scene costs a walk over texts. What was found is kept up by what changes.
 
 import { named, rowCells } from "./words.js";
 import { part } from "./parts.js";
@@ -16,7 +16,7 @@ function cellText(kinds, [kind, value]) {
 
 export class Search {
   constructor(editor) {
-    Object.assign(this, { editor, texts: new Map(), waiting: null });
+    Object.assign(this, { editor, waiting: null, matched: null, asked: null, changed: null });
     const at = (id) => document.getElementById(id);
     Object.assign(this, { field: at("search"), filter: at("filter") });
     this.field.addEventListener("input", () => editor.touch(["search"]));
@@ -32,14 +32,16 @@ export class Search {
     event.preventDefault();
   }
 
-  // Entities whose cells changed, or null where all did.
-  forget(entities) {
-    if (entities === null) {
-      this.texts.clear();
-      this.prepare();
-    } else {
-      for (const entity of entities) this.texts.delete(entity);
-    }
+  // The scene is another one.
+  begin() {
+    this.changed = null;
+    this.prepare();
+  }
+
+  // Entities that a frame changed.
+  follow(entities) {
+    if (this.matched === null) return;
+    for (const entity of entities) this.changed?.add(entity);
   }
 
   // Makes texts while nothing else is to be done, some at a time.
@@ -58,12 +60,9 @@ export class Search {
   }
 
   textOf(row) {
-    const known = this.texts.get(row.entity);
-    if (known !== undefined) return known;
     const { kinds } = this.editor.mirror;
-    const text = [row.entity, ...rowCells(row).map((cell) => cellText(kinds, cell))].join(" ").toLowerCase();
-    this.texts.set(row.entity, text);
-    return text;
+    const text = () => [row.entity, ...rowCells(row).map((cell) => cellText(kinds, cell))].join(" ").toLowerCase();
+    return (row.cells.text ??= text());
   }
 
   showKinds() {
@@ -78,33 +77,59 @@ export class Search {
     this.filter.value = mirror.kindNamed(value) >= 0 ? value : "";
   }
 
-  isAsked() {
-    return this.field.value.trim() !== "" || this.filter.value !== "";
+  // What a row has to have that is found, or null where nothing is asked.
+  test() {
+    const words = this.words();
+    const { mirror } = this.editor;
+    const kind = this.filter.value === "" ? null : mirror.kindNamed(this.filter.value);
+    if (words.length === 0 && kind === null) return null;
+    const has = (row) => {
+      const text = this.textOf(row);
+      return words.every((word) => text.includes(word));
+    };
+    return (row) => (kind === null || row.cells.has(kind)) && (words.length === 0 || has(row));
   }
 
-  // The entities found, or null where nothing is asked.
-  found() {
-    if (!this.isAsked()) return null;
-    const { state } = this.editor.mirror;
-    const words = this.field.value.toLowerCase().split(/\s+/).filter((word) => word !== "");
-    const kind = this.filter.value === "" ? null : this.editor.mirror.kindNamed(this.filter.value);
+  words() {
+    return this.field.value.toLowerCase().split(/\s+/).filter((word) => word !== "");
+  }
+
+  // Looks through all where something else is asked, or else at what changed since. Whether other entities are found
+  // than before.
+  look() {
+    const test = this.test();
+    const asked = JSON.stringify([this.field.value, this.filter.value]);
+    if (test !== null && asked === this.asked && this.changed !== null) return this.lookAtChanged(test);
+    const isOther = test !== null || this.matched !== null;
+    Object.assign(this, { asked, changed: new Set(), matched: test && this.lookThroughAll(test) });
+    return isOther;
+  }
+
+  lookThroughAll(test) {
     const matched = new Set();
-    for (const row of state.rows.values()) {
-      if (kind !== null && !row.cells.has(kind)) continue;
-      if (words.length === 0 || this.holds(row, words)) matched.add(row.entity);
-    }
+    for (const row of this.editor.mirror.state.rows.values()) if (test(row)) matched.add(row.entity);
     return matched;
   }
 
-  holds(row, words) {
-    const text = this.textOf(row);
-    return words.every((word) => text.includes(word));
+  lookAtChanged(test) {
+    const { matched, changed } = this;
+    const { rows } = this.editor.mirror.state;
+    let isOther = false;
+    for (const entity of changed) {
+      const isFound = rows.has(entity) && test(rows.get(entity));
+      if (isFound === matched.has(entity)) continue;
+      if (isFound) matched.add(entity);
+      else matched.delete(entity);
+      isOther = true;
+    }
+    changed.clear();
+    return isOther;
   }
 
   // The cells in which a hit has what was searched for, for its line; its name is there already.
   why(entity) {
     const { mirror } = this.editor;
-    const words = this.field.value.toLowerCase().split(/\s+/).filter((word) => word !== "");
+    const words = this.words();
     const row = mirror.state.rows.get(entity);
     const cells = rowCells(row).filter(([kind]) => kind !== mirror.nameKind);
     const texts = cells.map((cell) => cellText(mirror.kinds, cell));

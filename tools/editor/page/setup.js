@@ -1,5 +1,6 @@
 // The setup of a new scene: its kinds, until the first other line; or an example, which is played into it.
 
+import { shapeOptions } from "./new_kind.js";
 import { part } from "./parts.js";
 
 const LEVEL = Object.entries({ Name: "Text", Place: "Vec3", Health: "Int", Lit: "Tag", Target: "Link" });
@@ -10,6 +11,7 @@ export class Setup {
     const at = (id) => document.getElementById(id);
     Object.assign(this, { form: at("setup"), kinds: at("setup-kinds") });
     Object.assign(this, { name: at("setup-name"), shape: at("setup-shape") });
+    this.shape.replaceChildren(...shapeOptions());
     this.form.addEventListener("submit", (event) => this.add(event));
     const words = "The kinds are complete; spawn the first entity.";
     at("setup-end").addEventListener("click", () => this.end(words));

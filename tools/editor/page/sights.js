@@ -1,5 +1,5 @@
 // What a tab hides in its picture and locks against the mouse: with each entity all below it. It is the tab's own view
-// and no part of the scene.
+// and no part of the scene. `turns` counts the changes.
 
 const KEY = "sights";
 
@@ -7,6 +7,7 @@ export class Sights {
   constructor(editor) {
     this.editor = editor;
     const kept = JSON.parse(sessionStorage.getItem(KEY) ?? "{}");
+    this.turns = 0;
     this.sets = { hidden: new Set(kept.hidden), locked: new Set(kept.locked) };
   }
 
@@ -25,6 +26,7 @@ export class Sights {
 
   turn(sort, entities) {
     const set = this.sets[sort];
+    this.turns += 1;
     const isOn = entities.some((entity) => !set.has(entity));
     for (const entity of entities) {
       if (isOn) set.add(entity);

@@ -3,25 +3,27 @@
 
 import { fillChange } from "./fills.js";
 import { ListInSight } from "./in_sight.js";
-import { changeLines } from "./lines.js";
+import { changeLines, Lines } from "./lines.js";
 import { withNames } from "./names.js";
 import { part } from "./parts.js";
-import { capital, counted, who } from "./sentences.js";
+import { capital, who } from "./sentences.js";
 
 const CHUNK = 200;
 const ASK_AGAIN_AFTER = 200;
 
 export class Strip {
   constructor(editor) {
-    Object.assign(this, { editor, lines: [], far: new Map(), asked: new Set(), shown: null });
+    Object.assign(this, { editor, far: new Map(), asked: new Set(), shown: null });
     const at = (id) => document.getElementById(id);
     Object.assign(this, { position: at("position"), title: at("changes-title"), empty: at("changes-empty") });
     this.list = new ListInSight(at("strip"), {
-      fill: (element, line) => this.fill(element, line), fold: () => {}, select: (line) => this.goTo(line.number),
+      fill: (element, line) => this.fill(element, line), sign: (line) => JSON.stringify(this.say(line)),
+      fold: () => {}, select: (line) => this.goTo(line.number),
       moved: (line) => this.showChanges(line.number),
     });
     this.changes = new ListInSight(at("changes"), {
-      fill: fillChange, fold: () => {}, select: (line) => line.entity !== undefined && editor.choose(line.entity),
+      fill: fillChange, sign: ({ sort, entity, text }) => JSON.stringify([sort, entity, text]), fold: () => {},
+      select: (line) => line.entity !== undefined && editor.choose(line.entity),
     });
     at("to-now").addEventListener("click", () => this.goToFrame(this.now()));
     new ResizeObserver(() => this.isFollowing && this.list.goTo(this.list.active)).observe(this.list.box);
@@ -41,33 +43,38 @@ export class Strip {
   show() {
     const { mirror } = this.editor;
     const count = mirror.numberOf(mirror.records.length) + mirror.later;
-    if (this.lines.length > count + 1) this.lines.length = count + 1;
-    for (let number = this.lines.length; number <= count; number += 1) {
-      this.lines.push({ sort: "frame", key: number, number });
-    }
-    const isWalking = document.activeElement === this.list.box && this.list.active !== this.before;
-    this.list.show(this.lines);
+    const placeOf = (number) => (number <= count ? number : -1);
+    const lines = new Lines(count + 1, (number) => ({ sort: "frame", key: number, number }), placeOf);
     // Who walks through the frames by keys stays where they are; else the line of now stays in sight.
+    const isWalking = document.activeElement === this.list.box && this.list.active !== this.before;
+    this.list.show(lines, isWalking ? undefined : this.now());
     if (isWalking) this.showChanges(this.list.active);
-    else this.list.goTo(this.now());
     this.isFollowing = !isWalking;
     this.before = this.now();
     const future = count - this.now();
-    this.position.textContent = `${counted(this.now(), "frame")} of the past, ${future} of the future`;
+    this.position.textContent = `${this.now()} past, ${future} future`;
   }
 
-  fill(element, { number }) {
+  // What stands on the line of a frame.
+  say({ number }) {
     const now = this.now();
-    if (number > now) element.classList.add("future");
-    if (number === now) element.setAttribute("aria-current", "true");
-    element.append(part("span", "now", number === now ? "now" : ""));
-    if (number === 0) return void element.append(part("span", "number", ""), part("span", "count", "the beginning"));
+    const when = number === now ? "now" : number > now ? "future" : "past";
+    if (number === 0) return { when, number: "", by: "the beginning", text: "" };
     const frame = this.frameOf(number);
-    const words = withNames(this.editor.mirror, frame?.words.join("; ") ?? "…");
-    const text = words || "an empty frame";
-    const by = frame === undefined ? "" : capital(who(frame.session));
-    element.append(part("span", "number", String(number)), part("span", "count by", by), part("span", "text", text));
-    element.title = frame?.words.join("; ") ?? text;
+    const words = frame?.words.join("; ") ?? "…";
+    const text = withNames(this.editor.mirror, words) || "an empty frame";
+    return { when, number, by: frame === undefined ? "" : capital(who(frame.session)), text, title: words || text };
+  }
+
+  fill(element, line) {
+    const { when, number, by, text, title } = this.say(line);
+    if (when === "future") element.classList.add("future");
+    if (when === "now") element.setAttribute("aria-current", "true");
+    element.append(
+      part("span", "now", when === "now" ? "now" : ""), part("span", "number", String(number)),
+      part("span", "count by", by), part("span", "text", text),
+    );
+    if (title !== undefined) element.title = title;
   }
 
   frameOf(number) {
@@ -92,9 +99,11 @@ export class Strip {
   // Says what a frame changed, as the line that is active there.
   showChanges(number) {
     const { mirror } = this.editor;
-    const record = mirror.records[number - mirror.older - 1];
-    const isFar = number > 0 && record === undefined;
+    const position = number - mirror.older;
+    const record = mirror.recordAt(position);
+    const isFar = number > 0 && mirror.records[position - 1] === undefined;
     this.title.textContent = number === 0 ? "What a frame changed" : `What frame ${number} changed`;
+    if (mirror.isToRead(position)) return void setTimeout(() => this.editor.readRecord(position));
     this.empty.textContent = isFar ? "Its changes aren't held any more; Enter goes there." : "Nothing: choose a frame.";
     this.empty.hidden = (record?.deltas.length ?? 0) > 0;
     if (this.shown === record) return;

@@ -2,6 +2,7 @@
 
 import { showFault } from "./field_faults.js";
 import { ListInSight } from "./in_sight.js";
+import { linesOf } from "./lines.js";
 import { part } from "./parts.js";
 import { systemText, systemTyped } from "./typed.js";
 
@@ -20,10 +21,10 @@ export class Systems {
 
   show() {
     const { mirror } = this.editor;
-    const lines = mirror.phases.flatMap((phase, at) => [
+    const lines = linesOf(mirror.phases.flatMap((phase, at) => [
       { sort: "phase", key: `phase ${at}`, text: `phase ${at + 1}` },
       ...phase.map((each, place) => ({ sort: "system", key: `${at} ${place}`, text: systemText(mirror, each) })),
-    ]);
+    ]));
     this.list.show(lines);
     this.empty.hidden = lines.length > 0;
   }

@@ -1,6 +1,6 @@
 // The tables: each kind set with its rows. Keys go from cell to cell, and a cell is edited in place by its shape.
 
-import { fillTable } from "./fills.js";
+import { fillTable, sayCell } from "./fills.js";
 import { linkText } from "./links.js";
 import { called } from "./names.js";
 import { part } from "./parts.js";
@@ -17,7 +17,9 @@ export class Tables {
     Object.assign(this, { editor, folds: newFolds(true), column: 0 });
     this.box = document.getElementById("tables");
     this.list = new ListInSight(this.box, {
-      fill: (element, line) => this.fill(element, line), fold: (line) => this.turn(line),
+      fill: (element, line) => this.fill(element, line), around: (line, isActive) => this.around(line, isActive),
+      sign: ({ row }) => JSON.stringify(row?.cells.cells), renew: (element, line) => this.renew(element, line),
+      fold: (line) => this.turn(line),
       select: (line, event, target) => this.selected(line, event, target),
       press: (event, line) => this.pressed(event, line),
     });
@@ -56,6 +58,33 @@ export class Tables {
     if (line.sort === "row") element.setAttribute("aria-selected", this.editor.chosen.has(line.entity));
     const cell = line.sort === "row" && isActive ? element.children[column + 1] : undefined;
     if (cell !== undefined) cell.id = "tables-cell";
+  }
+
+  // All that is shown of a line, but for its cells.
+  around(line, isActive) {
+    const { kinds, marks, isChosen } = this.editor.view();
+    if (line.sort === "rest") return line.text;
+    const names = (line.table ?? line.row.table).kinds.map((kind) => kinds[kind]);
+    if (line.sort === "table") return JSON.stringify([names, line.rows]);
+    const { entity, row } = line;
+    const { sort, kinds: written = [] } = marks.entities.get(entity) ?? {};
+    const { mirror } = this.editor;
+    const links = row.cells.cells.map(([value], at) => (names[at]?.[1] === "Link" ? linkText(mirror, value) : ""));
+    const state = [isActive && this.column, isChosen(entity), sort, [...written]];
+    return JSON.stringify([names, links, ...state]);
+  }
+
+  // Writes what changed in the cells of a row; that to which a link goes is the same.
+  renew(element, { row }) {
+    if (row === undefined) return;
+    const { kinds } = this.editor.mirror;
+    row.table.kinds.forEach((kind, at) => {
+      const [cell, shape] = [element.children[at + 1], kinds[kind][1]];
+      const { text, title } = sayCell(shape, row.cells.cells[at]);
+      if (cell.title === title) return;
+      cell.title = title;
+      if (shape !== "Link") cell.firstChild.data = text;
+    });
   }
 
   // A link stands by its name.

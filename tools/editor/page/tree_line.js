@@ -5,13 +5,19 @@ import { MOST_INDENTS } from "./lines.js";
 import { called, hueOf, insteadOfName, markKind, nameOf } from "./names.js";
 import { part, SIGNS } from "./parts.js";
 
-function mark(mirror, entity, counts) {
-  const kind = markKind(mirror, entity, counts);
+// The letter, the hue and the words of the mark.
+function markOf(mirror, entity, counts) {
   const { kinds } = mirror;
-  const badge = part("span", "mark", kind === undefined ? "·" : kinds[kind][0].charAt(0).toUpperCase());
-  const names = mirror.state.rows.get(entity).table.kinds.map((each) => kinds[each][0]);
-  badge.title = names.join(", ") || "no components";
-  if (kind !== undefined) badge.style.color = `hsl(${hueOf(kind)} 60% var(--light))`;
+  const kind = markKind(mirror, entity, counts);
+  const words = mirror.state.rows.get(entity).table.kinds.map((each) => kinds[each][0]).join(", ") || "no components";
+  if (kind === undefined) return { letter: "·", words };
+  return { letter: kinds[kind][0].charAt(0).toUpperCase(), hue: hueOf(kind), words };
+}
+
+function mark({ letter, hue, words }) {
+  const badge = part("span", "mark", letter);
+  badge.title = words;
+  if (hue !== undefined) badge.style.color = `hsl(${hue} 60% var(--light))`;
   return badge;
 }
 
@@ -25,35 +31,47 @@ function flag(sort, isOn, drawing, label) {
   return button;
 }
 
-export function fillTreeLine(element, line, { editor, counts }) {
-  const { mirror, sights, marks, matched } = editor;
-  const { entity } = line;
+// All that stands on the line of an entity that lives.
+export function sayTreeLine({ entity, level, children, isOpen }, { editor, counts }) {
+  const { mirror, sights, matched } = editor;
   const name = nameOf(mirror, entity);
-  const indent = Math.min(line.level, MOST_INDENTS);
+  const isHit = matched !== null && matched.has(entity);
+  return {
+    entity, level, children, isOpen, name, isHit, isContext: matched !== null && !isHit,
+    shown: name ?? insteadOfName(mirror, entity), mark: markOf(mirror, entity, counts), called: called(mirror, entity),
+    change: editor.marks.entities.get(entity)?.sort, isChosen: editor.chosen.has(entity),
+    isHidden: sights.holds("hidden", entity), isLocked: sights.holds("locked", entity),
+    flags: { hidden: sights.has("hidden", entity), locked: sights.has("locked", entity) },
+    why: isHit ? editor.searching.why(entity) : "",
+  };
+}
+
+function fillClasses(element, said) {
+  if (said.change) element.classList.add(said.change);
+  const classes = { chosen: said.isChosen, hit: said.isHit, context: said.isContext, "is-hidden": said.isHidden };
+  for (const [name, isOn] of Object.entries(classes)) element.classList.toggle(name, isOn);
+}
+
+export function fillTreeLine(element, said) {
+  const { entity, name, shown, change, children, isOpen, flags } = said;
+  const indent = Math.min(said.level, MOST_INDENTS);
   element.style.paddingLeft = `${4 + 14 * indent}px`;
   element.dataset.entity = entity;
-  const change = marks.entities.get(entity);
-  if (change) element.classList.add(change.sort);
-  element.classList.toggle("chosen", editor.chosen.has(entity));
-  const shown = name ?? insteadOfName(mirror, entity);
-  element.setAttribute("aria-label", `${shown}, ${entity}${change ? `, ${change.sort}` : ""}`);
-  const isHit = matched !== null && matched.has(entity);
-  element.classList.toggle("hit", isHit);
-  element.classList.toggle("context", matched !== null && !isHit);
-  element.classList.toggle("is-hidden", sights.holds("hidden", entity));
-  const end = part("span", "end", "");
-  const isOn = (sort) => sights.has(sort, entity);
-  end.append(
-    flag("hidden", isOn("hidden"), "eye", `hide ${called(mirror, entity)} in the picture (h)`),
-    flag("locked", isOn("locked"), "lock", `lock ${called(mirror, entity)} (k)`), part("span", "id", entity),
+  fillClasses(element, said);
+  element.setAttribute("aria-label", `${shown}, ${entity}${change ? `, ${change}` : ""}`);
+  element.setAttribute("aria-selected", said.isChosen);
+  element.draggable = !said.isLocked;
+  const [end, switches] = [part("span", "end", ""), part("span", "flags", "")];
+  switches.append(
+    flag("hidden", flags.hidden, "eye", `hide ${said.called} in the picture (h)`),
+    flag("locked", flags.locked, "lock", `lock ${said.called} (k)`),
   );
-  const level = line.level > indent ? `level ${line.level + 1} ` : "";
+  end.append(switches, part("span", "id", entity));
   element.append(
-    part("span", "fold", line.children === 0 ? "" : line.isOpen ? "▾" : "▸"), mark(mirror, entity, counts),
-    part("span", "count", level),
+    part("span", "fold", children === 0 ? "" : isOpen ? "▾" : "▸"), mark(said.mark),
+    part("span", "count", said.level > indent ? `level ${said.level + 1} ` : ""),
     part("span", `name${name === null ? " none" : ""}`, shown),
-    part("span", "count", line.children > 0 && !line.isOpen ? `(${line.children})` : ""),
-    part("span", "sign", change ? SIGNS[change.sort] : ""),
-    part("span", "text", isHit ? editor.searching.why(entity) : ""), end,
+    part("span", "count", children > 0 && !isOpen ? `(${children})` : ""),
+    part("span", "sign", change ? SIGNS[change] : ""), part("span", "text", said.why), end,
   );
 }

@@ -25,8 +25,12 @@ const BY_SHAPE = {
   Link: (typed, mirror) => linkTyped(mirror, typed),
 };
 
+export const SHAPES = {
+  Text: "any characters", Int: "a whole number", Vec3: "three whole numbers", Tag: "there or not", Link: "an entity",
+};
+
 export const HINTS = {
-  Tag: "no value", Int: "a whole number", Vec3: "1,-2,3", Text: "any text", Link: "a name or 0v1",
+  Tag: "no value", Int: "number", Vec3: "1,-2,3", Text: "text", Link: "name or 0v1",
 };
 
 // `{ value }` as a request has it, or `{ fault }` in words.

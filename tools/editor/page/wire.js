@@ -1,50 +1,31 @@
 // The page's speech with the server: it joins as a session, sends lines, and hears events.
 
+import { joined, postForText } from "./early.js";
+
 const AGAIN_AFTER = 1000;
 const FULL_AGAIN_AFTER = 2000;
 // A browser keeps six connections to a server, and each tab that listens has one. So one that isn't looked at stops.
 const STOP_HIDDEN_AFTER = 30000;
 
-// The id by which a tab has its session again when it is loaded anew. It is kept only while no page of the tab runs: a
-// copy of the tab finds none, and so isn't taken for it.
-function takeId() {
-  const kept = sessionStorage.getItem("tab");
-  sessionStorage.removeItem("tab");
-  return kept ?? crypto.getRandomValues(new Uint32Array(4)).join("-");
-}
-
 export class Wire {
-  // `joined` gets the answer to a join, `heard` each event, and `lost` says in words what is wrong, or null.
+  // `joined` gets the answer to a join, and `heard` each event, with the records that come along as texts; `lost` says
+  // in words what is wrong, or null.
   constructor({ joined, heard, lost }) {
     Object.assign(this, { joined, heard, lost, session: null, after: 0, events: null, last: Promise.resolve() });
-    Object.assign(this, { tab: takeId(), seat: null });
-    addEventListener("pagehide", () => this.hidden());
-    addEventListener("pageshow", (event) => event.persisted && this.shownAgain());
+    this.seat = null;
+    addEventListener("pagehide", () => this.leave());
+    addEventListener("pageshow", (event) => event.persisted && this.join());
     document.addEventListener("visibilitychange", () => this.looked());
   }
 
-  hidden() {
-    sessionStorage.setItem("tab", this.tab);
-    this.leave();
-  }
-
-  shownAgain() {
-    this.tab = takeId();
-    this.join();
-  }
-
   async post(path, body) {
-    const answer = await fetch(path, { method: "POST", body: JSON.stringify(body) });
-    if (!answer.ok) throw new Error((await answer.text()).trim() || `status ${answer.status}`);
-    return answer.json();
+    return JSON.parse(await postForText(path, body));
   }
 
-  // Joins, as the session that this tab was before. A server that was begun anew knows no id, so it is told that too.
   async join() {
-    const before = sessionStorage.getItem("session");
-    const { tab } = this;
     try {
-      const answer = await this.post("join", before === null ? { tab } : { tab, session: Number(before) });
+      const [first, ...records] = (await joined()).split("\n");
+      const answer = JSON.parse(first);
       if (answer.refused !== undefined) {
         this.lost(`${answer.refused}. Close one; this one tries again.`);
         return void setTimeout(() => this.join(), FULL_AGAIN_AFTER);
@@ -54,7 +35,7 @@ export class Wire {
       this.after = answer.scene.sequence;
       sessionStorage.setItem("session", answer.session);
       this.lost(null);
-      this.joined(answer);
+      this.joined(answer, records);
       this.listen();
     } catch (fault) {
       this.again(fault);
@@ -86,19 +67,21 @@ export class Wire {
     if (id <= this.after) return;
     this.after = id;
     try {
-      this.heard(JSON.parse(data));
+      const [first, ...records] = data.split("\n");
+      this.heard(JSON.parse(first), records);
     } catch (fault) {
       setTimeout(() => this.join());
       throw fault;
     }
   }
 
-  // The lines go as one, after those that were sent before. `words` are those of the frame that they are, and `seen`
-  // has entities with a kind and the tick at which its cell was seen to have changed: where one is newer, nothing is
-  // done.
-  call(lines, { words, seen } = {}) {
-    const answer = this.last.then(() => this.post("call", { session: this.session, lines, words, seen }));
-    this.last = answer.catch(() => {});
+  // The lines go as one, after those that were sent before are answered, but for lines that may go `beside` others.
+  // `words` are those of the frame that they are, and `seen` has entities with a kind and the tick at which its cell
+  // was seen to have changed: where one is newer, nothing is done.
+  call(lines, { words, seen, beside = false } = {}) {
+    const send = () => this.post("call", { session: this.session, lines, words, seen });
+    const answer = beside ? send() : this.last.then(send);
+    this.last = Promise.allSettled([this.last, answer]);
     return answer;
   }
 

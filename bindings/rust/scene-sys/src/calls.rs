@@ -8,7 +8,7 @@ unsafe extern "C" {
     pub fn scene_close(s: *mut *mut scene);
     /// Plays a line of a script: `len` bytes of UTF-8 without the line break. The text of its answer is kept.
     pub fn scene_line(s: *mut *mut scene, line: *const u8, len: usize) -> scene_code;
-    /// Plays a request: `len` bytes of a JSON object in place of a line. The text of the line's answer is kept.
+    /// Plays a request: `len` bytes of a JSON object in place of a line, or a question. The text of the answer is kept.
     pub fn scene_request(s: *mut *mut scene, request: *const u8, len: usize) -> scene_code;
     /// The length of the text that is kept; its first `room` bytes go to `at`, which may be null where `room` is 0.
     pub fn scene_answer(s: *mut *mut scene, at: *mut u8, room: usize) -> usize;
@@ -26,7 +26,7 @@ unsafe extern "C" {
     pub fn scene_reader(s: *mut *mut scene, out: *mut *mut scene) -> scene_code;
     /// Makes a shared scene the one pointer's alone that is left, so that it changes again.
     pub fn scene_unshare(s: *mut *mut scene) -> scene_code;
-    /// Declares a kind in the setup, and tells its number.
+    /// Declares a kind, at any time, and tells its number.
     pub fn scene_declare(s: *mut *mut scene, name: *const u8, len: usize, shape: u32, kind: *mut u32) -> scene_code;
     /// Sets of how many frames a record is kept, at any time: those beyond it are forgotten.
     pub fn scene_set_depth(s: *mut *mut scene, depth: u32) -> scene_code;
@@ -46,9 +46,9 @@ unsafe extern "C" {
     pub fn scene_undo(s: *mut *mut scene) -> scene_code;
     /// Does the newest frame that was taken back again.
     pub fn scene_redo(s: *mut *mut scene) -> scene_code;
-    /// Takes the `count` newest frames back, where there are so many.
+    /// Takes the `count` newest frames back, all of them or none.
     pub fn scene_undo_by(s: *mut *mut scene, count: usize) -> scene_code;
-    /// Does `count` frames that were taken back again, where there are so many.
+    /// Does `count` frames that were taken back again, all of them or none.
     pub fn scene_redo_by(s: *mut *mut scene, count: usize) -> scene_code;
     /// Gives the next spawn a component that is no text.
     pub fn scene_with(s: *mut *mut scene, cell: scene_cell) -> scene_code;

@@ -54,15 +54,10 @@ fn kept_past_is_undone_and_redone(rt: HostRuntime) -> Result<(), Fail> {
     Ok(())
 }
 
-fn undo_both(editor: &mut Editor) -> Result<(), Refusal> {
-    editor.undo()?;
-    editor.undo()
-}
-
 /// A future that is taken up can be redone, which makes no rewind.
 pub fn future_is_tried(rt: &impl Abort, alloc: Global, editor: &mut Editor) {
     assert!(rt; grow_and_fell(alloc, editor).is_ok());
-    assert!(rt; undo_both(editor).is_ok());
+    assert!(rt; editor.undo_by(2).is_ok());
     let copy = copy_of(rt, alloc, editor);
     assert_eq!(rt; taken_up(copy, Then::On), Ok((true, 0)));
 }
@@ -79,6 +74,7 @@ fn kept_future_is_redone(rt: HostRuntime) -> Result<(), Fail> {
 }
 
 /// The tick of a world after frames without commands, how many of them can be undone, and the tick after these undos.
+/// All are redone then.
 pub type Seen = (u64, usize, u64);
 
 fn do_nothing(editor: &mut Editor, frames: u32) -> Result<(), Refusal> {
@@ -88,18 +84,13 @@ fn do_nothing(editor: &mut Editor, frames: u32) -> Result<(), Refusal> {
     Ok(())
 }
 
-fn undo_frames(editor: &mut Editor, frames: usize) -> Result<(), Refusal> {
-    for _undo in 0..frames {
-        editor.undo()?;
-    }
-    Ok(())
-}
-
 fn after_idle_frames(editor: &mut Editor, frames: u32) -> Result<Seen, Refusal> {
     do_nothing(editor, frames)?;
-    let (tick, kept) = (editor.world().tick(), editor.undo_len());
-    undo_frames(editor, kept)?;
-    Ok((tick, kept, editor.world().tick()))
+    let kept = editor.undo_len();
+    editor.undo_by(kept)?;
+    let back = editor.world().tick();
+    editor.redo_by(kept)?;
+    Ok((editor.world().tick(), kept, back))
 }
 
 pub fn idle_is_tried(rt: &impl Abort, editor: &mut Editor, frames: u32, seen: Seen) {

@@ -6,7 +6,7 @@ use Rattle.clap.specs.Matches.{first_value}
 use Rattle.clap.specs.Words.{Row, Text, first_of, found_of, rows_of}
 use Rattle.clap.specs.declared.parser.matches.ArgMatches.{ArgMatches}
 use Rattle.clap.proofs.WalkLemmas.{first_value-rows}
-use Rattle.scene_command_line.specs.Asks.{Asks, ToCompact, ToLog, ToShow, asks_of}
+use Rattle.scene_command_line.specs.Asks.{Asks, ToCompact, ToDump, ToLog, ToShow, asks_of}
 use Rattle.scene_command_line.specs.Words.{backup_asked, command_named, file_asked, has_flag, run_asked, shell_asked}
 use Rattle.scene_command_line.specs.declared.asked.Asked.{Asked}
 use Rattle.scene_command_line.proofs.reading.command_named.Goals as goal
@@ -57,6 +57,17 @@ pub returns-in-show : goal.returns-in-show
 returns-in-show c =
     of_file ToShow c.args.options.now c.args.name.now _ c.show_asked.result c.get_str-in-show.ensures
     (rw c.in-show.is refl) c.show_asked.ensures
+
+pub returns-in-dump : goal.returns-in-dump
+returns-in-dump c =
+    let options = options_of c.args.options.now in
+    let file = value_of c.args.options.now (codes "file") c.get_str-in-dump.result c.get_str-in-dump.ensures in
+    let named : command_named c.args.name.now options
+    ≡ file_asked (ToDump (has_flag (codes "all") options)) (first_of (codes "file") options) =
+    rw c.in-dump.is refl in
+    IfOk-weaker c.dump_asked.result _ _
+    (λ asked is. is ∙ (ap₂ (λ all found. file_asked (ToDump all) found) c.has_flag-in-dump.ensures file ∙ sym named))
+    c.dump_asked.ensures
 
 pub returns-in-log : goal.returns-in-log
 returns-in-log c =

@@ -6,6 +6,7 @@ use Rattle.scene_command_line.specs.Asks.{asks_of}
 use Rattle.scene_command_line.specs.Words.{Answers, AsksFor, command_in, command_of, scene_line}
 use Rattle.scene_command_line.proofs.Answered.{asked_by_kind}
 use Rattle.scene_command_line.proofs.BackupLaws.{backup_answer}
+use Rattle.scene_command_line.proofs.DumpLaws.{dump_answer}
 use Rattle.scene_command_line.proofs.FileLaws.{file_answer}
 use Rattle.scene_command_line.proofs.HelpLaws.{help_answer}
 use Rattle.scene_command_line.proofs.PlainLaws.{plain_answer}
@@ -40,6 +41,7 @@ returns-in-Ok c =
       workers = λ workers. IfOk-weaker c.command_met.result _ _
           (λ asked. workers_answer words (asks_of asked) workers) asks;
       shell = IfOk-weaker c.command_met.result _ _ (λ asked. shell_answer words (asks_of asked)) asks;
+      dump = IfOk-weaker c.command_met.result _ _ (λ asked. dump_answer words (asks_of asked)) asks;
       file = λ file. IfOk-weaker c.command_met.result _ _ (λ asked. file_answer words (asks_of asked) file) asks;
       backup = λ backup. IfOk-weaker c.command_met.result _ _ (λ asked. backup_answer words (asks_of asked) backup) asks;
       help = λ help. IfOk-weaker c.command_met.result _ _ (λ asked. help_answer words (asks_of asked) help) asks;
@@ -61,6 +63,7 @@ returns-in-Err c =
       workers = λ workers. IfOk-weaker c.without_command.result _ _
           (λ asked. workers_answer words (asks_of asked) workers) asks;
       shell = IfOk-weaker c.without_command.result _ _ (λ asked. shell_answer words (asks_of asked)) asks;
+      dump = IfOk-weaker c.without_command.result _ _ (λ asked. dump_answer words (asks_of asked)) asks;
       file = λ file. IfOk-weaker c.without_command.result _ _ (λ asked. file_answer words (asks_of asked) file) asks;
       backup = λ backup. IfOk-weaker c.without_command.result _ _ (λ asked. backup_answer words (asks_of asked) backup) asks;
       help = λ help. IfOk-weaker c.without_command.result _ _ (λ asked. help_answer words (asks_of asked) help) asks;

@@ -31,4 +31,4 @@ returns-clause-within c = (refl, refl, refl, refl)
 
 pub returns-clause-questions : goal.returns-clause-questions
 unfolding serde_json_on_literals digits is_utf8 encode_utf8 chars
-returns-clause-questions c = (refl, refl, refl, refl, refl, refl, refl, refl, refl, refl, refl, refl, refl, refl, refl)
+returns-clause-questions c = (refl, refl, refl, refl, refl, refl, refl, refl, refl, refl, refl, refl, refl, refl, refl, refl, refl, refl)
