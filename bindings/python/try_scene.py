@@ -24,6 +24,7 @@ from typing import Any, Callable, Dict, Iterator, List, Optional, Tuple
 import scene
 import tried_calls
 import tried_questions
+import tried_sending
 import tried_settings
 import tried_steps
 import tried_writes
@@ -701,6 +702,7 @@ PROGRAMS = (
     notes,
     examples_twice,
     *tried_questions.PROGRAMS,
+    *tried_sending.PROGRAMS,
     *tried_settings.PROGRAMS,
 )
 

@@ -52,28 +52,34 @@ def is_balanced(words: List[str]) -> bool:
     return not is_open
 
 
-class Call:
-    """A call's lines: what is sent of them, and its answers as JSON. `turn` is a line to send before those that do more
-    than ask, if one is needed; it is kept in the store, as they are. `held` says how many frames can be undone, and
-    redone, whose records are held. `ends_at` is for the setup alone: it gives of lines the place of that which ends it,
-    before which there can be no turn."""
+def whole_line(line: str) -> str:
+    """A line as it is sent: the shell drops a carriage return at its end, but for a space behind it."""
+    return f"{line} " if line.endswith("\r") else line
+
+
+class ScriptCall:
+    """A script's lines, each sent as it is: what is sent, and its answers as JSON. `turn` is a line to send before
+    those that do more than ask, if one is needed; it is kept in the store, as they are. `held` says how many frames can
+    be undone, and redone, whose records are held. `ends_at` is for the setup alone: it gives of lines the place of that
+    which ends it, before which there can be no turn. `ends_loading` says that a scene which was loaded is seen behind
+    the call, which ends the setup: of a script further lines of the setup may come."""
+
+    ends_loading = False
 
     def __init__(self, lines: List[str], turn: Optional[str], held: Tuple[int, int], ends_at: Optional[EndsAt]) -> None:
         self.held = dict(zip(TURNS, held))
-        # The shell drops a carriage return at the end of a line, but for a space behind it.
-        self.lines = [f"{line} " if line.endswith("\r") else line for line in lines]
+        self.lines = list(map(whole_line, lines))
         self.words = list(map(word_of, self.lines))
-        self.answers = [refused(line, word) for line, word in zip(self.lines, self.words)]
+        self.answers = self.refusals()
         self.sent: List[Sent] = []
-        if self.answers and self.answers[0]:
-            self.answers = self.answers[:1] * len(lines)
-        elif not is_balanced(self.words):
-            self.answers = [bad(UNBALANCED)] * len(lines)
-        else:
-            self.send([place for place, answer in enumerate(self.answers) if answer is None], turn, ends_at)
+        self.send([place for place, answer in enumerate(self.answers) if answer is None], turn, ends_at)
+
+    def refusals(self) -> List[Optional[str]]:
+        """The answers to lines that aren't sent, and None for each of the others."""
+        return [None] * len(self.lines)
 
     def send(self, own: List[int], turn: Optional[str], ends_at: Optional[EndsAt]) -> None:
-        setup, rest = ([], own) if ends_at is None else self.parted(own, ends_at)
+        setup, rest = ([], own) if turn is None or ends_at is None else self.parted(own, ends_at)
         self.sent = [Sent(self.lines[place], place) for place in setup]
         if turn is not None and any(self.words[place] not in ASKING for place in rest):
             self.sent.append(Sent(turn, None))
@@ -109,7 +115,25 @@ class Call:
         if sent.place is not None:
             self.answers[sent.place] = answer
 
-    # Refusals
+    def told(self, _: Dict[str, str]) -> List[Optional[str]]:
+        """The answers as the shell gave them. The shapes are those of the kinds."""
+        return self.answers
+
+
+class Call(ScriptCall):
+    """A tab's lines: a session of its own, whose frames are whole, and which is told what was refused."""
+
+    ends_loading = True
+
+    def refusals(self) -> List[Optional[str]]:
+        answers = [refused(line, word) for line, word in zip(self.lines, self.words)]
+        if answers and answers[0]:
+            return answers[:1] * len(answers)
+        return answers if is_balanced(self.words) else [bad(UNBALANCED)] * len(answers)
+
+    def told(self, shapes: Dict[str, str]) -> List[Optional[str]]:
+        self.name_refused(shapes)
+        return self.answers
 
     def name_refused(self, shapes: Dict[str, str]) -> None:
         """Gives each refusal the request that it came at."""

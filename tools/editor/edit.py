@@ -9,6 +9,7 @@ from pathlib import Path
 
 sys.path.insert(0, str(Path(__file__).resolve().parent.parent))
 
+from address_file import AddressFile  # noqa: E402
 from hub import Hub  # noqa: E402
 from new_store import make_store  # noqa: E402
 from played_scene import PROGRAM, TOP, CommandLine, Trouble  # noqa: E402
@@ -34,21 +35,20 @@ def ends_told():
 def serve(words):
     """Serves until an interrupt."""
     told = ends_told()
-    hub = Hub(words.program, words.store)
     token = secrets.token_urlsafe(TOKEN_BYTES)
     try:
-        server = Server(hub, token, words.port)
+        server = Server(token, words.port)
     except OSError as error:
-        hub.close()
         raise Trouble(f"port {words.port} can't be had: {error.strerror}") from None
-    thread = threading.Thread(target=server.serve_forever, kwargs={"poll_interval": 0.1}, daemon=True)
-    thread.start()
-    print(f"http://127.0.0.1:{server.server_port}/{token}/", flush=True)
-    told.recv(1)
-    hub.close()
-    server.shutdown()
-    thread.join()
-    server.server_close()
+    with server:
+        server.hub = hub = Hub(words.program, words.store, AddressFile(server.address, token))
+        thread = threading.Thread(target=server.serve_forever, kwargs={"poll_interval": 0.1}, daemon=True)
+        thread.start()
+        print(f"{server.address}/{token}/", flush=True)
+        told.recv(1)
+        hub.close()
+        server.shutdown()
+        thread.join()
 
 
 def edit(words):

@@ -4,13 +4,14 @@ import os
 import re
 import subprocess
 
+from address_file import ENDING
 from played_scene import Trouble
 from shell import Gone
 from stored import store_fault
 
 GOOD = re.compile(r"\w[\w. -]{0,99}")
 BEGINNING = b"SQLite format 3\0"
-SIDE = ("-journal", "-wal", "-shm")
+SIDE = ("-journal", "-wal", "-shm", ENDING)
 
 
 def is_store(path):

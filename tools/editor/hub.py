@@ -33,10 +33,11 @@ def end_loaded_setup(shell, model):
 
 
 class Hub:
-    """What tabs ask, each call under the lock. What it answers is JSON text."""
+    """What tabs ask, each call under the lock. What it answers is JSON text. `address_file`, if there is one, is put
+    beside each store that is opened."""
 
-    def __init__(self, program, store):
-        self.program, self.store = program, store
+    def __init__(self, program, store, address_file=None):
+        self.program, self.store, self.address_file = program, store, address_file
         self.lock, self.stopped = threading.Lock(), threading.Event()
         self.events, self.sessions = Events(), Sessions()
         self.begun = deque(maxlen=MOST_BEGUN)
@@ -63,6 +64,8 @@ class Hub:
                     raise
                 raise store_fault(self.store, b"".join(shell.told)) from None
         self.model, self.shell, self.is_here = model, shell, True
+        if self.address_file is not None:
+            self.address_file.put(self.store)
 
     @staticmethod
     def read_store(shell, model):
@@ -234,21 +237,29 @@ class Hub:
         done where a cell of `seen` has changed since it was."""
         with self.lock:
             self.seat(session)
-            if not self.is_here:
-                return json_text({"gone": True})
-            try:
-                stale = self.first_stale(seen)
-                if stale is not None:
-                    return json_text({"stale": stale})
-                answers = self.play(self.with_own_links(lines), session, words)
-            except Gone:
-                return json_text({"gone": True})
-            except Trouble as trouble:
-                shell = self.shell
-                self.is_gone(f"{trouble}; it isn't begun again")
-                shell.close()
-                return json_text({"gone": True})
-            return f'{{"answers":[{",".join(map(exact_text, answers))}]}}'
+            told = self.of_shell(lambda: self.called(session, lines, words, seen))
+            return json_text({"gone": True}) if told is None else told
+
+    def of_shell(self, ask):
+        """What a call of the shell answers, or None where that is gone."""
+        if not self.is_here:
+            return None
+        try:
+            return ask()
+        except Gone:
+            return None
+        except Trouble as trouble:
+            shell = self.shell
+            self.is_gone(f"{trouble}; it isn't begun again")
+            shell.close()
+            return None
+
+    def called(self, session, lines, words, seen):
+        stale = self.first_stale(seen)
+        if stale is not None:
+            return json_text({"stale": stale})
+        answers = self.play(self.with_own_links(lines), session, words)
+        return f'{{"answers":[{",".join(map(exact_text, answers))}]}}'
 
     def first_stale(self, seen):
         """The first of cells, each an entity, a kind and the tick of its change, that has changed since; or None."""
@@ -296,12 +307,12 @@ class Hub:
     def place_of_end(self, lines):
         return place_of_end(self.program, self.model.kinds, lines)
 
-    def play(self, lines, session, words):
-        """Plays the lines of a session, and answers them as JSON."""
+    def play(self, lines, session, words=None, sort=Call):
+        """Plays the lines of a session by a call of a sort, and answers them as JSON."""
         model, timeline = self.model, self.model.timeline
         turn = f"as {session}" if session != model.turn else None
         held = timeline.past.held, timeline.future.held
-        call = Call(lines, turn, held, self.place_of_end if model.in_setup else None)
+        call = sort(lines, turn, held, self.place_of_end if model.in_setup else None)
         if call.sent:
             model.call_words = words
             answers = iter(self.shell.ask(call.to_ask()))
@@ -309,10 +320,15 @@ class Hub:
                 answer, *behind = islice(answers, 1 + len(sent.behind))
                 model.hear(sent.line, answer, behind)
                 call.answer(sent, answer)
-            end_loaded_setup(self.shell, model)
+            if call.ends_loading:
+                end_loaded_setup(self.shell, model)
             self.settle()
-        call.name_refused(model.shapes)
-        return call.answers
+        return call.told(model.shapes)
+
+    def end_loading(self):
+        """Has a scene that was loaded be seen."""
+        end_loaded_setup(self.shell, self.model)
+        self.settle()
 
     def settle(self):
         """Tells what happened; where it isn't known, all is read and told again."""
@@ -340,6 +356,8 @@ class Hub:
                 # A call waits for it: it hangs, and so wouldn't end by the end of its input.
                 shell.process.kill()
             shell.close()
+        if self.address_file is not None:
+            self.address_file.remove()
         if has_lock:
             self.lock.release()
         self.keeper.join(SECONDS_TO_CLOSE)

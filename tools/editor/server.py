@@ -8,6 +8,7 @@ from http.server import BaseHTTPRequestHandler, ThreadingHTTPServer
 from pathlib import Path
 from urllib.parse import parse_qs
 
+from sender import Sender, Unplayed, lines_in
 from sessions import TABS
 from strangers import MOST_STRANGERS, Strangers
 from texts import json_text
@@ -26,7 +27,8 @@ HEADERS = {
     "Cache-Control": "no-store", "Referrer-Policy": "no-referrer", "X-Content-Type-Options": "nosniff",
     "X-Frame-Options": "DENY", "Content-Security-Policy": ALLOWED,
 }  # fmt: skip
-MOST_BODY = 16 * 2**20
+# In MiB: the longest line that a shell takes has 64.
+MOST_BODY, MOST_LINES = 16, 65
 MOST_TAB = 64
 MOST_WORDS, MOST_FRAMES = 200, 1000
 EXPORTS = ("dump", "dumpall")
@@ -52,15 +54,16 @@ def page_files():
 
 
 class Server(ThreadingHTTPServer):
-    """Each connection has a thread, which doesn't keep the process from its end."""
+    """Each connection has a thread, which doesn't keep the process from its end. It has a `hub` before it serves."""
 
     daemon_threads = True
     request_queue_size = MOST_STRANGERS
 
-    def __init__(self, hub, token, port=0):
+    def __init__(self, token, port=0):
         super().__init__(("127.0.0.1", port), Handler)
-        self.hub, self.token, self.files, self.strangers = hub, token, page_files(), Strangers()
+        self.hub, self.token, self.files, self.strangers = None, token, page_files(), Strangers()
         self.hosts = [f"{name}:{self.server_port}" for name in ("127.0.0.1", "localhost")]
+        self.address = f"http://{self.hosts[0]}"
 
     def process_request(self, request, client_address):
         self.strangers.came(request)
@@ -83,6 +86,14 @@ class Handler(BaseHTTPRequestHandler):
     protocol_version = "HTTP/1.1"
     disable_nagle_algorithm = True
     timeout = SECONDS_IDLE
+    sender = None
+
+    def finish(self):
+        try:
+            super().finish()
+        finally:
+            if self.sender is not None:
+                self.sender.end()
 
     def version_string(self):
         return "scene"
@@ -169,29 +180,53 @@ class Handler(BaseHTTPRequestHandler):
         self.answer(200, path.read_bytes(), TYPES[path.suffix])
 
     def post(self, name):
+        name, mark, query = name.partition("?")
+        if name == "lines":
+            self.answer_lines(parse_qs(query, errors="surrogateescape"))
+            return
         hub = self.server.hub
         calls = {
             "join": self.join, "call": self.call, "leave": self.leave, "frames": self.frames, "file": self.file,
         }  # fmt: skip
-        if name not in calls:
+        if mark or name not in calls:
             raise Refusal(404, "there is nothing of this name")
         self.answer(200, calls[name](hub, self.body()), "application/json")
 
-    def body(self):
-        """The JSON object that was sent."""
+    def content(self, most):
+        """The bytes that were sent, at most so many MiB."""
         length = self.only_header("Content-Length") or ""
         if not (length.isascii() and length.isdigit()):
             raise Refusal(400, "the body's length isn't said")
         # Python raises at a number of thousands of digits.
-        if len(length) > MOST_DIGITS or int(length) > MOST_BODY:
-            raise Refusal(413, "the body is longer than 16 MiB")
+        if len(length) > MOST_DIGITS or int(length) > most * 2**20:
+            raise Refusal(413, f"the body is longer than {most} MiB")
+        content = self.rfile.read(int(length))
+        if len(content) < int(length):
+            raise Refusal(400, "the body was cut off")
+        return content
+
+    def body(self):
+        """The JSON object that was sent."""
         try:
-            body = json.loads(self.rfile.read(int(length)))
+            body = json.loads(self.content(MOST_BODY))
         except (ValueError, RecursionError):
             raise Refusal(400, "the body is no JSON") from None
         if not isinstance(body, dict):
             raise Refusal(400, "the body is no object")
         return body
+
+    def answer_lines(self, query):
+        """Plays lines of a script, which the body has as they are, and answers each with a line. The connection is the
+        script's own, as long as that runs: when it ends, a frame that is open is dropped."""
+        if self.sender is None:
+            self.sender = Sender(self.server.hub)
+            self.connection.settimeout(None)
+        content = self.content(MOST_LINES)
+        try:
+            answers = self.sender.send(query.get("store", [""])[0], lines_in(content))
+        except Unplayed as why:
+            raise Refusal(409, str(why)) from None
+        self.answer(200, "".join(f"{answer}\n" for answer in answers))
 
     @staticmethod
     def join(hub, body):

@@ -34,12 +34,13 @@ def played_alone(program, lines):
 
 
 class Shell:
-    """A shell on a store. Threads of its own read what it says, so that no pipe is ever full while lines are sent.
+    """A shell on a store, or without one. Threads of its own read what it says, so that no pipe is ever full while
+    lines are sent.
 
     `on_end(shell)` is told, in one of these threads, that it has ended."""
 
     def __init__(self, program, store, on_end):
-        words = [program, "shell", "--json", "--store", str(store)]
+        words = [program, "shell", "--json", *(() if store is None else ("--store", str(store)))]
         pipe = subprocess.PIPE
         try:
             # In a session of its own an interrupt of the terminal doesn't reach it: the editor ends it.
@@ -89,9 +90,10 @@ class Shell:
         return line[:-1].decode()
 
     def ask(self, lines):
-        """The answers to lines, which go in one write, as JSON text."""
+        """The answers to lines, which go in one write, as JSON text. Bytes that are no Unicode stand in them as Python
+        decodes them to surrogates."""
         try:
-            self.process.stdin.write("".join(f"{line}\n" for line in lines).encode())
+            self.process.stdin.write("".join(f"{line}\n" for line in lines).encode(errors="surrogateescape"))
             self.process.stdin.flush()
             return [self.next_line() for _ in lines]
         except (OSError, ValueError):

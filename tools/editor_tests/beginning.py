@@ -1,5 +1,6 @@
 """How the editor begins and ends: with a new store and an old one, and where it can't."""
 import os
+import re
 import signal
 import subprocess
 
@@ -78,16 +79,18 @@ def log_of(program, store):
     return subprocess.run([program, "log", store], capture_output=True, check=True).stdout.decode().split("\n")
 
 
-def in_use(store):
-    used = f'scene: fault 60 StoreInUse "{store}": another program has it open'
-    return f"{used}\nscene: edit: {store.name} is in use by another shell\n"
+def tells_in_use(store, told):
+    """Whether it is told at the end that a shell has the store open, and which."""
+    used = f'scene: fault 60 StoreInUse "{store}": another program has it open: process '
+    in_words = f"scene: edit: {store.name} is in use by another shell\n"
+    return re.search(re.escape(used) + r'[0-9]+, ".* shell .*"\n' + re.escape(in_words) + "$", told)
 
 
 def try_in_use(program, room):
     store = room / "used.db"
     with EditorProcess(program, store):
         status, told = edit(program, store)
-        assert (status, told) == (3, in_use(store))
+        assert status == 3 and tells_in_use(store, told), (status, told)
 
 
 def try_notes(program, room):
@@ -106,7 +109,7 @@ def try_notes(program, room):
         stream.until("whole")
         stream.close()
         status, told = edit(noting, store)
-        assert status == 3 and told.endswith(in_use(store)), (status, told)
+        assert status == 3 and tells_in_use(store, told), (status, told)
 
 
 def fault_of_log(program, store):

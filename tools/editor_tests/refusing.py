@@ -6,7 +6,9 @@ from editor_process import EditorProcess, saved
 
 SCRIPT = "kind Name Text\nkind Health Int\nspawn Name=cat Health=9\n"
 SPAWN = {"session": 1, "lines": ["spawn Name=dog"]}
-REQUESTS = (("POST", "call", SPAWN), ("POST", "join", {}), ("GET", "", None), ("PUT", "call", {}))
+REQUESTS = (
+    ("POST", "call", SPAWN), ("POST", "join", {}), ("POST", "lines", b"spawn Name=dog\n"), ("GET", "", None), ("PUT", "call", {}),
+)  # fmt: skip
 HEADERS = ("Cache-Control", "Referrer-Policy", "X-Content-Type-Options", "X-Frame-Options", "Content-Security-Policy")
 
 
@@ -61,17 +63,19 @@ def try_no_calls(asker):
         assert asker.ask("POST", "call", body)[0] == 400, body
     for method in ("PUT", "DELETE", "OPTIONS", "PATCH", "HEAD", "TRACE", "FROB"):
         assert asker.ask(method, "call")[0] == 405, method
-    paths = ("nothing", "join", "call", "../edit.py", "page/index.html", "%2e%2e/edit.py", "index.html/", "page.js")
+    paths = ("nothing", "join", "call", "lines", "../edit.py", "page/index.html", "%2e%2e/edit.py", "index.html/", "page.js")
     for name in paths:
         assert asker.ask("GET", name)[0] == 404, name
     for name in ("", "index.html", "events", "call?session=1"):
         assert asker.ask("POST", name, SPAWN)[0] == 404, name
     for query in ("", "?session=0", "?session=9", "?session=1&after=x", "?session=-1"):
         assert asker.ask("GET", f"events{query}")[0] == 400, query
-    long = {"Content-Length": str(16 * 2**20 + 1)}
-    assert asker.ask("POST", "call", b"{}", long)[0] == 413
-    asker.close()
-    return len(BAD_BODIES) + 7 + len(paths) + 10
+    for name in ("lines", "lines?store=", "lines?store=refuse.db", "lines?store=/refuse.db", "lines?refuse.db"):
+        assert asker.ask("POST", name, b"spawn Name=dog\n")[0] == 409, name
+    for name, most in (("call", 16), ("lines", 65)):
+        assert asker.ask("POST", name, b"{}", {"Content-Length": str(most * 2**20 + 1)})[0] == 413
+        asker.close()
+    return len(BAD_BODIES) + 7 + len(paths) + 16
 
 
 def try_no_http(asker):

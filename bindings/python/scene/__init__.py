@@ -23,8 +23,8 @@
   each change is kept in a file before the call returns, and the next scene on the file goes on there.
 - `scene.library.LibraryScene` calls libscene.so in this process, without a text on the way; it keeps nothing by itself.
 
-`scene.open` gives either. docs/MODEL.md says what the calls do, docs/SCRIPTS.md what lines do, docs/BINDINGS.md how the
-package is installed.
+`scene.open` gives either; `scene.send` gives lines to the editor that has a store open. docs/MODEL.md says what the
+calls do, docs/SCRIPTS.md what lines do, docs/BINDINGS.md how the package is installed.
 
 - Writing: a `spawn` gives an entity, and in a frame a `Spawned`, which stands for the one that is to come. `insert_all`
   writes to many entities in one frame. An error in the `with` of a `frame` drops it.
@@ -61,6 +61,7 @@ from scene.calls import Calls
 from scene.deltas import Delta, KeptStep, StepSummary
 from scene.errors import BadLine, Closed, Ended, KindsDiffer, Lost, NoMemory, OtherThread, OtherVersion, Refused
 from scene.errors import SceneError, Shared, StoreError, Untold
+from scene.sending import send
 from scene.shell import Scene
 from scene.systems import AddInt, AddVec, CountInto, DespawnAtZero, SpawnChild, Step, System
 from scene.values import Cell, Entity, Given, Moment, Row, Spawned, Status, Value
@@ -103,6 +104,7 @@ __all__ = [
     "Value",
     "__version__",
     "open",
+    "send",
 ]
 
 

@@ -13,7 +13,7 @@ mod stored;
 
 use crate::ending::Ending;
 use crate::shell_store::stored_shell;
-use crate::store_looks::{backup_store, dump_store, log_store, show_store};
+use crate::store_looks::{backup_store, dump_store, log_store, restore_store, show_store};
 use crate::stored::compact_store;
 use scene_app::{AloneEnd, AppFault, BadLines, check_scene, print_scene, run_alone};
 use scene_command_line::{Asked, ShellWords, mistake_in, read_words};
@@ -161,6 +161,7 @@ fn end(rt: &HostRuntime, threads: &(impl Threads + Wait + Sync), words: &[String
         Ok(Asked::Log(path)) => log_store(rt, path.as_str()),
         Ok(Asked::Compact(path)) => compact_store(rt, path.as_str()),
         Ok(Asked::Backup(words)) => backup_store(rt, &words),
+        Ok(Asked::Restore(words)) => restore_store(rt, &words),
         Ok(Asked::Help(text)) => printed(rt, text.as_str()),
         Ok(Asked::Bad) => Ending::BadCommandLine,
         Err(_) => Ending::Fault(AppFault::NoMemory),

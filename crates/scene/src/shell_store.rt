@@ -4,9 +4,7 @@ use crate::store_looks::told_store;
 use crate::{performer_of, style_of};
 use scene_app::AppFault;
 use scene_command_line::ShellWords;
-use scene_shell::{
-    DatedPlace, KeptFault, OpeningLimits, StorePlace, StoreShellFault, run_store_shell,
-};
+use scene_shell::{KeptFault, OpeningLimits, StorePlace, StoreShellFault, run_store_shell};
 use scene_store::{FileLines, StoreFault, Unknown};
 use scene_streams::Keep;
 use std::io::{BufReader, Read};
@@ -72,7 +70,7 @@ fn shell_on<S: StorePlace, R: Read>(
         &performer_of(threads, words),
         rt.alloc(),
         style_of(words),
-        &DatedPlace::over(rt.alloc(), rt, place),
+        place,
         OpeningLimits::usual(),
         rt,
         reader,

@@ -2,12 +2,15 @@
 use crate::ending::Ending;
 use crate::printed;
 use scene_app::AppFault;
-use scene_command_line::{BackupWords, DumpWords};
+use scene_command_line::{BackupWords, DumpWords, RestoreWords};
 use scene_interpreter::InterpreterSettings;
 use scene_script::Limit;
-use scene_shell::{KeptLineFault, LogCounts, dump_lines, show_lines, write_log};
+use scene_shell::{
+    KeptLineFault, LinesEnd, LogCounts, dump_lines, lines_to_entry, show_lines, write_log,
+};
 use scene_store::{
-    BackupFault, StoreFault, StoreFileFault, StoredLines, Version, back_up, lines_at,
+    BackupFault, Holder, StoreFault, StoreFileFault, StoredLines, Version, back_up, holder_of,
+    lines_at, make_store,
 };
 
 /// Says on standard error why kept lines weren't played, which is a fault.
@@ -16,9 +19,21 @@ pub fn told_lines(rt: &HostRuntime, fault: &KeptLineFault) -> Ending {
     Ending::Told
 }
 
-/// Says on standard error what is wrong with the store at a path, which is a fault.
+/// Says on standard error what is wrong with the store at a path, which is a fault, and which process has it open,
+/// where that is wrong.
 pub fn told_store(rt: &HostRuntime, path: &str, fault: StoreFault) -> Ending {
-    let _told = eprintln!(rt; "scene: {}", StoreFileFault { path, fault });
+    let holder = if fault == StoreFault::StoreInUse {
+        holder_of(rt, path)
+    } else {
+        None
+    };
+    let fault = StoreFileFault { path, fault };
+    let _told = match holder {
+        Some(Holder { process, words }) => eprintln!(rt;
+            "scene: {fault}: process {process}, {words:?}"
+        ),
+        None => eprintln!(rt; "scene: {fault}"),
+    };
     Ending::Told
 }
 
@@ -108,11 +123,41 @@ pub fn log_store(rt: &HostRuntime, path: &str) -> Ending {
     }
 }
 
+/// Says which of two stores is at fault, where one is.
+fn told_copy(rt: &HostRuntime, file: &str, copy: &str, made: Result<(), BackupFault>) -> Ending {
+    match made {
+        Ok(()) => Ending::Done,
+        Err(BackupFault::Store(fault)) => told_store(rt, file, fault),
+        Err(BackupFault::Copy(fault)) => told_store(rt, copy, fault),
+    }
+}
+
 /// Copies a store into another file.
 pub fn backup_store(rt: &HostRuntime, words: &BackupWords) -> Ending {
-    match back_up(rt, words.file.as_str(), words.copy.as_str()) {
-        Ok(()) => Ending::Done,
-        Err(BackupFault::Store(fault)) => told_store(rt, words.file.as_str(), fault),
-        Err(BackupFault::Copy(fault)) => told_store(rt, words.copy.as_str(), fault),
+    let (file, copy) = (words.file.as_str(), words.copy.as_str());
+    told_copy(rt, file, copy, back_up(rt, file, copy))
+}
+
+/// Makes a store of the lines of another, up to an entry of its log.
+pub fn restore_store(rt: &HostRuntime, words: &RestoreWords) -> Ending {
+    let (file, copy) = (words.file.as_str(), words.copy.as_str());
+    let StoredLines { version, text } = match lines_of(rt, file) {
+        Ok(lines) => lines,
+        Err(ending) => return ending,
+    };
+    match lines_to_entry(rt.alloc(), settings_of(version), text.as_slice(), words.at) {
+        Ok(LinesEnd::At(length)) => told_copy(
+            rt,
+            file,
+            copy,
+            make_store(rt, file, copy, &text.as_slice()[..length]),
+        ),
+        Ok(LinesEnd::Beyond(entries)) => {
+            let _told = eprintln!(rt;
+                "scene: {file:?}: its log has {entries} entries; no store was made"
+            );
+            Ending::Told
+        }
+        Err(fault) => told_lines(rt, &fault),
     }
 }

@@ -7,8 +7,10 @@
 
 mod answered;
 mod changing;
+mod laws;
 mod played;
 
 pub use answered::answer_request;
 pub use changing::request_changes;
+pub use laws::history_apart_changes_no_request;
 pub use played::play_request;

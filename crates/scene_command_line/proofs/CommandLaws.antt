@@ -21,11 +21,11 @@ by_file_command P word show log compact one = elim (or_cases (bytes_eq word (cod
   ]
 ]
 
--- what holds of the nine commands holds of each word that is one of them
+-- what holds of the ten commands holds of each word that is one of them
 pub by_command : (P : Text → Type 0) (word : Text) → P (codes "run") → P (codes "shell") → P (codes "check")
-    → P (codes "print") → P (codes "backup") → P (codes "dump")
+    → P (codes "print") → P (codes "backup") → P (codes "restore") → P (codes "dump")
     → P (codes "show") → P (codes "log") → P (codes "compact") → is_command word ≡ true → P word
-by_command P word run shell check print backup dump show log compact one = elim (or_cases (bytes_eq word (codes "run")) _ one) [
+by_command P word run shell check print backup restore dump show log compact one = elim (or_cases (bytes_eq word (codes "run")) _ one) [
   | inl same ↦ named P word (codes "run") run same
   | inr other ↦ elim (or_cases (bytes_eq word (codes "shell")) _ other) [
     | inl same ↦ named P word (codes "shell") shell same
@@ -35,9 +35,12 @@ by_command P word run shell check print backup dump show log compact one = elim 
         | inl same ↦ named P word (codes "print") print same
         | inr other ↦ elim (or_cases (bytes_eq word (codes "backup")) _ other) [
           | inl same ↦ named P word (codes "backup") backup same
-          | inr other ↦ elim (or_cases (bytes_eq word (codes "dump")) _ other) [
-            | inl same ↦ named P word (codes "dump") dump same
-            | inr other ↦ by_file_command P word show log compact other
+          | inr other ↦ elim (or_cases (bytes_eq word (codes "restore")) _ other) [
+            | inl same ↦ named P word (codes "restore") restore same
+            | inr other ↦ elim (or_cases (bytes_eq word (codes "dump")) _ other) [
+              | inl same ↦ named P word (codes "dump") dump same
+              | inr other ↦ by_file_command P word show log compact other
+            ]
           ]
         ]
       ]
@@ -52,6 +55,7 @@ pub record IsNone (word : Text) : Type 0 where
   pub check : bytes_eq word (codes "check") ≡ false
   pub print : bytes_eq word (codes "print") ≡ false
   pub backup : bytes_eq word (codes "backup") ≡ false
+  pub restore : bytes_eq word (codes "restore") ≡ false
   pub dump : bytes_eq word (codes "dump") ≡ false
   pub show : bytes_eq word (codes "show") ≡ false
   pub log : bytes_eq word (codes "log") ≡ false
@@ -64,17 +68,19 @@ is_none word none =
     let third = or_parts (bytes_eq word (codes "check")) _ second.1 in
     let fourth = or_parts (bytes_eq word (codes "print")) _ third.1 in
     let fifth = or_parts (bytes_eq word (codes "backup")) _ fourth.1 in
-    let sixth = or_parts (bytes_eq word (codes "dump")) _ fifth.1 in
-    let seventh = or_parts (bytes_eq word (codes "show")) _ sixth.1 in
-    let last = or_parts (bytes_eq word (codes "log")) _ seventh.1 in
+    let sixth = or_parts (bytes_eq word (codes "restore")) _ fifth.1 in
+    let seventh = or_parts (bytes_eq word (codes "dump")) _ sixth.1 in
+    let eighth = or_parts (bytes_eq word (codes "show")) _ seventh.1 in
+    let last = or_parts (bytes_eq word (codes "log")) _ eighth.1 in
     record {
       run = first.0;
       shell = second.0;
       check = third.0;
       print = fourth.0;
       backup = fifth.0;
-      dump = sixth.0;
-      show = seventh.0;
+      restore = sixth.0;
+      dump = seventh.0;
+      show = eighth.0;
       log = last.0;
       compact = last.1;
     }

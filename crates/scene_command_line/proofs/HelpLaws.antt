@@ -28,12 +28,12 @@ module _ (name command : Text) (one : is_command command ≡ true) where
   long_of : IsHelpLine (name ∷ command ∷ codes "--help" ∷ [])
   unfolding clap_on_literals
   long_of =
-      by_command (λ c. IsHelpLine (name ∷ c ∷ codes "--help" ∷ [])) command refl refl refl refl refl refl refl refl refl one
+      by_command (λ c. IsHelpLine (name ∷ c ∷ codes "--help" ∷ [])) command refl refl refl refl refl refl refl refl refl refl one
 
   short_of : IsHelpLine (name ∷ command ∷ codes "-h" ∷ [])
   unfolding clap_on_literals
   short_of =
-      by_command (λ c. IsHelpLine (name ∷ c ∷ codes "-h" ∷ [])) command refl refl refl refl refl refl refl refl refl one
+      by_command (λ c. IsHelpLine (name ∷ c ∷ codes "-h" ∷ [])) command refl refl refl refl refl refl refl refl refl refl one
 
 -- what holds of both options holds of each word that is one of them
 by_option : (P : Text → Type 0) (word : Text) → P (codes "--help") → P (codes "-h") → is_help_option word ≡ true → P word

@@ -11,5 +11,6 @@ pub mod LeafLaws
 pub mod MistakeLaws
 pub mod NumberLaws
 pub mod PlainLaws
+pub mod RestoreLaws
 pub mod ShellLaws
 pub mod WorkersLaws

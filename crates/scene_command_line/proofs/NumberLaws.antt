@@ -1,5 +1,5 @@
 -- What the numbers of a command line are, as `parse` reads them.
-use Rattle.std.proofs.Common.{◌≡◌, ◌<◌, ◌≤◌, ◌^◌, ◌&&◌, ℕ, true, Option, Some, None, Result, Ok, Err, List, [], ◌∷◌, length, inl, inr, refl, ap, arith, nat_lt, nat_le, if◌then◌else◌, lt-ltb, ltb-true}
+use Rattle.std.proofs.Common.{◌≡◌, ◌∙◌, ◌<◌, ◌≤◌, ◌^◌, ◌&&◌, ℕ, true, Option, Some, None, Result, Ok, Err, List, [], ◌∷◌, length, inl, inr, refl, sym, ap, subst, arith, nat_lt, nat_le, if◌then◌else◌, lt-ltb, ltb-true, le-leb}
 use Rattle.std.specs.List.{list_all}
 use Rattle.std.specs.Char.{digit_value}
 use Rattle.std.specs.Result.{result_unwrap_or}
@@ -47,6 +47,13 @@ number_read k most word (Err e) small parses = elim (cases_Bool (is_number word)
     le_lt : value ≤ most → value < 2 ^ k
     le_lt within = omega arith
 
+-- a number that 64 bits hold is in the range up to the greatest of them, where it isn't 0
+entry_range : (n : ℕ) → n < 2 ^ 64 → (if nat_lt 0 n then Some n else None) ≡ in_range 18446744073709551615 n
+entry_range n small = elim (cases_Bool (nat_lt 0 n)) [
+  | inl more ↦ rw (more, le-leb n 18446744073709551615 (omega (arith, small))) refl
+  | inr none ↦ rw none refl
+]
+
 -- the number of workers that `u8` reads
 pub workers_read : {E : Type 0} (word : Text) (r : Result ℕ E) → ParsesUnsigned 8 10 word r
     → in_range 16 (result_unwrap_or r 0) ≡ number_to 16 word
@@ -56,3 +63,12 @@ workers_read word r parses = number_read 8 16 word r (omega arith) parses
 pub depth_read : {E : Type 0} (word : Text) (r : Result ℕ E) → ParsesUnsigned 32 10 word r
     → in_range 1048576 (result_unwrap_or r 0) ≡ number_to 1048576 word
 depth_read word r parses = number_read 32 1048576 word r (omega arith) parses
+
+-- the number of an entry that `u64` reads
+pub entry_read : {E : Type 0} (word : Text) (r : Result ℕ E) → ParsesUnsigned 64 10 word r
+    → (if nat_lt 0 (result_unwrap_or r 0) then Some (result_unwrap_or r 0) else None)
+    ≡ number_to 18446744073709551615 word
+entry_read {E = E} word (Ok n) parses =
+    entry_range n (subst (λ m. m < 2 ^ 64) (sym parses.1) parses.0.1)
+    ∙ number_read {E = E} 64 18446744073709551615 word (Ok n) (omega arith) parses
+entry_read {E = E} word (Err e) parses = number_read {E = E} 64 18446744073709551615 word (Err e) (omega arith) parses

@@ -18,6 +18,7 @@ use Rattle.scene_command_line.proofs.CommandLaws.{IsNone, by_command, by_file_co
 use Rattle.scene_command_line.proofs.DumpLaws.{dump_bare, dump_further, dump_named}
 use Rattle.scene_command_line.proofs.EnterLaws.{Enters, by_name, enters_run, enters_shell, leaf_fault, leaf_rows, level_first, line, no_dashes, no_long, no_short, refused_once, start, taken}
 use Rattle.scene_command_line.proofs.FileLaws.{bare_answer, further_answer, named_answer}
+use Rattle.scene_command_line.proofs.RestoreLaws.{restore_bare, restore_further, restore_half, restore_without_entry}
 
 -- a word that is no option and no command has no place, where the command has no positional
 stray_turn : (s : Shape) (names : Names) (word : Text) → is_option word ≡ false → subcommand_met names idle word ≡ None
@@ -157,6 +158,19 @@ module _ (name : Text) (asks : Asks) where
       (is_no_option copy (first_is_plain copy (next ∷ rest) later))
       (is_no_option next (first_is_plain next rest (rest_is_plain copy (next ∷ rest) later))) means
 
+  after_restore : (rest : List Text) → list_all is_plain rest ≡ true → Fits name rest asks (codes "restore")
+  after_restore [] plain means = restore_bare name asks means
+  after_restore (file ∷ []) plain means =
+      restore_half name asks file (is_no_option file (first_is_plain file [] plain)) means
+  after_restore (file ∷ copy ∷ []) plain means =
+      restore_without_entry name asks file copy (is_no_option file (first_is_plain file (copy ∷ []) plain))
+      (is_no_option copy (first_is_plain copy [] (rest_is_plain file (copy ∷ []) plain))) means
+  after_restore (file ∷ copy ∷ next ∷ rest) plain means =
+      let later = rest_is_plain file (copy ∷ next ∷ rest) plain in
+      restore_further name asks file copy next rest (is_no_option file (first_is_plain file (copy ∷ next ∷ rest) plain))
+      (is_no_option copy (first_is_plain copy (next ∷ rest) later))
+      (is_no_option next (first_is_plain next rest (rest_is_plain copy (next ∷ rest) later))) means
+
 flipped : (xs ys : List ℕ) → bytes_eq xs ys ≡ false → bytes_eq ys xs ≡ false
 flipped xs ys differ = false_from_ne_true _
     (λ same. both_ways _ differ ((bytes_eq-Decides xs ys).1 (sym ((bytes_eq-Decides ys xs).0 same))))
@@ -173,12 +187,13 @@ module _ (name word : Text) (none : IsNone word) where
     flipped word _ none.log,
     flipped word _ none.compact,
     flipped word _ none.backup,
+    flipped word _ none.restore,
     flipped word _ none.dump,
     flipped word _ help,
   ) refl
 
   none_plainly : (rest : List Text) → plainly_asked (name ∷ word ∷ rest) ≡ Nothing
-  none_plainly [] = rw (none.run, none.shell, none.check, none.print, none.backup, none.dump, none.show, none.log, none.compact) refl
+  none_plainly [] = rw (none.run, none.shell, none.check, none.print, none.backup, none.restore, none.dump, none.show, none.log, none.compact) refl
   none_plainly (next ∷ rest) = bad_plainly name word next rest none.backup none.dump none.show none.log none.compact
 
   after_none : (rest : List Text) (asks : Asks) → is_plain word ≡ true → Fits name rest asks word
@@ -198,7 +213,8 @@ plain_answer (name ∷ word ∷ rest) asks plain means =
       | inl one ↦ by_command (Fits name rest asks) word (after_run name asks rest parts.1)
           (after_shell name asks rest parts.1)
           (after_check name asks rest parts.1) (after_print name asks rest parts.1)
-          (after_backup name asks rest parts.1) (after_dump name asks rest parts.1)
+          (after_backup name asks rest parts.1) (after_restore name asks rest parts.1)
+          (after_dump name asks rest parts.1)
           (after_file name asks (codes "show") refl rest parts.1)
           (after_file name asks (codes "log") refl rest parts.1)
           (after_file name asks (codes "compact") refl rest parts.1) one means

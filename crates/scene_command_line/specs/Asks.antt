@@ -26,6 +26,8 @@ pub data Asks : Type 0 where
   ToCompact : Text → Asks
   -- of a store in a file, the copy in another
   ToBackUp : Text → Text → Asks
+  -- of a store in a file, in another, what it was at an entry of this number
+  ToRestore : Text → Text → ℕ → Asks
   -- a help text, of which nothing is said
   ToHelp : Asks
   -- nothing, since the command line is bad
@@ -52,5 +54,6 @@ asks_of (variant.Dump words) = ToDump words.is_whole (string_bytes words.file)
 asks_of (variant.Log file) = ToLog (string_bytes file)
 asks_of (variant.Compact file) = ToCompact (string_bytes file)
 asks_of (variant.Backup words) = ToBackUp (string_bytes words.file) (string_bytes words.copy)
+asks_of (variant.Restore words) = ToRestore (string_bytes words.file) (string_bytes words.copy) words.at
 asks_of (variant.Help text) = ToHelp
 asks_of variant.Bad = Nothing

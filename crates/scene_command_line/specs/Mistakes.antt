@@ -3,7 +3,7 @@ use Rattle.std.specs.Prelude.{List, [], ◌∷◌, if◌then◌else◌, codes}
 use Rattle.std.specs.Str.{bytes_eq}
 use Rattle.clap.specs.Words.{Text}
 use Rattle.scene_command_line.specs.declared.mistake.Mistake.{Mistake}
-use Rattle.scene_command_line.specs.declared.mistake.Mistake.TheVariants.{NoCommand, HelpOfNoCommand, TakesWorkers, TakesShellOptions, TakesFile, TakesFileAndAll, TakesTwoFiles, TakesNoWord, NoOption, NoSuchCommand}
+use Rattle.scene_command_line.specs.declared.mistake.Mistake.TheVariants.{NoCommand, HelpOfNoCommand, TakesWorkers, TakesShellOptions, TakesFile, TakesFileAndAll, TakesTwoFiles, TakesTwoFilesAndAt, TakesNoWord, NoOption, NoSuchCommand}
 use Rattle.scene_command_line.specs.Plain.{is_command, is_file_command, is_option}
 
 -- what is wrong where this is the first word of a bad command line
@@ -14,9 +14,10 @@ mistake_of word =
     else (if is_file_command word then TakesFile
     else (if bytes_eq word (codes "dump") then TakesFileAndAll
     else (if bytes_eq word (codes "backup") then TakesTwoFiles
+    else (if bytes_eq word (codes "restore") then TakesTwoFilesAndAt
     else (if is_command word then TakesNoWord
     else (if bytes_eq word (codes "help") then HelpOfNoCommand
-    else (if is_option word then NoOption else NoSuchCommand)))))))
+    else (if is_option word then NoOption else NoSuchCommand))))))))
 
 -- what is wrong with the words of a bad command line, the program's own name first
 abbrev pub mistake_in : List Text → Mistake

@@ -6,7 +6,7 @@ use Rattle.std.specs.Option.{option_map_or}
 use Rattle.std.specs.Str.{bytes_eq}
 use Rattle.clap.specs.Words.{Text}
 use Rattle.scene_command_line.specs.Asks.{Asks, Nothing, ToDump}
-use Rattle.scene_command_line.specs.Words.{backup_asked, command_named, file_asked, file_command_named, run_asked, shell_asked}
+use Rattle.scene_command_line.specs.Words.{backup_asked, command_named, file_asked, file_command_named, restore_asked, run_asked, shell_asked}
 
 -- the word begins with a hyphen (45), as options do
 abbrev pub is_option : Text → Bool
@@ -47,7 +47,8 @@ abbrev pub is_command : Text → Bool
 is_command word =
     bytes_eq word (codes "run") || (bytes_eq word (codes "shell")
     || (bytes_eq word (codes "check") || (bytes_eq word (codes "print")
-    || (bytes_eq word (codes "backup") || (bytes_eq word (codes "dump") || is_file_command word)))))
+    || (bytes_eq word (codes "backup") || (bytes_eq word (codes "restore")
+    || (bytes_eq word (codes "dump") || is_file_command word))))))
 
 -- a file is named behind a command that takes one and no option, and nothing more; any word but an option is its name, also `help`
 abbrev pub asks_for_file : List Text → Bool
@@ -109,6 +110,21 @@ dump_line name is_whole file = name ∷ codes "dump" ∷ flag_words (codes "--al
 abbrev pub AsksForDump : Asks → List Text → Type 0
 AsksForDump asks words = (name : Text) (is_whole : Bool) (file : Text) → is_option file ≡ false
     → words ≡ dump_line name is_whole file → asks ≡ file_asked (ToDump is_whole) (Some file)
+
+-- the command line of a restore with these words, its option behind the files, as in docs/SHELL.md, or before them, as
+-- the help text has it
+abbrev pub restore_line : Text → Bool → Text → Text → Text → List Text
+restore_line name is_behind file copy entry =
+    let option = codes "--at" ∷ entry ∷ [] in
+    let files = file ∷ copy ∷ [] in
+    name ∷ codes "restore" ∷ (if is_behind then files ++ option else option ++ files)
+
+-- such a command line asks for just that restore, whatever the words are, but options
+abbrev pub AsksForRestore : Asks → List Text → Type 0
+AsksForRestore asks words = (name : Text) (is_behind : Bool) (file copy entry : Text)
+    → is_option file ≡ false → is_option copy ≡ false → is_option entry ≡ false
+    → words ≡ restore_line name is_behind file copy entry
+    → asks ≡ restore_asked (Some file) (Some copy) (Some entry)
 
 -- such a command line asks for a shell with just these options
 abbrev pub AsksForShell : Asks → List Text → Type 0

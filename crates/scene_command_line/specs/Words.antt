@@ -10,11 +10,15 @@ use Rattle.clap.specs.Simple.{new_shape, on_top}
 use Rattle.clap.specs.declared.builder.action.ArgAction.TheVariants.{Set, SetTrue}
 use Rattle.clap.specs.declared.error.kind.ErrorKind.{ErrorKind}
 use Rattle.clap.specs.declared.error.kind.ErrorKind.TheVariants.{DisplayHelp}
-use Rattle.scene_command_line.specs.Asks.{Asks, ToRun, ToShell, ToCheck, ToPrint, ToShow, ToDump, ToLog, ToCompact, ToBackUp, ToHelp, Nothing}
+use Rattle.scene_command_line.specs.Asks.{Asks, ToRun, ToShell, ToCheck, ToPrint, ToShow, ToDump, ToLog, ToCompact, ToBackUp, ToRestore, ToHelp, Nothing}
 
 -- an option of this name, which takes one word
 abbrev pub option_rule : Text → Rule
 option_rule name = record (new_rule name) { long = Some name; action = Some Set; value_names = 1 }
+
+-- an option of this name, which takes one word and has to be given
+abbrev pub required_option_rule : Text → Rule
+required_option_rule name = record (option_rule name) { required = true }
 
 -- an option of this name, which takes no word
 abbrev pub flag_rule : Text → Rule
@@ -59,6 +63,12 @@ dump_shape = record (new_shape (codes "dump")) { rules = file_rule ∷ flag_rule
 abbrev pub backup_shape : Shape
 backup_shape = record (new_shape (codes "backup")) { rules = file_rule ∷ copy_rule ∷ [] }
 
+-- the command `restore`, with the names of the two files and its option
+abbrev pub restore_shape : Shape
+restore_shape = record (new_shape (codes "restore")) {
+  rules = file_rule ∷ copy_rule ∷ required_option_rule (codes "at") ∷ [];
+}
+
 -- the program before it has commands, of which one has to be named
 abbrev pub bare_line : App
 bare_line = on_top (λ s. record s { subcommand_required = true }) (new_app (codes "scene"))
@@ -77,10 +87,11 @@ line_without_file =
     (new_shape (codes "print"))
 
 -- the program with all its commands: `show`, `dump`, `log` and `compact` may be named too, each with a file, and `backup`
--- with two
+-- and `restore` with two
 abbrev pub scene_line : App
 scene_line =
     with_subcommand
+    (with_subcommand
     (with_subcommand
     (with_subcommand
     (with_subcommand
@@ -89,7 +100,8 @@ scene_line =
     dump_shape)
     (file_shape (codes "log")))
     (file_shape (codes "compact")))
-    backup_shape
+    backup_shape)
+    restore_shape
 
 -- the word is decimal digits, behind at most one plus
 abbrev pub is_number : Text → Bool
@@ -141,6 +153,21 @@ backup_by _ _ = Nothing
 abbrev pub backup_asked : Option Text → Option Text → Asks
 backup_asked file copy = backup_by (file_given file) (file_given copy)
 
+-- the number of an entry that a word says, if one does
+abbrev pub entry_given : Option Text → Option ℕ
+entry_given None = None
+entry_given (Some word) = number_to 18446744073709551615 word
+
+-- a store as it was at an entry, if both files have names and the entry a number
+abbrev pub restore_by : Option Text → Option Text → Option ℕ → Asks
+restore_by (Some file) (Some copy) (Some entry) = ToRestore file copy entry
+restore_by _ _ _ = Nothing
+
+-- the store in the file that a word names, as it was at the entry that another says, in the file that one more names, if
+-- they do
+abbrev pub restore_asked : Option Text → Option Text → Option Text → Asks
+restore_asked file copy entry = restore_by (file_given file) (file_given copy) (entry_given entry)
+
 -- a run with these workers; it is bad where their number is
 abbrev pub run_by : Option ℕ → Asks
 run_by None = Nothing
@@ -191,9 +218,11 @@ command_named name options =
     else (if bytes_eq name (codes "print") then ToPrint
     else (if bytes_eq name (codes "backup")
     then backup_asked (first_of (codes "file") options) (first_of (codes "copy") options)
+    else (if bytes_eq name (codes "restore")
+    then restore_asked (first_of (codes "file") options) (first_of (codes "copy") options) (first_of (codes "at") options)
     else (if bytes_eq name (codes "dump")
     then file_asked (ToDump (has_flag (codes "all") options)) (first_of (codes "file") options)
-    else file_command_named name (first_of (codes "file") options))))))
+    else file_command_named name (first_of (codes "file") options)))))))
 
 -- the command that was met, with its matches
 abbrev pub command_of : Option (Text × List Row) → Asks

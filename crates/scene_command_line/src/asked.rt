@@ -1,7 +1,7 @@
 //! What a command line asks for.
 ghost use Rattle.std.specs.Prelude.{◌≡◌, IfOk, option_map, string_bytes};
 ghost use Rattle.scene_command_line.specs.Asks.{ToCompact, ToDump, ToLog, ToShow, asks_of};
-ghost use Rattle.scene_command_line.specs.Words.{backup_asked, depth_given, file_asked, file_given, file_in, number_to, run_asked, shell_asked, shell_by, workers_given};
+ghost use Rattle.scene_command_line.specs.Words.{backup_asked, depth_given, entry_given, file_asked, file_given, file_in, number_to, restore_asked, run_asked, shell_asked, shell_by, workers_given};
 
 use std::alloc::{AllocError, Global};
 
@@ -32,6 +32,8 @@ pub enum Asked {
     Compact(String),
     /// `scene backup FILE TO`: to copy the store in a file into another.
     Backup(BackupWords),
+    /// `scene restore FILE TO --at N`: to make a store, in another file, of what one has up to an entry of its log.
+    Restore(RestoreWords),
     /// `scene --help` and its kin: to print this help text.
     Help(String),
     /// Nothing, since the command line is bad.
@@ -72,6 +74,17 @@ pub struct BackupWords {
     pub copy: String,
 }
 
+/// How a restore is asked for.
+#[derive(Debug, Drop)]
+pub struct RestoreWords {
+    /// The file of the store, whose name isn't empty.
+    pub file: String,
+    /// The file that the copy is to be, whose name isn't empty.
+    pub copy: String,
+    /// `--at N`: the number of the last entry of `scene log` that the copy has, from 1.
+    pub at: u64,
+}
+
 /// The number of workers that a word is, 1 to 16.
 #[tactic(auto, using(crate::proofs::NumberLaws::workers_read))]
 fn workers_in(word: &str) -> Option<u8>
@@ -98,6 +111,15 @@ fn depth_in(word: &str) -> Option<u32>
     }
 }
 
+/// The number of an entry that a word is, 1 to 18,446,744,073,709,551,615.
+#[tactic(auto, using(crate::proofs::NumberLaws::entry_read))]
+fn entry_in(word: &str) -> Option<u64>
+    ensures { result ≡ number_to 18446744073709551615 word.now }
+{
+    let entry = word.parse::<u64>().unwrap_or(0);
+    if 0 < entry { Some(entry) } else { None }
+}
+
 /// The name of a file that a word is: any word but the empty one.
 fn file_in(word: &str) -> Option<&str>
     ensures { option_map (λ w. w.now) result ≡ file_in word.now }
@@ -122,6 +144,16 @@ fn depth_given(word: Option<&str>) -> Option<u32>
     match word {
         Some(word) => depth_in(word),
         None => Some(MOST_DEPTH),
+    }
+}
+
+/// The number of an entry that a word says, if one does.
+fn entry_given(word: Option<&str>) -> Option<u64>
+    ensures { result ≡ entry_given (option_map (λ w. w.now) word.entry) }
+{
+    match word {
+        Some(word) => entry_in(word),
+        None => None,
     }
 }
 
@@ -252,6 +284,25 @@ pub(crate) fn backup_asked(
     let copy = file_given(alloc, copy)?;
     match (file, copy) {
         (Some(file), Some(copy)) => Ok(Asked::Backup(BackupWords { file, copy })),
+        _ => Ok(Asked::Bad),
+    }
+}
+
+/// A store as it was at the entry that a word says, in the files that two words name, if they do. It is refused only for
+/// want of memory.
+pub(crate) fn restore_asked(
+    alloc: Global,
+    file: Option<&str>,
+    copy: Option<&str>,
+    entry: Option<&str>,
+) -> Result<Asked, AllocError>
+    ensures { IfOk result (λ asked. asks_of asked ≡ restore_asked (option_map (λ w. w.now) file.entry)
+        (option_map (λ w. w.now) copy.entry) (option_map (λ w. w.now) entry.entry)) }
+{
+    let file = file_given(alloc, file)?;
+    let copy = file_given(alloc, copy)?;
+    match (file, copy, entry_given(entry)) {
+        (Some(file), Some(copy), Some(at)) => Ok(Asked::Restore(RestoreWords { file, copy, at })),
         _ => Ok(Asked::Bad),
     }
 }

@@ -11,6 +11,6 @@ mod mistake;
 mod reading;
 mod texts;
 
-pub use asked::{Asked, BackupWords, DumpWords, ShellWords};
+pub use asked::{Asked, BackupWords, DumpWords, RestoreWords, ShellWords};
 pub use mistake::{BadWords, Mistake, mistake_in};
 pub use reading::read_words;

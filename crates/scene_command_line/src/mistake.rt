@@ -22,6 +22,8 @@ pub enum Mistake {
     TakesFileAndAll,
     /// The word is `backup`, and what follows it is neither the names of two files nor asks for help.
     TakesTwoFiles,
+    /// The word is `restore`, and what follows it is neither the names of two files with a good `--at` nor asks for help.
+    TakesTwoFilesAndAt,
     /// The word is another command's name, and something follows it.
     TakesNoWord,
     /// The word begins with a hyphen.
@@ -48,6 +50,7 @@ fn mistake_of(word: &str) -> Mistake
         "show" | "log" | "compact" => Mistake::TakesFile,
         "dump" => Mistake::TakesFileAndAll,
         "backup" => Mistake::TakesTwoFiles,
+        "restore" => Mistake::TakesTwoFilesAndAt,
         "check" | "print" => Mistake::TakesNoWord,
         "help" => Mistake::HelpOfNoCommand,
         _ if word.starts_with('-') => Mistake::NoOption,
@@ -111,6 +114,13 @@ impl<'a> fmt::Display for BadWords<'a> {
                     "{word} takes the names of a store's file and of its copy, and no other word but --help"
                 );
             }
+            Mistake::TakesTwoFilesAndAt => {
+                return write!(
+                    f,
+                    "{word} takes the names of a store's file and of its copy, --at N, where N is 1 to \
+                     18,446,744,073,709,551,615, and no other word but --help"
+                );
+            }
             Mistake::TakesNoWord => return write!(f, "{word} takes no word but --help"),
             Mistake::HelpOfNoCommand => write!(f, "help takes the name of one command")?,
             Mistake::NoOption if is_shown => {
@@ -121,7 +131,7 @@ impl<'a> fmt::Display for BadWords<'a> {
         }
         write!(
             f,
-            "; there are run, shell, check, print, show, dump, log, compact and backup"
+            "; there are run, shell, check, print, show, dump, log, compact, backup and restore"
         )
     }
 }

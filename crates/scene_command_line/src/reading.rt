@@ -5,11 +5,12 @@ ghost use Rattle.clap.specs.declared.builder.command.Command.TheViews.{out-Comma
 ghost use Rattle.clap.specs.Simple.{new_shape};
 ghost use Rattle.clap.specs.declared.error.kind.ErrorKind.TheVariants.{OutOfMemory};
 ghost use Rattle.scene_command_line.specs.Asks.{ToHelp, asks_of};
-ghost use Rattle.scene_command_line.specs.Plain.{AsksForDump, AsksForShell, are_plain, asks_for_backup, asks_for_file, asks_for_help, asks_for_workers, plainly_asked, workers_asked};
-ghost use Rattle.scene_command_line.specs.Words.{AsksFor, argument_rule, backup_shape, bare_line, by_kind, command_named, command_of, dump_shape, file_rule, file_shape, flag_rule, has_flag, line_without_file, option_rule, run_shape, scene_line, shell_shape, workers_rule};
+ghost use Rattle.scene_command_line.specs.Plain.{AsksForDump, AsksForRestore, AsksForShell, are_plain, asks_for_backup, asks_for_file, asks_for_help, asks_for_workers, plainly_asked, workers_asked};
+ghost use Rattle.scene_command_line.specs.Words.{AsksFor, argument_rule, backup_shape, bare_line, by_kind, command_named, command_of, dump_shape, file_rule, file_shape, flag_rule, has_flag, line_without_file, option_rule, required_option_rule, restore_shape, run_shape, scene_line, shell_shape, workers_rule};
 
 use crate::asked::{
-    Asked, backup_asked, compact_asked, dump_asked, log_asked, run_asked, shell_asked, show_asked,
+    Asked, backup_asked, compact_asked, dump_asked, log_asked, restore_asked, run_asked,
+    shell_asked, show_asked,
 };
 use crate::texts;
 use clap::error::ErrorKind;
@@ -34,6 +35,14 @@ fn option<'a>(alloc: Global, name: &'a str, value: &'a str, help: &'a str) -> Ar
         .action(ArgAction::Set)
         .value_name(value)
         .help(help)
+}
+
+/// An option that takes one word and has to be given.
+fn required_option<'a>(alloc: Global, name: &'a str, value: &'a str, help: &'a str) -> Arg<'a>
+    ensures rule { rule_of result ≡ required_option_rule name.entry.now }
+    ensures local { result.global ≡ false }
+{
+    option(alloc, name, value, help).required(true)
 }
 
 /// An option that takes no word.
@@ -129,6 +138,17 @@ fn backup_command<'a>(alloc: Global) -> Result<Command<'a>, AllocError>
         .arg(argument(alloc, "copy", "TO", texts::COPY))
 }
 
+/// The command `restore` with the names of the two files and its option.
+fn restore_command<'a>(alloc: Global) -> Result<Command<'a>, AllocError>
+    ensures shape { IfOk result (λ c. shape_of c ≡ restore_shape) }
+    ensures local { IfOk result (λ c. (fields_of c).has_globals ≡ false) }
+{
+    command(alloc, "restore", texts::RESTORE, texts::RESTORE_MORE)
+        .arg(file_argument(alloc))?
+        .arg(argument(alloc, "copy", "TO", texts::COPY))?
+        .arg(required_option(alloc, "at", "N", texts::AT))
+}
+
 /// The line with the command `run` behind its others.
 fn with_run_command<'a>(alloc: Global, line: Command<'a>) -> Result<Command<'a>, AllocError>
     ensures { IfOk result (λ c. app_of c ≡ with_subcommand (app_of line.entry) run_shape) }
@@ -175,6 +195,14 @@ fn with_backup_command<'a>(alloc: Global, line: Command<'a>) -> Result<Command<'
     line.subcommand(backup)
 }
 
+/// The line with the command `restore` behind its others.
+fn with_restore_command<'a>(alloc: Global, line: Command<'a>) -> Result<Command<'a>, AllocError>
+    ensures { IfOk result (λ c. app_of c ≡ with_subcommand (app_of line.entry) restore_shape) }
+{
+    let restore = restore_command(alloc)?;
+    line.subcommand(restore)
+}
+
 /// The program before it has commands, as `clap` reads it.
 fn bare_line<'a>(alloc: Global) -> Result<Command<'a>, AllocError>
     ensures { IfOk result (λ c. app_of c ≡ bare_line) }
@@ -207,7 +235,8 @@ fn commands<'a>(alloc: Global) -> Result<Command<'a>, AllocError>
     let line = with_dump_command(alloc, line)?;
     let line = with_file_command(alloc, line, "log", texts::LOG, texts::LOG_MORE)?;
     let line = with_file_command(alloc, line, "compact", texts::COMPACT, texts::COMPACT_MORE)?;
-    with_backup_command(alloc, line)
+    let line = with_backup_command(alloc, line)?;
+    with_restore_command(alloc, line)
 }
 
 /// Whether the flag of this name is given.
@@ -238,6 +267,12 @@ fn command_named(alloc: Global, name: &str, options: &ArgMatches<'_>) -> Result<
         "log" => log_asked(alloc, options.get_str("file")),
         "compact" => compact_asked(alloc, options.get_str("file")),
         "backup" => backup_asked(alloc, options.get_str("file"), options.get_str("copy")),
+        "restore" => restore_asked(
+            alloc,
+            options.get_str("file"),
+            options.get_str("copy"),
+            options.get_str("at"),
+        ),
         _ => Ok(Asked::Bad),
     }
 }
@@ -274,6 +309,7 @@ pub fn read_words<'a>(alloc: Global, words: &'a [String]) -> Result<Asked, Alloc
         → IfOk result (λ asked. asks_of asked ≡ workers_asked (map string_bytes words.now)) }
     ensures shell { IfOk result (λ asked. AsksForShell (asks_of asked) (map string_bytes words.now)) }
     ensures dump { IfOk result (λ asked. AsksForDump (asks_of asked) (map string_bytes words.now)) }
+    ensures restore { IfOk result (λ asked. AsksForRestore (asks_of asked) (map string_bytes words.now)) }
     ensures file { asks_for_file (map string_bytes words.now) ≡ true
         → IfOk result (λ asked. asks_of asked ≡ plainly_asked (map string_bytes words.now)) }
     ensures backup { asks_for_backup (map string_bytes words.now) ≡ true

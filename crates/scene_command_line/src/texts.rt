@@ -7,7 +7,7 @@ pub(crate) const PROGRAM: &str =
 /// What all commands have in common.
 pub(crate) const PROGRAM_MORE: &str = "\
 Each command prints on standard output. `shell` answers standard input line by line; `run`, `check` and `print` read it
-to its end; `show`, `dump`, `log`, `compact` and `backup` read the file of a store.
+to its end; `show`, `dump`, `log`, `compact`, `backup` and `restore` read the file of a store.
 
 Exit status:
   0  all went well
@@ -101,3 +101,14 @@ pub(crate) const BACKUP_MORE: &str = "\
 The copy is one file and keeps all that was answered before. The store itself stays as it is.
 
 docs/SHELL.md explains stores.";
+
+pub(crate) const RESTORE: &str =
+    "Copies a store as it was at an entry of its log into another file";
+
+pub(crate) const RESTORE_MORE: &str = "\
+The copy keeps all that was done up to that entry, and the entry too. The store itself stays as it is.
+
+docs/SHELL.md explains stores and their log.";
+
+pub(crate) const AT: &str =
+    "The number of the entry, as `scene log` prints it, 1 to 18,446,744,073,709,551,615";

@@ -1,3 +1,4 @@
+pub mod Apart
 pub mod ChangeLaws
 pub mod FileFaultLaws
 pub mod FrameLaws

@@ -1,4 +1,5 @@
 pub mod Answer
+pub mod Apart
 pub mod Changes
 pub mod FurtherKind
 pub mod FileFaultText
@@ -10,6 +11,7 @@ pub mod OpenFrame
 pub mod Phases
 pub mod Play
 pub mod Printed
+pub mod Progress
 pub mod Interpreter
 pub mod Questions
 pub mod Said

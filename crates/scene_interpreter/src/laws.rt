@@ -1,5 +1,6 @@
 //! What users of an interpreter rely on, as contracts of functions without a body.
 ghost use Rattle.std.specs.Prelude.{◌≡◌, ℕ, List, false};
+ghost use Rattle.scene_interpreter.specs.Apart.{AnswersApart, SameApart};
 ghost use Rattle.scene_interpreter.specs.Changes.{changes};
 ghost use Rattle.scene_interpreter.specs.Interpreter.{Interpreter, first_interpreter, reached, interpreter_reply, lone_interpreter};
 ghost use Rattle.scene_interpreter.specs.LockAlike.{AnswersAlike};
@@ -23,4 +24,13 @@ pub fn a_lock_changes_no_answer<O: ScriptOwner, L: ScriptOwner>()
         → reached O.state O.most p ≡ reached L.state L.most q
         → AnswersAlike (reached O.state O.most p) (reached L.state L.most q) bytes }
     ensures first { lone_interpreter 1048576 1048576 ≡ first_interpreter }
+{}
+
+/// A law: two interpreters that are the same in all but which calls there were answer a line with the same, and are so
+/// again behind it. Such are an interpreter and one that was brought to the same scene, systems, kinds, turn and limits,
+/// and went on from where the first one was (`Interpreter::resume`).
+#[tactic(auto, using(crate::proofs::Apart::answers_apart, crate::proofs::Apart::apart_refl))]
+pub fn history_apart_changes_no_answer()
+    ensures answers { (p : Interpreter) → (q : Interpreter) → (bytes : List ℕ) → SameApart p q → AnswersApart p q bytes }
+    ensures same { (p : Interpreter) → SameApart p p }
 {}

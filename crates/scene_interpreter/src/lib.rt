@@ -22,6 +22,7 @@ mod laws;
 mod open_frame;
 mod phases;
 mod play_state;
+mod progress;
 mod question;
 mod script_owner;
 mod settings;
@@ -38,7 +39,11 @@ pub use bad_line_report::BadLineReport;
 pub use file_fault_text::answer_file_fault;
 pub use halt::Halt;
 pub use interpreter::Interpreter;
-pub use laws::{a_line_that_changes_nothing_leaves_the_interpreter, a_lock_changes_no_answer};
+pub use laws::{
+    a_line_that_changes_nothing_leaves_the_interpreter, a_lock_changes_no_answer,
+    history_apart_changes_no_answer,
+};
+pub use progress::Progress;
 pub use scene_session::Way;
 pub use script_owner::ScriptOwner;
 pub use settings::InterpreterSettings;

@@ -1,6 +1,8 @@
+pub mod Alike
 mod AllPasses
 mod Bare
 pub mod Crossing
+mod Earlier
 mod Entered
 mod FurtherKind
 mod Machines

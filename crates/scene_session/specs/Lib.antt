@@ -1,6 +1,7 @@
 pub mod AllPasses
 pub mod Calls
 pub mod Codes
+pub mod Earlier
 pub mod FurtherKind
 pub mod History
 pub mod Logged
@@ -9,6 +10,7 @@ pub mod OwnerCodes
 pub mod Passes
 pub mod Performed
 pub mod Queries
+pub mod Resumed
 pub mod Session
 pub mod State
 pub mod Turns

@@ -4,12 +4,14 @@ ghost use Rattle.std.specs.Coded.{coded_list};
 ghost use Rattle.scene_session.specs.OwnerCodes.{made_code};
 ghost use Rattle.scene_session.specs.Owner.{MadeCall};
 ghost use Rattle.scene_session.specs.Calls.{Submit, asked};
+ghost use Rattle.scene_session.specs.Earlier.{earlier_calls};
 ghost use Rattle.scene_session.specs.Logged.{asked_in, logged};
 ghost use Rattle.scene_queue.specs.Frames.{lone_frame};
 ghost use base.Fml.{ftrue};
 
 use crate::call::{Call, Reply};
 use scene_commands::Command;
+use scene_undo::Editor;
 use std::marker::Model;
 use std::snapshot::Snapshot;
 
@@ -48,6 +50,13 @@ pub(crate) struct Logged {
     pub(crate) reply: Reply,
 }
 
+/// Calls of which only the number is known, and what they left.
+#[derive(Drop)]
+pub(crate) struct Earlier {
+    pub(crate) calls: u64,
+    pub(crate) left: Snapshot<Editor>,
+}
+
 /// The calls that were made, the oldest first. Clauses alone see them: it takes no memory, and its functions do nothing
 /// when they run.
 #[derive(Drop)]
@@ -63,6 +72,14 @@ impl Log {
     /// No calls.
     pub(crate) fn new() -> Log
         ensures { result.calls ≡ [] }
+    {
+        Log {}
+    }
+
+    /// So many calls that aren't known.
+    #[inline(always)]
+    pub(crate) fn of_earlier(_earlier: &Earlier) -> Log
+        ensures { result.calls ≡ earlier_calls _earlier.now }
     {
         Log {}
     }

@@ -6,13 +6,14 @@ ghost use Rattle.scene_queue.specs.Frames.{lone_frame};
 ghost use Rattle.scene_session.specs.Calls.{Redo, Refused, Submit, Undo, asked, queue_count, told};
 ghost use Rattle.scene_session.specs.FurtherKind.{declare_owner};
 ghost use Rattle.scene_session.specs.Logged.{asked_in, logged};
+ghost use Rattle.scene_session.specs.Resumed.{IsResumed};
 ghost use Rattle.scene_session.specs.State.{stopping_at};
 ghost use Rattle.scene_session.specs.Turns.{owner_by, turned};
 ghost use Rattle.scene_session.specs.Whole.{whole_of};
 ghost use Rattle.scene_session.specs.Owner.{opening_owner, owner_at_depth, performed, whole_at};
 
 use crate::call::{Call, Reply, Stopped};
-use crate::log::{Log, Logged, LoggedCall};
+use crate::log::{Earlier, Log, Logged, LoggedCall};
 use crate::owner::SessionOwner;
 use crate::query::EditorQuery;
 use crate::step::{call_editor, call_editor_one, call_editor_with, redo_editor, undo_editor};
@@ -342,6 +343,24 @@ impl LoneOwner {
             }
             Err(refusal) => Err(refusal),
         }
+    }
+
+    /// Goes on as one that has made so many calls, after which there were so many undos: for who knows what the calls of
+    /// another owner led to, and not which they were (docs/SESSIONS.md, "One owner"). The calls so far are forgotten;
+    /// worlds, records, depth, limit and turn stay. It takes no memory.
+    pub fn resume(&mut self, rewinds: u64, calls: u64)
+        requires { calls ≤ self.old.limit }
+        ensures { IsResumed rewinds calls self.old self.new }
+    {
+        self.editor.set_rewinds(rewinds);
+        let earlier = Earlier {
+            calls,
+            left: Snapshot::of(&self.editor),
+        };
+        self.log = Log::of_earlier(&earlier);
+        let Earlier { left, .. } = earlier;
+        self.opening = left;
+        self.room = self.limit - calls;
     }
 
     /// The editor as it is after these calls. It takes no memory.

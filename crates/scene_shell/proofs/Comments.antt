@@ -1,10 +1,12 @@
 -- Comments among lines.
-use Rattle.std.proofs.Common.{◌≡◌, ◌⊎◌, ◌<◌, ◌-◌, ℕ, List, [], ◌∷◌, ◌++◌, Bool, true, false, Option, Some, None, OnOk, Result, Ok, Err, option_map, ◌+◌, arith, drop, inl, inr, length, refl, sym, ap, subst, ◌∙◌, append_assoc, append-nil}
+use Rattle.std.proofs.Common.{◌≡◌, ◌⊎◌, ◌<◌, ◌-◌, ℕ, List, [], ◌∷◌, ◌++◌, Bool, true, false, Option, Some, None, OnOk, Result, Ok, Err, option_map, ◌+◌, arith, drop, take, inl, inr, length, refl, sym, ap, subst, ◌∙◌, append_assoc, append-nil}
 use Rattle.std.specs.Prelude.{◌==◌, if◌then◌else◌, is_some, nat_lt, slice_index_or}
 use Rattle.std.proofs.lemmas.Bool.{or_parts}
 use Rattle.std.proofs.lemmas.Bool.Decides.{nat_tests}
 use Rattle.std.proofs.lemmas.List.Elements.{All-cons, All-nil}
 use Rattle.std.proofs.lemmas.Grind.{common_steps}
+use Rattle.std.proofs.lemmas.List.{take-append-drop}
+use Rattle.std.proofs.Math.Seq.{take-length, drop-length}
 use Rattle.std.specs.List.{list_any}
 use Rattle.std.specs.Str.{IsUtf8, is_utf8}
 use Rattle.std.proofs.lemmas.Str.{is_utf8-from_IsUtf8}
@@ -24,6 +26,7 @@ use Rattle.scene_interpreter.specs.Play.{PlayState, reply_within}
 use Rattle.scene_interpreter.specs.Said.{Nothing, bad_in}
 use Rattle.scene_interpreter.specs.Interpreter.{Interpreter, Setting, Playing, interpreter_kinds, interpreter_said}
 use Rattle.scene_shell.specs.Dated.{EndsLine, IsComment, IsDated, IsWhole, KeepsAlike, PlayAlike}
+use Rattle.scene_shell.specs.FirstLines.{IsCut}
 use Rattle.scene_shell.specs.Kept.{ended}
 use Rattle.scene_shell.specs.Shell.{bad_count, interpreter_after}
 use Rattle.scene_shell.specs.ShellLine.{ShellReply, request_changes, shell_changes, shell_reply}
@@ -108,6 +111,20 @@ ends_behind t more whole ends ys =
     ap lines (append_assoc t more ys) ∙ whole (more ++ ys) ∙ ap (λ ls. lines t ++ ls) (ends_whole more ends ys)
     ∙ sym (append_assoc (lines t) (lines more) (lines ys)) ∙ ap (λ ls. ls ++ lines ys) (sym (whole more))
 
+-- ---- a text that is cut
+
+cut_parts : (t : List ℕ) (n : ℕ) → lines t ≡ lines (take n t ++ drop n t)
+cut_parts t n = ap lines (sym (take-append-drop n t))
+
+pub cut_behind : (t : List ℕ) (n : ℕ) → n < length t → EndsLine (take n t) → IsCut t n
+cut_behind t n below ends = record { within = omega (arith, below); whole = cut_parts t n ∙ ends_whole (take n t) ends (drop n t) }
+
+pub cut_nowhere : (t : List ℕ) → IsCut t (length t)
+cut_nowhere t = record {
+  within = omega arith;
+  whole = rw (take-length t, drop-length t) (sym (append-nil (lines t)));
+}
+
 -- ---- as code finds it
 
 last_behind : (b c : ℕ) (bs : List ℕ) → slice_index_or (b ∷ c ∷ bs) (length (b ∷ c ∷ bs) - 1) 0 ≡ slice_index_or (c ∷ bs) (length (c ∷ bs) - 1) 0
@@ -149,6 +166,10 @@ no_change : (p : Interpreter) → said_changes p (Ok Empty) ≡ false
 no_change (Setting s) = refl
 no_change (Playing s) = no_change_within s.frame
 
+bad_changes_nothing : (p : Interpreter) → said_changes p (Err NotUtf8) ≡ false
+bad_changes_nothing (Setting s) = refl
+bad_changes_nothing (Playing s) = refl
+
 no_request : (l : List ℕ) → IsComment l → is_request l ≡ false
 no_request l is = rw is.begins refl
 
@@ -166,15 +187,34 @@ comment_good p c is =
     ap (λ (r : ShellReply). r.bad) (reply_to_line p c (no_request c is))
     ∙ ap (option_map why.Line) (ap (λ said. (interpreter_said p said).bad) (comment_is_empty (interpreter_kinds p) c is) ∙ nothing_said p)
 
+-- a line that begins as a comment does changes nothing, whatever else it has
+sign_says_nothing : (b : Bool) (p : Interpreter) (l : List ℕ) → is_utf8 l ≡ b → (xs : List ℕ) → l ≡ 35 ∷ xs
+    → said_changes p (line_in (interpreter_kinds p) l) ≡ false
+sign_says_nothing true p l utf8 xs begins =
+    ap (λ t. said_changes p (if t then line_of_words (interpreter_kinds p) l (words_of l) else Err NotUtf8)) utf8
+    ∙ ap (said_changes p) (subst (λ t. line_of_words (interpreter_kinds p) t (words_of t) ≡ Ok Empty) (sym begins) (by_words (interpreter_kinds p) xs))
+    ∙ no_change p
+sign_says_nothing false p l utf8 xs begins =
+    ap (λ t. said_changes p (if t then line_of_words (interpreter_kinds p) l (words_of l) else Err NotUtf8)) utf8 ∙ bad_changes_nothing p
+
+pub sign_leaves : (p : Interpreter) (l xs : List ℕ) → l ≡ 35 ∷ xs → (shell_reply p l).interpreter ≡ p
+sign_leaves p l xs begins =
+    let no : is_request l ≡ false = rw begins refl in
+    shell_unchanged p l
+    (
+    ap (λ b. if b then request_changes p (request_in (interpreter_kinds p) l) else changes p l) no
+    ∙ sign_says_nothing (is_utf8 l) p l refl xs begins
+    )
+
 -- lines behind a comment play as they do without it
-comment_first : (c : List ℕ) → IsComment c → (p : Interpreter) (ls : List (List ℕ)) → (interpreter_after p (c ∷ ls) ≡ interpreter_after p ls) × (bad_count p (c ∷ ls) ≡ bad_count p ls)
+pub comment_first : (c : List ℕ) → IsComment c → (p : Interpreter) (ls : List (List ℕ)) → (interpreter_after p (c ∷ ls) ≡ interpreter_after p ls) × (bad_count p (c ∷ ls) ≡ bad_count p ls)
 comment_first c is p ls = (
   ap (λ q. interpreter_after q ls) (comment_stays p c is),
   ap (λ bad. (if is_some bad then 1 else 0) + bad_count (shell_reply p c).interpreter ls) (comment_good p c is)
       ∙ (omega arith ∙ ap (λ q. bad_count q ls) (comment_stays p c is)),
 )
 
-bad_append : (p : Interpreter) (xs ys : List (List ℕ)) → bad_count p (xs ++ ys) ≡ bad_count p xs + bad_count (interpreter_after p xs) ys
+pub bad_append : (p : Interpreter) (xs ys : List (List ℕ)) → bad_count p (xs ++ ys) ≡ bad_count p xs + bad_count (interpreter_after p xs) ys
 bad_append p [] ys = omega arith
 bad_append p (x ∷ xs) ys =
     ap (λ n. (if is_some (shell_reply p x).bad then 1 else 0) + n) (bad_append (shell_reply p x).interpreter xs ys)
@@ -187,8 +227,11 @@ none_ends (x ∷ xs) none =
     let parts = or_parts (is_end x) (list_any is_end xs) none in
     All-cons (λ b. is_end b ≡ false) x xs parts.0 (none_ends xs parts.1)
 
+pub comment_is_line : (c : List ℕ) → IsComment c → IsLine c
+comment_is_line c is = none_ends c is.one
+
 comment_line : (c ys : List ℕ) → IsComment c → lines (ended c ++ ys) ≡ c ∷ lines ys
-comment_line c ys is = ended_first c ys (none_ends c is.one)
+comment_line c ys is = ended_first c ys (comment_is_line c is)
 
 -- a text is followed by lines behind a comment as by the lines
 dated_behind : (t c ls : List ℕ) → IsWhole t → IsComment c → PlayAlike (t ++ (ended c ++ ls)) (t ++ ls)
@@ -205,14 +248,14 @@ dated_behind t c ls whole is p more =
           ∙ sym (bad_append p (lines t) (lines (ls ++ more))) ∙ ap (bad_count p) (sym without),
     )
 
-alike_more : (one other more : List ℕ) → PlayAlike one other → PlayAlike (one ++ more) (other ++ more)
+pub alike_more : (one other more : List ℕ) → PlayAlike one other → PlayAlike (one ++ more) (other ++ more)
 alike_more one other more alike p rest =
     let so = alike p (more ++ rest) in (
       ap (λ t. interpreter_after p (lines t)) (append_assoc one more rest) ∙ so.0 ∙ ap (λ t. interpreter_after p (lines t)) (sym (append_assoc other more rest)),
       ap (λ t. bad_count p (lines t)) (append_assoc one more rest) ∙ so.1 ∙ ap (λ t. bad_count p (lines t)) (sym (append_assoc other more rest)),
     )
 
-alike_on : (one two three : List ℕ) → PlayAlike one two → PlayAlike two three → PlayAlike one three
+pub alike_on : (one two three : List ℕ) → PlayAlike one two → PlayAlike two three → PlayAlike one three
 alike_on one two three first second p more = ((first p more).0 ∙ (second p more).0, (first p more).1 ∙ (second p more).1)
 
 -- ---- what a dated store keeps

@@ -41,7 +41,7 @@ ended_by false l ys is line =
 pub ended_first : (l ys : List ℕ) → IsLine l → lines (ended l ++ ys) ≡ l ∷ lines ys
 ended_first l ys line = ended_by (slice_index l (length l - 1) == 13) l ys refl line
 
-whole_more : (t l : List ℕ) → IsWhole t → IsLine l → IsWhole (t ++ ended l)
+pub whole_more : (t l : List ℕ) → IsWhole t → IsLine l → IsWhole (t ++ ended l)
 whole_more t l whole line ys =
     let one : lines (ended l) ≡ l ∷ [] = ap lines (sym (append-nil (ended l))) ∙ ended_first l [] line in
     ap lines (append_assoc t (ended l) ys) ∙ whole (ended l ++ ys) ∙ ap (λ ls. lines t ++ ls) (ended_first l ys line)

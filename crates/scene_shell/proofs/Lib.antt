@@ -1,10 +1,13 @@
 mod Agreement
+mod Apart
 mod BadTexts
+mod Honest
 mod Comments
 mod KeptLaws
 mod KeptLead
 mod LineFaults
 mod Lines
+mod Scans
 mod Played
 mod RunLaws
 mod SameLists

@@ -1,5 +1,5 @@
 -- Lines that are played again, and what stops them.
-use Rattle.std.specs.Prelude.{⊤, ◌≡◌, ℕ, ◌+◌, List, ◌∷◌, ◌++◌, Some, None, Result, Ok, Err, length}
+use Rattle.std.specs.Prelude.{⊤, ◌≡◌, ℕ, ◌+◌, ◌-◌, ◌^◌, min, List, ◌∷◌, ◌++◌, Some, None, Result, Ok, Err, length}
 use Rattle.scene_interpreter.specs.Interpreter.{Interpreter, halted}
 use Rattle.scene_shell.specs.declared.bad_shell_line.BadShellLine.{BadShellLine}
 use Rattle.scene_shell.specs.ShellLine.{shell_reply}
@@ -38,6 +38,12 @@ StopsBy first left ls (Bad number reason) =
     StopsAt first ls number (λ p l. ((shell_reply p l).bad ≡ Some reason) × (left ≡ (shell_reply p l).interpreter))
 StopsBy first left ls (Halted number halt) = StopsAt first ls number (λ p l. left ≡ halted halt p (shell_reply p l).interpreter)
 StopsBy first left ls fault = ⊥
+
+-- the fault of lines behind so many others; no number of 64 bits is greater than the greatest
+abbrev pub fault_behind : ℕ → KeptLineFault → KeptLineFault
+fault_behind skipped (Bad number reason) = Bad (min (number + skipped) (2 ^ 64 - 1)) reason
+fault_behind skipped (Halted number halt) = Halted (min (number + skipped) (2 ^ 64 - 1)) halt
+fault_behind skipped fault = fault
 
 -- how a line of a number was played: it isn't bad; or it is, for this reason; or no memory was found for it
 abbrev pub IsPlayedAs : (old new : Interpreter) → ℕ → List ℕ → Result (Unit {0}) KeptLineFault → Type 0

@@ -1,21 +1,19 @@
 -- A shell on a store, from its opening to its end.
-use Rattle.std.specs.Prelude.{◌≡◌, ℕ, List, Option, Result, Ok, Err}
+use Rattle.std.specs.Prelude.{⊤, ◌≡◌, ℕ, List, Option, Result, Ok, Err}
 use Rattle.std.specs.Str.Lines.{lines}
-use Rattle.scene_interpreter.specs.Interpreter.{Interpreter, lone_interpreter}
+use Rattle.scene_interpreter.specs.Interpreter.{Interpreter}
 use Rattle.scene_streams.specs.Keep.{StaysKept}
-use Rattle.scene_shell.specs.Kept.{Beginning, EndsAs, Meaning, both_mean}
+use Rattle.scene_shell.specs.Checkpoints.{Starts, kept_interpreter}
+use Rattle.scene_shell.specs.Kept.{Beginning, EndsAs, both_mean}
 use Rattle.scene_shell.specs.Shell.{interpreter_after}
 use Rattle.scene_shell.specs.declared.kept_fault.KeptFault.{KeptFault}
 use Rattle.scene_shell.specs.declared.store_writer.StoreWriter.{StoreWriter}
 use Rattle.scene_shell.specs.declared.style.AnswerStyle.{AnswerStyle}
-use Rattle.scene_shell.specs.Replayed.{NoneIsBad, StopsBy}
+use Rattle.scene_shell.specs.Replayed.{NoneIsBad, StopsBy, fault_behind}
 use Rattle.scene_shell.specs.declared.line_fault.KeptLineFault.{KeptLineFault}
+use Rattle.scene_shell.specs.declared.line_fault.KeptLineFault.TheVariants.{NoMemory}
 use Rattle.scene_shell.specs.declared.store_shell.StoreShellFault.{StoreShellFault}
 use Rattle.scene_shell.specs.declared.store_shell.StoreShellFault.TheVariants.{Unopened, Lines, Shell, Unclosed}
-
--- the interpreter before the first line that a store has kept, which takes so many calls
-abbrev pub kept_interpreter : ℕ → Interpreter
-kept_interpreter calls = lone_interpreter 1048576 calls
 
 -- What a store, and the stream beside it, mean
 pub record StoreMeaning (S W : Type 0) : Type 1 where
@@ -59,27 +57,40 @@ module _ {S W : Type 0} (m : StoreMeaning S W) where
     pub kept : m.keeps read text
     pub is_played : m.plays text calls
 
-  -- A shell went on with the interpreter that the lines of a store led to, none of which is bad, and ended so, with
-  -- this store and writer: it answers as that interpreter, and the store keeps its lines behind those.
-  pub record HasGoneOn {F : Type 0} (shell : StoreBeginning W) (now : S) (new : W) (rest : Option (List ℕ))
-      (r : Result ℕ (KeptFault F)) : Type 0 where
+  -- The lines of a store were read, and some of them are played: all, or those behind a checkpoint, from the interpreter
+  -- that begins there.
+  pub record IsBegun : Type 0 where
     pub read : S
     pub text : List ℕ
     pub calls : ℕ
     pub is_read : IsRead read text calls
-    pub good : NoneIsBad (kept_interpreter calls) (lines text)
+    pub start : Interpreter
+    pub skipped : ℕ
+    pub rest : List (List ℕ)
+    pub starts : Starts (kept_interpreter calls) (lines text) start skipped rest
+
+  -- A shell went on with the interpreter that the lines of a store led to, none of which was bad as it was played, and
+  -- ended so, with this store and writer: it answers as that interpreter, and the store keeps its lines behind those.
+  pub record HasGoneOn {F : Type 0} (shell : StoreBeginning W) (now : S) (new : W) (rest : Option (List ℕ))
+      (r : Result ℕ (KeptFault F)) : Type 0 where
+    pub begun : IsBegun
+    pub good : NoneIsBad begun.start begun.rest
     pub ends : EndsAs (both_mean m.keeps m.contents)
-        (behind_store shell read (interpreter_after (kept_interpreter calls) (lines text)))
+        (behind_store shell begun.read (interpreter_after begun.start begun.rest))
         (record { store = now; writer = new }) rest r
 
   -- the lines of a store weren't played
   pub record IsUnplayed (fault : KeptLineFault) : Type 0 where
-    pub read : S
-    pub text : List ℕ
-    pub calls : ℕ
-    pub is_read : IsRead read text calls
+    pub begun : IsBegun
     pub left : Interpreter
-    pub stopped : StopsBy (kept_interpreter calls) left (lines text) fault
+    pub stop : KeptLineFault
+    pub stopped : StopsBy begun.start left begun.rest stop
+    pub told : fault ≡ fault_behind begun.skipped stop
+
+  -- they weren't, or no memory was found for where to begin
+  abbrev pub IsStopped : KeptLineFault → Type 0
+  IsStopped NoMemory = ⊤
+  IsStopped fault = IsUnplayed fault
 
   -- How a shell on a store ends, where `closes` says that a store was closed: it was opened, its lines were played,
   -- the shell went on and ended, and the store was closed; or it stopped on the way, and where no line was to be read
@@ -93,32 +104,33 @@ module _ {S W : Type 0} (m : StoreMeaning S W) where
   EndsStored closes shell new rest (Err (Shell fault)) =
       (now : S) × HasGoneOn shell now new rest (Err fault)
   EndsStored closes shell new rest (Err (Lines fault)) =
-      IsUntouched shell.start new shell.script rest × IsUnplayed fault
+      IsUntouched shell.start new shell.script rest × IsStopped fault
   EndsStored closes shell new rest (Err (Unopened fault)) = IsUntouched shell.start new shell.script rest
 
 -- ---- on the way. Nothing that a shell on a store promises is said with these words.
 
-module _ {K : Type 0} (m : Meaning K) where
-  -- behind the lines of a text, which are played first, a shell ended so; or they weren't played
-  abbrev pub PlaysOn : {F : Type 0} → Beginning K → (text : List ℕ) → (now : K) → (rest : Option (List ℕ))
-      → Result ℕ (StoreShellFault F) → Type 0
-  PlaysOn {F = F} shell text now rest (Ok count) =
-      NoneIsBad shell.first (lines text)
-      × EndsAs m {F = F} (record shell { first = interpreter_after shell.first (lines text) }) now rest (Ok count)
-  PlaysOn shell text now rest (Err (Shell fault)) =
-      NoneIsBad shell.first (lines text)
-      × EndsAs m (record shell { first = interpreter_after shell.first (lines text) }) now rest (Err fault)
-  PlaysOn shell text now rest (Err (Lines fault)) =
-      IsUntouched shell.start now shell.script rest × ((left : Interpreter) × StopsBy shell.first left (lines text) fault)
-  PlaysOn shell text now rest (Err (Unopened fault)) = ⊥
-  PlaysOn shell text now rest (Err (Unclosed fault)) = ⊥
+-- where lines were played from
+pub record IsPlayedFrom (calls : ℕ) (all : List (List ℕ)) : Type 0 where
+  pub start : Interpreter
+  pub skipped : ℕ
+  pub rest : List (List ℕ)
+  pub starts : Starts (kept_interpreter calls) all start skipped rest
+
+-- Lines of a store were played and led to an interpreter; or one of them stopped them; or no memory was found before.
+abbrev pub IsPlayed : {A : Type 0} → (calls : ℕ) → (all : List (List ℕ)) → (A → Interpreter) → Result A KeptLineFault → Type 0
+IsPlayed calls all interpreter (Ok a) =
+    (from : IsPlayedFrom calls all) × NoneIsBad from.start from.rest × (interpreter a ≡ interpreter_after from.start from.rest)
+IsPlayed calls all interpreter (Err NoMemory) = ⊤
+IsPlayed calls all interpreter (Err fault) =
+    (from : IsPlayedFrom calls all) × (left : Interpreter) × (stop : KeptLineFault) × StopsBy from.start left from.rest stop
+    × (fault ≡ fault_behind from.skipped stop)
 
 module _ {S W : Type 0} (m : StoreMeaning S W) where
-  -- the same of a store that is open
+  -- how a shell ends on a store that is open
   abbrev pub GoesOn : {F : Type 0} → StoreBeginning W → (now : StoreWriter S W) → (rest : Option (List ℕ))
       → Result ℕ (StoreShellFault F) → Type 0
   GoesOn {F = F} shell now rest (Ok count) = HasGoneOn m {F = F} shell now.store now.writer rest (Ok count)
   GoesOn shell now rest (Err (Shell fault)) = HasGoneOn m shell now.store now.writer rest (Err fault)
-  GoesOn shell now rest (Err (Lines fault)) = IsUntouched shell.start now.writer shell.script rest × IsUnplayed m fault
+  GoesOn shell now rest (Err (Lines fault)) = IsUntouched shell.start now.writer shell.script rest × IsStopped m fault
   GoesOn shell now rest (Err (Unopened fault)) = IsUntouched shell.start now.writer shell.script rest
   GoesOn shell now rest (Err (Unclosed fault)) = ⊥

@@ -101,7 +101,7 @@ fn lead_to_same(
 
 /// Lines that lead to what an interpreter has, which has this editor, and whose systems these lines give. They were
 /// played too.
-fn lines_to(
+pub(crate) fn lines_to(
     alloc: Global,
     interpreter: &Interpreter<LoneOwner>,
     editor: &Editor,

@@ -5,6 +5,7 @@ ghost use Rattle.scene_shell.specs.Kept.{ended};
 
 use crate::comment::{end_within, is_comment};
 use crate::kept_line::push_kept_line;
+use crate::kept_notes::KeptNotes;
 use crate::moment::Moment;
 use scene_streams::{Keep, KeptLines, KeptText};
 use std::alloc::{AllocError, Global};
@@ -128,5 +129,15 @@ impl<'a, S: KeptLines + Drop, C: Clock> KeptLines for DatedStore<'a, S, C> {
             }
             Err(fault) => Err(fault),
         }
+    }
+}
+
+impl<'a, S: KeptLines + Drop, C: Clock> KeptNotes for DatedStore<'a, S, C> {
+    #[tactic(auto, using(crate::proofs::Scans::stays_noted))]
+    fn note(&mut self, notes: &[u8]) -> Result<(), S::Fault> {
+        if self.ends_within {
+            return Ok(());
+        }
+        self.store.keep(notes)
     }
 }

@@ -16,14 +16,19 @@
 mod agree;
 mod asked;
 mod bad_shell_line;
+mod checkpoint_end;
+mod checkpoint_start;
+mod checkpoint_text;
+mod checkpoints;
 mod comment;
 mod compact;
-mod dated_place;
 mod dated_store;
+mod first_lines;
 mod frame_account;
 mod keep;
 mod kept_fault;
 mod kept_line;
+mod kept_notes;
 mod kept_shell;
 mod laws;
 mod line_fault;
@@ -47,13 +52,17 @@ mod waiting;
 pub use asked::{dump_lines, show_lines};
 pub use bad_shell_line::BadShellLine;
 pub use compact::compacted;
-pub use dated_place::DatedPlace;
 pub use dated_store::DatedStore;
+pub use first_lines::{LinesEnd, lines_to_entry};
 pub use keep::KeptWriter;
 pub use kept_fault::KeptFault;
 pub use kept_line::push_kept_line;
+pub use kept_notes::KeptNotes;
 pub use kept_shell::run_kept_shell;
-pub use laws::kept_lines_lead_to_the_interpreter;
+pub use laws::{
+    an_interpreter_that_goes_on_is_the_same, history_apart_changes_no_line,
+    honest_checkpoints_change_no_answer, kept_lines_lead_to_the_interpreter,
+};
 pub use line_fault::{CompactFault, KeptLineFault};
 pub use log::{LogCounts, write_log};
 pub use opening::{Opening, OpeningLimits, tell_opening};

@@ -1,4 +1,7 @@
 //! Why kept lines weren't played, and why none were put in their place.
+ghost use Rattle.std.specs.Prelude.{◌≡◌};
+ghost use Rattle.scene_shell.specs.Replayed.{fault_behind};
+
 use crate::bad_shell_line::BadShellLine;
 use scene_interpreter::Halt;
 use thiserror::Error;
@@ -19,6 +22,25 @@ pub enum KeptLineFault {
     /// What was to be written couldn't be.
     #[error("fault 55 WriteFault")]
     Unwritten,
+}
+
+impl KeptLineFault {
+    /// The same of lines behind so many others.
+    pub(crate) fn behind(self, skipped: u64) -> KeptLineFault
+        ensures { result ≡ fault_behind skipped self }
+    {
+        match self {
+            KeptLineFault::Bad(number, reason) => KeptLineFault::Bad(
+                number.saturating_add(skipped),
+                reason,
+            ),
+            KeptLineFault::Halted(number, halt) => KeptLineFault::Halted(
+                number.saturating_add(skipped),
+                halt,
+            ),
+            fault => fault,
+        }
+    }
 }
 
 /// Why no scene text was put in the place of kept lines. `Display` says it in words, on one line.

@@ -245,6 +245,31 @@ fn write_lines<W: Write>(
     Ok(log.counts)
 }
 
+/// Plays the lines of a text up to the one that an entry of this number tells, and gives how many bytes they have, and
+/// how many entries there are then: fewer where all lines were played.
+pub(crate) fn length_to_entry(
+    alloc: Global,
+    interpreter: &mut Interpreter<LoneOwner>,
+    text: &[u8],
+    entry: u64,
+) -> Result<(usize, u64), KeptLineFault> {
+    let mut log = Log::new(alloc);
+    let mut rest = text;
+    let mut number = 0u64;
+    'lines: while !rest.is_empty() {
+        let (line, more) = first_line(rest);
+        rest = more;
+        number += 1;
+        if let Err(halt) = log.line(interpreter, line) {
+            return Err(KeptLineFault::Halted(number, halt));
+        }
+        if log.entries >= entry {
+            break 'lines;
+        }
+    }
+    Ok((text.len().saturating_sub(rest.len()), log.entries))
+}
+
 /// Plays the lines of a text from a new interpreter with these settings on, which has no lock, and writes an entry for
 /// each frame and each further line that did something (docs/SHELL.md, "The log"): its number, when it was kept, whose
 /// call it is, what it says, and the first line of its answer. It gives how many calls came to what. It costs what the

@@ -23,10 +23,10 @@ impl OpeningLimits {
     }
 }
 
-/// How a store was opened. `Display` says it on one line, and what would make it shorter.
+/// How a store was opened. `Display` says it on one line.
 #[derive(Clone, Copy, Debug)]
 pub struct Opening {
-    /// How many lines were played.
+    /// How many lines were played, behind the checkpoint where it began at one.
     pub lines: u64,
     /// How many milliseconds that took, where the clock could be read.
     pub millis: Option<u64>,
@@ -56,6 +56,22 @@ impl Opening {
     }
 }
 
+/// What a row or a record of a scene text costs to be read, in lines that are played, and in microseconds.
+const PART_LINES: u64 = 4;
+
+const PART_MICROS: u64 = 8;
+
+impl Opening {
+    /// Whether it cost more than to read the text of a scene that has so many rows and records.
+    pub fn outweighs(&self, parts: u64) -> bool {
+        self.lines / PART_LINES >= parts
+            || match self.millis {
+                Some(millis) => millis.saturating_mul(1_000 / PART_MICROS) >= parts,
+                None => false,
+            }
+    }
+}
+
 /// How many milliseconds have gone by.
 fn millis_since<C: Clock>(clock: &C, start: Instant) -> Option<u64> {
     match start.elapsed(clock) {
@@ -80,17 +96,22 @@ impl fmt::Display for Opening {
             let (seconds, tenths) = (millis / 1_000, millis / 100 % 10);
             write!(f, ", which took {seconds}.{tenths} s")?;
         }
-        write!(
-            f,
-            "; scene compact FILE would put one scene text in their place, and drop the log, the history and the cursor"
-        )
+        Ok(())
     }
 }
 
-/// Says on a stream of errors how a store was opened, where that was long. A stream that can't be written changes
-/// nothing.
-pub fn tell_opening<E: Write>(errors: &mut E, opening: Opening, limits: OpeningLimits) {
-    if opening.is_long(limits) {
-        let _told = writeln!(errors, "scene: {opening}");
-    }
+/// Says on a stream of errors that a store was opened so, which was long, and whether a checkpoint is kept behind its
+/// lines. A stream that can't be written changes nothing.
+pub fn tell_opening<E: Write>(errors: &mut E, opening: Opening, is_kept: bool) {
+    let _told = if is_kept {
+        writeln!(
+            errors,
+            "scene: {opening}; a checkpoint is kept, at which the next one begins"
+        )
+    } else {
+        writeln!(
+            errors,
+            "scene: {opening}; scene compact FILE would put one scene text in their place, and drop the log, the history and the cursor"
+        )
+    };
 }

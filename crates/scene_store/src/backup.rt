@@ -1,8 +1,7 @@
 //! A copy of a store.
 use crate::fault::{OpenFault, StoreFault};
-use crate::file_lines::{FileLines, connection};
-use crate::look::{beside, look, stands, unopened};
-use crate::rows::StoredLines;
+use crate::file_lines::{FileLines, connection, lines_at};
+use crate::look::{beside, stands, unopened};
 use crate::store::Store;
 use sqlite::Unknown;
 use std::fs::{self, OpenOptions};
@@ -71,26 +70,35 @@ fn make_copy(rt: &HostRuntime, path: &str, mode: u32, text: &[u8]) -> Result<(),
     }
 }
 
-/// The lines of the store at a path, which another program may have open, and the mode of its file.
-fn lines_and_mode(rt: &HostRuntime, path: &str) -> Result<(StoredLines, u32), StoreFault> {
-    let lines = look(rt, path)?.lines(rt.alloc())?;
-    Ok((lines, mode_of(rt, path)?))
+/// Makes a store of these lines in a file of its own, where nothing stands, with the mode of a file that is there. The
+/// lines begin with a head, and the store is of its version; it has no log beside it.
+///
+/// - `Store`: as `lines_at` says of the file that is there.
+/// - `Copy`: `StoreUnopened` where a file has the name already, or the log or the journal of one, or none can be made;
+///   `NotAStore` or `NewerStore` where the lines begin otherwise; `DiskFull`, `DiskFault`, `StoreDamaged` or `NoMemory`
+///   where it couldn't be written. What was made of it is removed.
+pub fn make_store(
+    rt: &HostRuntime,
+    like: &str,
+    path: &str,
+    text: &[u8],
+) -> Result<(), BackupFault> {
+    let mode = match mode_of(rt, like) {
+        Ok(mode) => mode,
+        Err(fault) => return Err(BackupFault::Store(fault)),
+    };
+    match make_copy(rt, path, mode, text) {
+        Ok(()) => Ok(()),
+        Err(fault) => Err(BackupFault::Copy(fault)),
+    }
 }
 
 /// Makes a copy of the store in the file at a path: a store in a file of its own, which keeps the same lines, is of the
 /// same version and has no log beside it. A shell may have the store open, and goes on; the copy has each line that was
-/// answered before the call.
-///
-/// - `Store`: as `lines_at` says.
-/// - `Copy`: `StoreUnopened` where a file has the name already, or the log or the journal of one, or none can be made;
-///   `DiskFull`, `DiskFault`, `StoreDamaged` or `NoMemory` where it couldn't be written.
+/// answered before the call. It is refused as `make_store` is.
 pub fn back_up(rt: &HostRuntime, path: &str, copy: &str) -> Result<(), BackupFault> {
-    let (lines, mode) = match lines_and_mode(rt, path) {
-        Ok(found) => found,
-        Err(fault) => return Err(BackupFault::Store(fault)),
-    };
-    match make_copy(rt, copy, mode, lines.text.as_slice()) {
-        Ok(()) => Ok(()),
-        Err(fault) => Err(BackupFault::Copy(fault)),
+    match lines_at(rt, path) {
+        Ok(lines) => make_store(rt, path, copy, lines.text.as_slice()),
+        Err(fault) => Err(BackupFault::Store(fault)),
     }
 }

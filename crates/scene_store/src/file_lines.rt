@@ -23,13 +23,11 @@ const SHORTEST_LOG: u64 = 56;
 /// they are opened; `Unknown` knows nothing.
 pub type FileLines<S> = Store<FileStore<FileFrom<S>>>;
 
-/// Finds that the file at a path is no other than a store, or that there is none or an empty one.
+/// Finds that the file at a path is no other than a store, as its table and its first row say, or that there is none or
+/// an empty one.
 fn check_before(rt: &HostRuntime, path: &str) -> Result<(), StoreFault> {
     match look(rt, path) {
-        Ok(snapshot) => {
-            let _lines = snapshot.lines_if_any(rt.alloc())?;
-            Ok(())
-        }
+        Ok(snapshot) => snapshot.check(rt.alloc()),
         Err(StoreFault::StoreUnopened(OpenFault::NoFile)) => Ok(()),
         Err(fault) => Err(fault),
     }

@@ -4,6 +4,7 @@
 mod backup;
 mod fault;
 mod file_lines;
+mod holder;
 mod kept;
 mod look;
 mod rewrite;
@@ -14,9 +15,10 @@ mod statements;
 mod store;
 mod version;
 
-pub use backup::{BackupFault, back_up};
+pub use backup::{BackupFault, back_up, make_store};
 pub use fault::{OpenFault, StoreFault, StoreFileFault};
 pub use file_lines::{FileLines, lines_at};
+pub use holder::{Holder, holder_of};
 pub use rows::StoredLines;
 pub use snapshot::Snapshot;
 pub use sqlite::{Alter, Unknown};

@@ -1,5 +1,5 @@
 //! A store that is read from the bytes of its two files, in memory alone.
-ghost use Rattle.std.specs.Prelude.{◌≡◌, List, ℕ, IsTrue, IfOk, IfSome};
+ghost use Rattle.std.specs.Prelude.{◌≡◌, List, ℕ, IsTrue, IfOk};
 ghost use Rattle.sqlite_disk.specs.Memory.{memory_bytes, memory_is_usable};
 ghost use Rattle.sqlite.specs.Files.{file_state, IsOpened};
 ghost use Rattle.sqlite.specs.Start.{FindsIn};
@@ -9,7 +9,7 @@ ghost use Rattle.scene_store.specs.Head.{head_of, Begins};
 
 use crate::fault::{OpenFault, StoreFault};
 use crate::rows::StoredLines;
-use crate::store::Store;
+use crate::store::{Store, check_over};
 use sqlite::{Connection, FileStore, Files, Options};
 use sqlite_disk::{Disk, Memory};
 use std::alloc::Global;
@@ -74,21 +74,17 @@ impl Snapshot {
             → HoldsText (record { log = self.now.log.items; db = self.now.db.items }) text → found.text.items ≡ text) }
         ensures head { IfOk result (λ found. Begins found.text.items (head_of found.version)) }
     {
-        match self.lines_if_any(alloc) {
-            Ok(Some(found)) => Ok(found),
-            Ok(None) => Err(StoreFault::NotAStore),
+        match connected(alloc, self) {
+            Ok(conn) => Store::lines_over(conn, alloc),
             Err(fault) => Err(fault),
         }
     }
 
-    /// The same, or nothing where the bytes hold a database that has nothing in it, or none yet.
-    pub(crate) fn lines_if_any(&self, alloc: Global) -> Result<Option<StoredLines>, StoreFault>
-        ensures found { IfOk result (λ any. IfSome any (λ found. (text : List ℕ)
-            → HoldsText (record { log = self.now.log.items; db = self.now.db.items }) text → found.text.items ≡ text)) }
-        ensures head { IfOk result (λ any. IfSome any (λ found. Begins found.text.items (head_of found.version))) }
-    {
+    /// Finds that the bytes hold a store of a version that is known, or a database that has nothing in it, or none yet.
+    /// It looks at no row but the first.
+    pub(crate) fn check(&self, alloc: Global) -> Result<(), StoreFault> {
         match connected(alloc, self) {
-            Ok(conn) => Store::lines_over_any(conn, alloc),
+            Ok(conn) => check_over(conn),
             Err(fault) => Err(fault),
         }
     }

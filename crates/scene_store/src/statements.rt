@@ -40,3 +40,12 @@ pub(crate) fn all_rows<S: Alter>(conn: &mut Connection<S>) -> Result<Vec<Row>, S
         Err(error) => Err(StoreFault::of(error)),
     }
 }
+
+/// The first row, its lines alone, where there is one.
+pub(crate) fn first_row<S: Alter>(conn: &mut Connection<S>) -> Result<Option<Row>, StoreFault> {
+    let _schema = conn.schema();
+    match conn.query_all("SELECT lines FROM batch WHERE number = 1", &[]) {
+        Ok(mut rows) => Ok(rows.pop()),
+        Err(error) => Err(StoreFault::of(error)),
+    }
+}

@@ -12,7 +12,7 @@ use crate::fault::StoreFault;
 use crate::rewrite::{fill, rewrite, start};
 use crate::rows::{StoredLines, headed, text_of, version_of};
 use crate::schema::{is_blank, is_store};
-use crate::statements::{add, all_rows};
+use crate::statements::{add, all_rows, first_row};
 use sqlite::{Alter, Connection, FileStore};
 use sqlite_disk::Disk;
 use std::alloc::Global;
@@ -29,6 +29,24 @@ pub struct Store<S: Alter + Drop> {
 impl<S: Alter + Drop> Drop for Store<S> {
     fn drop(self) {
         let Store { conn: _ } = self;
+    }
+}
+
+/// Finds that a database is a store of a version that is known, as its first row says, or has nothing in it.
+pub(crate) fn check_over<S: Alter + Drop>(conn: Connection<S>) -> Result<(), StoreFault> {
+    let mut conn = conn;
+    if is_blank(conn.schema()) {
+        return Ok(());
+    }
+    if !is_store(conn.schema()) {
+        return Err(StoreFault::NotAStore);
+    }
+    match first_row(&mut conn)? {
+        Some(row) => {
+            version_of(row.get::<Vec<u8>>(0)?.as_slice())?;
+            Ok(())
+        }
+        None => Err(StoreFault::NotAStore),
     }
 }
 
@@ -116,25 +134,6 @@ impl<S: Alter + Drop> Store<S> {
     {
         let mut store = Store::over_store(conn)?;
         store.lines(alloc)
-    }
-
-    /// The same, or nothing where the database has nothing in it.
-    pub(crate) fn lines_over_any(
-        conn: Connection<S>,
-        alloc: Global,
-    ) -> Result<Option<StoredLines>, StoreFault>
-        ensures found { IsAlwaysClean S.Store → IfOk result (λ any. IfSome any (λ found. (text : List ℕ)
-            → ((state S.Store conn).now.schema ≡ store_schema → Keeps S.Store (record { conn = conn }) text)
-            → found.text.items ≡ text)) }
-        ensures head { IfOk result (λ any. IfSome any (λ found. Begins found.text.items (head_of found.version))) }
-    {
-        if is_blank(conn.schema()) {
-            return Ok(None);
-        }
-        match Store::lines_over(conn, alloc) {
-            Ok(found) => Ok(Some(found)),
-            Err(fault) => Err(fault),
-        }
     }
 
     /// A store of these lines, in a database outside a transaction that has nothing in it: a copy of the store whose

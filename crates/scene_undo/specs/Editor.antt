@@ -28,6 +28,10 @@ new_editor w depth = record { world = w; past = []; future = []; rewinds = 0; de
 abbrev pub at_depth : ℕ → EditorState → EditorState
 at_depth depth s = record s { past = take depth s.past; depth = depth }
 
+-- the editor with another count of undos
+abbrev pub with_rewinds : ℕ → EditorState → EditorState
+with_rewinds rewinds s = record s { rewinds = rewinds }
+
 -- the worlds that records lead to, one after another
 abbrev pub worlds_along : (Record → World → World) → List Record → World → List World
 worlds_along step [] w = []

@@ -15,7 +15,7 @@ ghost use Rattle.scene_undo.specs.Copies.{AreOfFirst};
 ghost use Rattle.scene_undo.specs.Cursor.{cursor_of, since};
 ghost use Rattle.scene_undo.specs.FurtherKind.{declare_throughout, with_kind_now};
 ghost use Rattle.scene_undo.specs.Direction.{AllFit};
-ghost use Rattle.scene_undo.specs.Editor.{IsRecordOf, at_depth, entities_of, items_of, machine_of, new_editor};
+ghost use Rattle.scene_undo.specs.Editor.{IsRecordOf, at_depth, entities_of, items_of, machine_of, new_editor, with_rewinds};
 ghost use Rattle.scene_undo.specs.Kept.{CanUndoWhereReady};
 ghost use Rattle.scene_undo.specs.Parts.{NamesFrame};
 ghost use Rattle.scene_undo.specs.Size.{IsNewestWithin};
@@ -206,6 +206,15 @@ impl Editor {
         self.stacks.set_depth(depth);
     }
 
+    /// Sets how many undos there were, where an editor goes on from one that isn't there any more; all else stays. A
+    /// cursor with this count is good from then on, whenever it was taken, and one with another count is `Rewound`. It
+    /// takes no memory.
+    pub fn set_rewinds(&mut self, rewinds: u64)
+        ensures { self.new ≡ with_rewinds rewinds self.old }
+    {
+        self.rewinds = rewinds;
+    }
+
     /// Declares a kind, and gives its number, which is its place in the schema: it goes last, in the world now and in
     /// each that an undo or a redo leads to (docs/MODEL.md, "The rule of declarations"). It is no frame, and isn't
     /// undone: tick, records, rewinds and depth stay. It costs as long as the name is.
@@ -242,7 +251,7 @@ impl Editor {
         self.stacks.future_len()
     }
 
-    /// How many undos there were. It never falls.
+    /// How many undos there were. It never falls but by `set_rewinds`.
     pub fn rewinds(&self) -> u64
         ensures { result ≡ self.now.rewinds }
     {

@@ -7,7 +7,7 @@ use Rattle.clap.specs.Words.{Row, Text, first_of, found_of, rows_of}
 use Rattle.clap.specs.declared.parser.matches.ArgMatches.{ArgMatches}
 use Rattle.clap.proofs.WalkLemmas.{first_value-rows}
 use Rattle.scene_command_line.specs.Asks.{Asks, ToCompact, ToDump, ToLog, ToShow, asks_of}
-use Rattle.scene_command_line.specs.Words.{backup_asked, command_named, file_asked, has_flag, run_asked, shell_asked}
+use Rattle.scene_command_line.specs.Words.{backup_asked, command_named, file_asked, has_flag, restore_asked, run_asked, shell_asked}
 use Rattle.scene_command_line.specs.declared.asked.Asked.{Asked}
 use Rattle.scene_command_line.proofs.reading.command_named.Goals as goal
 
@@ -89,3 +89,16 @@ returns-in-backup c =
     rw c.in-backup.is refl in
     IfOk-weaker c.backup_asked.result _ _
     (λ asked is. is ∙ (ap₂ backup_asked file copy ∙ sym named)) c.backup_asked.ensures
+
+pub returns-in-restore : goal.returns-in-restore
+returns-in-restore c =
+    let options = options_of c.args.options.now in
+    let file = value_of c.args.options.now (codes "file") c.get_str-in-restore.result c.get_str-in-restore.ensures in
+    let copy = value_of c.args.options.now (codes "copy") c.get_str-in-restore-2.result c.get_str-in-restore-2.ensures in
+    let entry = value_of c.args.options.now (codes "at") c.get_str-in-restore-3.result c.get_str-in-restore-3.ensures in
+    let named : command_named c.args.name.now options
+    ≡ restore_asked (first_of (codes "file") options) (first_of (codes "copy") options) (first_of (codes "at") options) =
+    rw c.in-restore.is refl in
+    let same = ap₂ (λ f t. restore_asked f t (option_map (λ w. w.now) c.get_str-in-restore-3.result)) file copy
+    ∙ (ap (restore_asked (first_of (codes "file") options) (first_of (codes "copy") options)) entry ∙ sym named) in
+    IfOk-weaker c.restore_asked.result _ _ (λ asked is. is ∙ same) c.restore_asked.ensures

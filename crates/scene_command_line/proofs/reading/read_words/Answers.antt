@@ -10,6 +10,7 @@ use Rattle.scene_command_line.proofs.DumpLaws.{dump_answer}
 use Rattle.scene_command_line.proofs.FileLaws.{file_answer}
 use Rattle.scene_command_line.proofs.HelpLaws.{help_answer}
 use Rattle.scene_command_line.proofs.PlainLaws.{plain_answer}
+use Rattle.scene_command_line.proofs.RestoreLaws.{restore_answer}
 use Rattle.scene_command_line.proofs.ShellLaws.{shell_answer}
 use Rattle.scene_command_line.proofs.WorkersLaws.{workers_answer}
 use Rattle.scene_command_line.proofs.reading.read_words.Goals as goal
@@ -42,6 +43,7 @@ returns-in-Ok c =
           (λ asked. workers_answer words (asks_of asked) workers) asks;
       shell = IfOk-weaker c.command_met.result _ _ (λ asked. shell_answer words (asks_of asked)) asks;
       dump = IfOk-weaker c.command_met.result _ _ (λ asked. dump_answer words (asks_of asked)) asks;
+      restore = IfOk-weaker c.command_met.result _ _ (λ asked. restore_answer words (asks_of asked)) asks;
       file = λ file. IfOk-weaker c.command_met.result _ _ (λ asked. file_answer words (asks_of asked) file) asks;
       backup = λ backup. IfOk-weaker c.command_met.result _ _ (λ asked. backup_answer words (asks_of asked) backup) asks;
       help = λ help. IfOk-weaker c.command_met.result _ _ (λ asked. help_answer words (asks_of asked) help) asks;
@@ -64,6 +66,7 @@ returns-in-Err c =
           (λ asked. workers_answer words (asks_of asked) workers) asks;
       shell = IfOk-weaker c.without_command.result _ _ (λ asked. shell_answer words (asks_of asked)) asks;
       dump = IfOk-weaker c.without_command.result _ _ (λ asked. dump_answer words (asks_of asked)) asks;
+      restore = IfOk-weaker c.without_command.result _ _ (λ asked. restore_answer words (asks_of asked)) asks;
       file = λ file. IfOk-weaker c.without_command.result _ _ (λ asked. file_answer words (asks_of asked) file) asks;
       backup = λ backup. IfOk-weaker c.without_command.result _ _ (λ asked. backup_answer words (asks_of asked) backup) asks;
       help = λ help. IfOk-weaker c.without_command.result _ _ (λ asked. help_answer words (asks_of asked) help) asks;
