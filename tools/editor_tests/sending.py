@@ -359,7 +359,8 @@ def try_stale(program, room):
         for text, mode in ((others, 0o600), (own, 0o644), *((text, 0o600) for text in (own[:-1], *NO_ADDRESSES))):
             beside.write_bytes(text)
             beside.chmod(mode)
-            assert sent(program, store, b"spawn\n") == (3, b"", in_use(store)), text
+            status, said, told = sent(program, store, b"spawn\n")
+            assert (status, said) == (3, b"") and tells_in_use(store, told), (text, told)
         beside.write_bytes(own)
         found = sent(program, store, b"spawn\n")
         assert found == (0, b'{"answer":"done","entities":["1v1"]}\n', b""), found
@@ -369,8 +370,10 @@ def try_stale(program, room):
     assert saved(program, store)["tick"] == 2 and saved(program, other)["tick"] == 0
 
 
-def in_use(store):
-    return f'scene: fault 60 StoreInUse "{store}": another program has it open\n'.encode()
+def tells_in_use(store, told):
+    """Whether it is told that a shell has the store open, and which."""
+    used = f'scene: fault 60 StoreInUse "{store}": another program has it open: process '
+    return re.fullmatch(re.escape(used.encode()) + rb'[0-9]+, ".* shell .*"\n', told)
 
 
 def try_shell(program, room):
@@ -380,7 +383,9 @@ def try_shell(program, room):
         shell.stdin.write(b"spawn\n")
         shell.stdin.flush()
         assert shell.stdout.readline() == b"done 0v1\n"
-        assert sent(program, store, b"spawn\n") == (3, b"", in_use(store)) == played(program, b"spawn\n", "--store", store)
+        found = sent(program, store, b"spawn\n")
+        assert found == played(program, b"spawn\n", "--store", store) and found[:2] == (3, b""), found
+        assert tells_in_use(store, found[2]), found
         shell.stdin.close()
     reason = b"no command is named jump"
     bad = 1, b'{"answer":"bad","reason":"%s"}\n' % reason, b"scene: line 1: %s\n" % reason
