@@ -8,6 +8,7 @@ ghost use Rattle.sqlite_wal.specs.Recovery.{Image};
 ghost use Rattle.scene_store.specs.Files.{FindsFiles, IsAsOpened, LeavesAlone, OpensOn};
 ghost use Rattle.scene_store.specs.Store.{IsStore};
 
+use crate::closed::{begins_as_store, is_closed};
 use crate::fault::{OpenFault, StoreFault};
 use crate::look::{beside, found, look, why_unopened};
 use crate::rows::StoredLines;
@@ -24,8 +25,11 @@ const SHORTEST_LOG: u64 = 56;
 pub type FileLines<S> = Store<FileStore<FileFrom<S>>>;
 
 /// Finds that the file at a path is no other than a store, as its table and its first row say, or that there is none or
-/// an empty one.
+/// an empty one. One that was closed says it by a few pages, and the open looks at the others.
 fn check_before(rt: &HostRuntime, path: &str) -> Result<(), StoreFault> {
+    if is_closed(rt, path) {
+        return Ok(());
+    }
     match look(rt, path) {
         Ok(snapshot) => snapshot.check(rt.alloc()),
         Err(StoreFault::StoreUnopened(OpenFault::NoFile)) => Ok(()),
@@ -58,7 +62,14 @@ pub(crate) fn connection<S: Start>(
 {
     match Connection::open_from(rt, path, true, start) {
         Ok(conn) => Ok(conn),
-        Err((error, _)) => Err(StoreFault::of_open(error, why_unopened(rt, path))),
+        Err((error, left)) => {
+            let fault = StoreFault::of_open(error, why_unopened(rt, path));
+            if left.is_some() {
+                let _removed = forget_log(rt, path);
+            }
+            drop(left);
+            Err(fault)
+        }
     }
 }
 
@@ -73,7 +84,8 @@ impl<S: Start> FileLines<S> {
     /// - `StoreDamaged`, `DiskFull`, `DiskFault`: the file's pages are unsound, or the disk is full or failed.
     /// - `NoMemory`: no memory was found.
     ///
-    /// A file that is no store is left as it is, and nothing is made beside it. It reads the whole file twice.
+    /// A file that is no store is left as it is, and nothing is made beside it. It reads the whole file; and twice, with
+    /// its log, where it wasn't closed.
     pub fn open(rt: &HostRuntime, path: &str, start: S) -> Result<FileLines<S>, StoreFault>
         ensures store { IfOk result (IsStore over_files) }
         ensures found { IfOk result (OpensOn (image_at S.Start)) }
@@ -111,6 +123,15 @@ impl<S: Start> FileLines<S> {
         // stays, and has nothing in it that the file hasn't.
         let _removed = remove_log(rt, path);
         drop(files);
+        Ok(())
+    }
+}
+
+/// Removes what an open has made beside a file that it refused, which is a store by its first pages.
+fn forget_log(rt: &HostRuntime, path: &str) -> Result<(), StoreFault> {
+    if begins_as_store(rt, path) {
+        remove_log(rt, path)
+    } else {
         Ok(())
     }
 }

@@ -2,6 +2,7 @@
 #![tactic(auto)]
 
 mod backup;
+mod closed;
 mod fault;
 mod file_lines;
 mod holder;
