@@ -4,10 +4,10 @@ use crate::printed;
 use scene_app::AppFault;
 use scene_command_line::{BackupWords, DumpWords, RestoreWords};
 use scene_interpreter::InterpreterSettings;
-use scene_script::Limit;
-use scene_shell::{
+use scene_kept_lines::{
     KeptLineFault, LinesEnd, LogCounts, dump_lines, lines_to_entry, show_lines, write_log,
 };
+use scene_script::Limit;
 use scene_store::{
     BackupFault, Holder, StoreFault, StoreFileFault, StoredLines, Version, back_up, holder_of,
     lines_at, make_store,

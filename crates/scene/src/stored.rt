@@ -2,7 +2,7 @@
 use crate::ending::Ending;
 use crate::store_looks::{settings_of, told_store};
 use scene_app::AppFault;
-use scene_shell::{CompactFault, compacted};
+use scene_kept_lines::{CompactFault, compacted};
 use scene_store::{Alter, FileLines, Store, StoreFault, StoredLines, Unknown, Version};
 use std::alloc::Global;
 

@@ -10,8 +10,7 @@ use Rattle.scene_interpreter.specs.Interpreter.{Interpreter}
 use Rattle.scene_interpreter.specs.Changes.{frame_is_open}
 use Rattle.scene_shell.specs.ShellLine.{shell_changes, shell_reply}
 use Rattle.scene_shell.specs.Shell.{interpreter_after}
-use Rattle.scene_shell.specs.Dated.{IsWhole}
-use Rattle.scene_shell.specs.Kept.{Keeping, noted, kept_line, kept_after, starting, kept_of, ended}
+use Rattle.scene_shell.specs.Kept.{IsWhole, Keeping, ended, kept_after, kept_line, kept_of, noted, starting}
 use Rattle.scene_shell.proofs.Requests.{shell_unchanged}
 use Rattle.scene_shell.proofs.Lines.{HasPart, has_part, is_end, line_before}
 

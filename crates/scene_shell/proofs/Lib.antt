@@ -1,16 +1,7 @@
-mod Agreement
-mod Apart
 mod BadTexts
-mod Honest
-mod Comments
 mod KeptLaws
-mod KeptLead
-mod LineFaults
-mod Lines
-mod Scans
-mod Played
+pub mod KeptLead
+pub mod Lines
+pub mod Requests
 mod RunLaws
-mod SameLists
-mod StoreLaws
-mod Requests
 mod SaidLaws

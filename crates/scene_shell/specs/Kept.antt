@@ -24,6 +24,10 @@ break_of l = if slice_index l (length l - 1) == 13 then codes "\r\n" else codes 
 abbrev pub ended : List ℕ → List ℕ
 ended l = l ++ break_of l
 
+-- what stands behind a text begins a line
+abbrev pub IsWhole : List ℕ → Type 0
+IsWhole t = (ys : List ℕ) → lines (t ++ ys) ≡ lines t ++ lines ys
+
 -- An interpreter, and the lines that led to it: those that are to be kept by now, and those of the frame that is open
 pub record Keeping : Type 0 where
   pub interpreter : Interpreter

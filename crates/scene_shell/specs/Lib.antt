@@ -1,14 +1,5 @@
 pub mod AnswerText
-pub mod Apart
-pub mod Checkpoints
-pub mod Compacted
-pub mod Dated
-pub mod FirstLines
 pub mod Kept
-pub mod Opening
-pub mod Replayed
-pub mod Scans
 pub mod Shell
 pub mod ShellLine
-pub mod StoreShell
 pub mod Waits

@@ -18,8 +18,8 @@ use scene_script::{BadLine, Line, LineError, read_line};
 use scene_session::{LoneOwner, Performer};
 use std::alloc::{AllocError, Global};
 
-/// What a request asks for, or why it is bad.
-pub(crate) fn request_said(
+/// What a request asks for, or why it is bad (docs/SHELL.md, "Requests"). `AllocError` where no memory was found.
+pub fn request_said(
     alloc: Global,
     schema: &Schema,
     request: &[u8],
@@ -33,8 +33,9 @@ pub(crate) fn request_said(
     }
 }
 
-/// What a line of a shell says, a request or not. `Ok(None)` where it is bad, or a request that stands for no line.
-pub(crate) fn shell_line_said(
+/// What a line of a shell says, a request or not, by these kinds. `Ok(None)` where it is bad, or a request that stands for
+/// no line. `AllocError` where no memory was found.
+pub fn shell_line_said(
     alloc: Global,
     schema: &Schema,
     line: &[u8],

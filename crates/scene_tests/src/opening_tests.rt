@@ -1,5 +1,5 @@
 //! What a shell tells of the opening of a store, from no line on.
-use scene_shell::{Opening, OpeningLimits, tell_opening};
+use scene_kept_lines::{Opening, OpeningLimits, tell_opening};
 use std::test::Fail;
 
 const TOLD: &str =

@@ -1,0 +1,12 @@
+mod Agreement
+mod Apart
+mod CheckpointLines
+mod Comments
+mod Honest
+mod LineFaults
+mod Lists
+mod Played
+mod SameLists
+mod Scans
+mod StaysHonest
+mod StoreLaws

@@ -1,0 +1,9 @@
+pub mod Apart
+pub mod Checkpoints
+pub mod Compacted
+pub mod Dated
+pub mod FirstLines
+pub mod Opening
+pub mod Replayed
+pub mod Scans
+pub mod StoreShell

@@ -1,5 +1,0 @@
-use Rattle.scene_shell.proofs.Apart.{lines_apart}
-use Rattle.scene_shell.proofs.laws.history_apart_changes_no_line.Goals as goal
-
-pub returns : goal.returns
-returns c = λ p q ls same. lines_apart p q ls same

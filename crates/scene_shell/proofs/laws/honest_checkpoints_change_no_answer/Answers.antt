@@ -1,5 +1,0 @@
-use Rattle.scene_shell.proofs.Honest.{honest_alike}
-use Rattle.scene_shell.proofs.laws.honest_checkpoints_change_no_answer.Goals as goal
-
-pub returns : goal.returns
-returns c = λ first all start rest skipped starts honest. honest_alike first all start rest skipped starts honest

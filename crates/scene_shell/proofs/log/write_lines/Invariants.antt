@@ -1,9 +1,0 @@
-use Rattle.std.proofs.Common.{◌+◌, ◌≤◌, length}
-use Rattle.scene_shell.proofs.log.write_lines.Given as goal
-
--- each line takes a byte at least
-abbrev pub decreases-lines : goal.decreases-lines
-decreases-lines g l = length l.rest
-
-abbrev pub invariant-lines : goal.invariant-lines
-invariant-lines g l = l.number + length l.rest ≤ length l.text
