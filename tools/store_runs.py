@@ -1,10 +1,13 @@
 """Runs of the program on stores, and what the files of stores hold, for the tools that try stores (docs/SHELL.md, "A store")."""
 import os
 import resource
+import shutil
 import signal
 import sqlite3
 import struct
 import subprocess
+import tempfile
+from pathlib import Path
 
 OPENING = b"scene: opening played "
 NOBODY = 65534
@@ -116,3 +119,24 @@ def summed(page):
         first = (first + one + second) & 0xFFFFFFFF
         second = (second + other + first) & 0xFFFFFFFF
     return page[:-8] + struct.pack("<II", first, second)
+
+
+def empty(room):
+    """Takes each file out of a folder."""
+    for path in Path(room).iterdir():
+        path.unlink()
+
+
+def answers_to(program, words, script):
+    """What the program writes for a script."""
+    run = subprocess.run([program, *words], input=script, stdout=subprocess.PIPE, stderr=subprocess.DEVNULL, check=False)
+    return run.stdout
+
+
+def is_whole(store):
+    """Whether SQLite finds a copy of the store whole."""
+    with tempfile.TemporaryDirectory() as room:
+        for file in Path(store).parent.glob(Path(store).name + "*"):
+            shutil.copy(file, room)
+        with sqlite3.connect(Path(room) / Path(store).name) as database:
+            return database.execute("pragma integrity_check").fetchall() == [("ok",)]
