@@ -33,19 +33,7 @@ use Rattle.scene_shell.specs.ShellLine.{ShellReply, request_changes, shell_reply
 use Rattle.scene_shell.specs.declared.bad_shell_line.BadShellLine.TheVariants as why
 use Rattle.scene_shell.proofs.KeptLead.{IsLine, after_append, ended_first}
 use Rattle.scene_shell.proofs.Requests.{reply_to_line, shell_unchanged}
-use Rattle.scene_shell.proofs.Lines.{is_end}
-
--- a text has a part, whatever parts it
-abbrev HasPart : (ℕ → Bool) → List ℕ → Type 0
-HasPart f xs = (y : List ℕ) × (ys : List (List ℕ)) × (slice_split f xs ≡ y ∷ ys)
-
-part_at : (f : ℕ → Bool) (b : Bool) (x : ℕ) (xs : List ℕ) → f x ≡ b → HasPart f xs → HasPart f (x ∷ xs)
-part_at f true x xs e later = ([], slice_split f xs, slice_split-cons_yes f x xs e)
-part_at f false x xs e later = (x ∷ later.0, later.1, slice_split-cons_no f x xs e ∙ ap (onto_first x) later.2)
-
-has_part : (f : ℕ → Bool) (xs : List ℕ) → HasPart f xs
-has_part f [] = ([], [], refl)
-has_part f (x ∷ xs) = part_at f (f x) x xs refl (has_part f xs)
+use Rattle.scene_shell.proofs.Lines.{has_part, is_end}
 
 -- ---- a comment says nothing
 

@@ -86,6 +86,18 @@ module _ {S W : Type 0} (m : StoreMeaning S W) (read : S) (text : List ℕ) (cal
             ends_apart kept (behind_store shell read there) now rest r ended all (apart_sym all there alike);
       }
 
+-- the same of a store as its lines were read, with more that changes nothing of what is kept
+pub went_on : {S W : Type 0} (m : StoreMeaning S W) (opened read noted : S) (text : List ℕ) (calls : ℕ)
+    → m.is_store opened → StaysKept m.keeps opened read → m.keeps read text → m.plays text calls → StaysKept m.keeps read noted
+    → {A F : Type 0} (interpreter : A → Interpreter) (a : A) (shell : StoreBeginning W) (now : StoreWriter S W) (rest : Option (List ℕ))
+    (r : Result ℕ (KeptFault F)) → ArePlayed calls (lines text) interpreter (Ok a)
+    → EndsAs (both_mean m.keeps m.contents) (behind_store shell noted (interpreter a)) now rest r
+    → HasGoneOn m shell now.store now.writer rest r
+went_on m opened read noted text calls is_opened same kept plays stays interpreter a shell now rest r =
+    gone_on m noted text calls
+    (read_still m read text calls (record { opened = opened; is_opened = is_opened; same = same; kept = kept; is_played = plays }) noted stays)
+    interpreter a shell now rest r
+
 -- ---- how a shell ends
 
 module _ {S W : Type 0} (m : StoreMeaning S W) (shell : StoreBeginning W) (rest : Option (List ℕ)) (count : ℕ) where

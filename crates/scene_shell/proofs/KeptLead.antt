@@ -32,10 +32,10 @@ ended_by : (b : Bool) (l ys : List ℕ) → (slice_index l (length l - 1) == 13)
 ended_by true l ys is line =
     let x = l ++ 13 ∷ [] in
     let parts = slice_split_at is_end x 10 ys (All-append (λ b. is_end b ≡ false) l (13 ∷ []) line (All-cons (λ b. is_end b ≡ false) 13 [] refl (All-nil (λ b. is_end b ≡ false)))) refl in
-    ap lines (append_assoc l (codes "\r\n") ys ∙ sym (append_assoc l (13 ∷ []) (10 ∷ ys))) ∙ ap lines_of_parts parts ∙ line_before x ys (has_part ys) ∙ ap (λ t. t ∷ lines ys) (stripped_one l)
+    ap lines (append_assoc l (codes "\r\n") ys ∙ sym (append_assoc l (13 ∷ []) (10 ∷ ys))) ∙ ap lines_of_parts parts ∙ line_before x ys (has_part is_end ys) ∙ ap (λ t. t ∷ lines ys) (stripped_one l)
 ended_by false l ys is line =
     let parts = slice_split_at is_end l 10 ys line refl in
-    ap lines (append_assoc l (10 ∷ []) ys) ∙ ap lines_of_parts parts ∙ line_before l ys (has_part ys) ∙ ap (λ t. (cond t (take (length l - 1) l) l) ∷ lines ys) is
+    ap lines (append_assoc l (10 ∷ []) ys) ∙ ap lines_of_parts parts ∙ line_before l ys (has_part is_end ys) ∙ ap (λ t. (cond t (take (length l - 1) l) l) ∷ lines ys) is
 
 pub ended_first : (l ys : List ℕ) → IsLine l → lines (ended l ++ ys) ≡ l ∷ lines ys
 ended_first l ys line = ended_by (slice_index l (length l - 1) == 13) l ys refl line
@@ -103,7 +103,7 @@ module _ (first : Interpreter) where
 
 -- ---- the lines of a text
 
-part_line : (b : Bool) (x : ℕ) (xs : List ℕ) → is_end x ≡ b → HasPart xs → AllByRecursion IsLine (slice_split is_end xs) → AllByRecursion IsLine (slice_split is_end (x ∷ xs))
+part_line : (b : Bool) (x : ℕ) (xs : List ℕ) → is_end x ≡ b → HasPart is_end xs → AllByRecursion IsLine (slice_split is_end xs) → AllByRecursion IsLine (slice_split is_end (x ∷ xs))
 part_line true x xs is h so = subst (AllByRecursion IsLine) (sym (slice_split-cons_yes is_end x xs is)) (All-nil (λ b. is_end b ≡ false), so)
 part_line false x xs is h so =
     let was = subst (AllByRecursion IsLine) h.2 so in
@@ -111,7 +111,7 @@ part_line false x xs is h so =
 
 parts_are : (xs : List ℕ) → AllByRecursion IsLine (slice_split is_end xs)
 parts_are [] = (All-nil (λ b. is_end b ≡ false), tt)
-parts_are (x ∷ xs) = part_line (is_end x) x xs refl (has_part xs) (parts_are xs)
+parts_are (x ∷ xs) = part_line (is_end x) x xs refl (has_part is_end xs) (parts_are xs)
 
 stripped_is : (b : Bool) (y : List ℕ) → IsLine y → IsLine (if b then take (length y - 1) y else y)
 stripped_is true y line = All-take (λ b. is_end b ≡ false) (length y - 1) y line

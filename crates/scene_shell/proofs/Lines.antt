@@ -11,20 +11,20 @@ use Rattle.std.proofs.lemmas.Bool.Decides.{nat_tests}
 abbrev pub is_end : ℕ → Bool
 is_end b = b == 10
 
--- a text has a part
-abbrev pub HasPart : List ℕ → Type 0
-HasPart xs = (y : List ℕ) × (ys : List (List ℕ)) × (slice_split is_end xs ≡ y ∷ ys)
+-- a text has a part, whatever parts it
+abbrev pub HasPart : (ℕ → Bool) → List ℕ → Type 0
+HasPart f xs = (y : List ℕ) × (ys : List (List ℕ)) × (slice_split f xs ≡ y ∷ ys)
 
-part_at : (b : Bool) (x : ℕ) (xs : List ℕ) → is_end x ≡ b → HasPart xs → HasPart (x ∷ xs)
-part_at true x xs e later = ([], slice_split is_end xs, slice_split-cons_yes is_end x xs e)
-part_at false x xs e later = (x ∷ later.0, later.1, slice_split-cons_no is_end x xs e ∙ ap (onto_first x) later.2)
+part_at : (f : ℕ → Bool) (b : Bool) (x : ℕ) (xs : List ℕ) → f x ≡ b → HasPart f xs → HasPart f (x ∷ xs)
+part_at f true x xs e later = ([], slice_split f xs, slice_split-cons_yes f x xs e)
+part_at f false x xs e later = (x ∷ later.0, later.1, slice_split-cons_no f x xs e ∙ ap (onto_first x) later.2)
 
-pub has_part : (xs : List ℕ) → HasPart xs
-has_part [] = ([], [], refl)
-has_part (x ∷ xs) = part_at (is_end x) x xs refl (has_part xs)
+pub has_part : (f : ℕ → Bool) (xs : List ℕ) → HasPart f xs
+has_part f [] = ([], [], refl)
+has_part f (x ∷ xs) = part_at f (f x) x xs refl (has_part f xs)
 
 -- a part that others follow is a line, without its carriage return
-pub line_before : (y : List ℕ) (xs : List ℕ) → HasPart xs → lines_of_parts (y ∷ slice_split is_end xs) ≡ strip_carriage_return y ∷ lines xs
+pub line_before : (y : List ℕ) (xs : List ℕ) → HasPart is_end xs → lines_of_parts (y ∷ slice_split is_end xs) ≡ strip_carriage_return y ∷ lines xs
 line_before y xs h = rw h.2 refl
 
 -- what stands through the first line feed, and behind it: a part and an empty one, or, where there is none, all as one
@@ -59,7 +59,7 @@ IsFirstLine l xs = (lines (take_through 10 xs) ≡ l ∷ []) × (lines xs ≡ l 
 
 first_of : (xs : List ℕ) → 0 < length xs → Cut xs → (l : List ℕ) × IsFirstLine l xs
 first_of xs some (Ended y front back) =
-    (strip_carriage_return y, (ap lines_of_parts front, ap lines_of_parts back ∙ line_before y (drop_through 10 xs) (has_part (drop_through 10 xs))))
+    (strip_carriage_return y, (ap lines_of_parts front, ap lines_of_parts back ∙ line_before y (drop_through 10 xs) (has_part is_end (drop_through 10 xs))))
 first_of xs some (Open front back whole) =
     let one : lines xs ≡ xs ∷ [] = ap lines_of_parts whole ∙ one_line xs some in
     (xs, (ap lines front ∙ one, one ∙ ap (λ t. xs ∷ lines t) (sym back)))

@@ -1,8 +1,13 @@
 -- A line of a shell: a request, or a line of a script (docs/SHELL.md, "Requests").
-use Rattle.std.specs.Prelude.{◌≡◌, ℕ, List, [], ◌∷◌, Bool, true, false, Option, Some, option_map, Result, Ok, Err, if◌then◌else◌, codes}
+use Rattle.std.specs.Prelude.{◌≡◌, ℕ, List, [], ◌∷◌, Bool, true, false, Option, Some, None, option_map, Result, Ok, Err, if◌then◌else◌, codes}
 use Rattle.serde_json.specs.Data.{Data, string}
+use Rattle.scene_kinds.specs.Schema.{Kinds}
+use Rattle.scene_script.specs.declared.script_line.Line.{Line}
+use Rattle.scene_script.specs.declared.bad_line.BadLine.{BadLine}
+use Rattle.scene_script.specs.Script.{line_in}
 use Rattle.scene_print.specs.JsonObjects.{answer_of}
 use Rattle.scene_requests.specs.declared.request.Request.{Request}
+use Rattle.scene_requests.specs.declared.request.Request.TheVariants as asked
 use Rattle.scene_requests.specs.declared.bad_request.BadRequest.{BadRequest}
 use Rattle.scene_requests.specs.declared.bad_request.BadRequest.TheVariants.{NotJson, TooLong, UnknownKey, BadField}
 use Rattle.scene_requests.specs.Request.{is_request, request_in}
@@ -33,6 +38,22 @@ of_request p (Err reason) = record { bad = Some (why.Request reason); interprete
 -- those of a line of a shell, by its bytes
 abbrev pub shell_reply : Interpreter → List ℕ → ShellReply
 shell_reply p l = if is_request l then of_request p (request_in (interpreter_kinds p) l) else of_line (interpreter_reply p l)
+
+-- ---- what a line says
+
+-- the line that a request stands for, where it stands for one; a bad one stands for none
+abbrev pub line_of_request : Result Request BadRequest → Option Line
+line_of_request (Ok (asked.Line said)) = Some said
+line_of_request other = None
+
+-- what a line of a script says, where it isn't bad
+abbrev pub good_line : Result Line BadLine → Option Line
+good_line (Ok line) = Some line
+good_line (Err reason) = None
+
+-- what a line of a shell says, by these kinds and its bytes, where it is good and stands for a line
+abbrev pub shell_said : Kinds → List ℕ → Option Line
+shell_said kinds l = if is_request l then line_of_request (request_in kinds l) else good_line (line_in kinds l)
 
 -- ---- which lines may change an interpreter
 

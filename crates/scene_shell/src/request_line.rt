@@ -6,7 +6,7 @@ ghost use Rattle.scene_requests.specs.Request.{request_in};
 ghost use Rattle.scene_interpreter.specs.Interpreter.{halted, interpreter_kinds, interpreter_of};
 ghost use Rattle.scene_interpreter.specs.JsonAnswer.{bad_json, json_line};
 ghost use Rattle.scene_answers.specs.Asked.{asked_reply};
-ghost use Rattle.scene_shell.specs.ShellLine.{IsBadAnswer, IsGoodAnswer, IsRequestAnswer, bad_at_json, bad_request_json, of_request, request_changes};
+ghost use Rattle.scene_shell.specs.ShellLine.{IsBadAnswer, IsGoodAnswer, IsRequestAnswer, bad_at_json, bad_request_json, of_request, request_changes, shell_said};
 ghost use Rattle.scene_shell.specs.declared.bad_shell_line.BadShellLine.TheVariants as why;
 
 use crate::bad_shell_line::BadShellLine;
@@ -39,7 +39,9 @@ pub fn shell_line_said(
     alloc: Global,
     schema: &Schema,
     line: &[u8],
-) -> Result<Option<Line>, AllocError> {
+) -> Result<Option<Line>, AllocError>
+    ensures { IfOk result (λ said. said ≡ shell_said schema.now line.now) }
+{
     if is_request(line) {
         return match request_said(alloc, schema, line)? {
             Ok(Request::Line(said)) => Ok(Some(said)),
