@@ -24,3 +24,5 @@ pub mod PlainRecords
 pub mod EditorBack
 pub mod RecordFaults
 pub mod EditorExact
+pub mod RowsTaken
+pub mod SceneTaken

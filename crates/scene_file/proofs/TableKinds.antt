@@ -48,13 +48,17 @@ pub widened : (n m : ℕ) (before : Option ℕ) (ks : List ℕ) → n ≤ m → 
 widened n m before [] l h = tt
 widened n m before (k ∷ ks) l h = let s = h.0 in (omega (arith, s, l), h.1, widened n m (Some k) ks l h.2)
 
+pub rising_in : (bound : ℕ) (path : List ℕ) (d : Data) (ks : List ℕ) → rising_of (below bound) nat_lt path d ≡ Ok ks → AreRising bound None ks
+rising_in bound path d ks h =
+    let q = ok_after (list_at path d) (λ ds. rising_at (below bound) nat_lt path 0 None ds) ks h in
+    rising_rise bound path 0 None q.0 ks q.2
+
 -- the kinds that a table says
 pub kinds_in : (bound : ℕ) (path key : List ℕ) (ms : Members) (ks : List ℕ) → key_of (rising_of (below bound) nat_lt) path key ms ≡ Ok ks
     → AreRising bound None ks
 kinds_in bound path key ms ks h =
     let p = ok_after (field (under path key) (get_member key ms)) (λ d. rising_of (below bound) nat_lt (under path key) d) ks h in
-    let q = ok_after (list_at (under path key) p.0) (λ ds. rising_at (below bound) nat_lt (under path key) 0 None ds) ks p.2 in
-    rising_rise bound (under path key) 0 None q.0 ks q.2
+    rising_in bound (under path key) p.0 ks p.2
 
 pub kinds_rise : (bound : ℕ) (path key : List ℕ) (ms : Members) (ks : List ℕ) → bound ≤ 64
     → key_of (rising_of (below bound) nat_lt) path key ms ≡ Ok (each (λ k. k) ks) → AreRising 64 None ks

@@ -13,5 +13,6 @@ pub mod Examples
 pub mod EditorExamples
 pub mod EditorReadings
 pub mod TableKinds
+pub mod Taken
 pub mod Saving
 pub mod Printing

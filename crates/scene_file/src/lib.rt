@@ -9,7 +9,8 @@
 //!
 //! `save` writes the text of a world, by printers of its parts, and `save_text` answers it. `load_text` and `load` read
 //! one, by a `Form` for each word of the walk. `save_editor`, `save_editor_text`, `load_editor_text` and `load_editor`
-//! do the same of an editor.
+//! do the same of an editor; of a usual text, as a save writes it, what is said is taken straight from its tokens
+//! (`usual_scene.rt`), and the walk reads only what isn't usual.
 #![tactic(auto)]
 
 mod editor_examples;
@@ -25,6 +26,8 @@ mod read_scene;
 mod saved_laws;
 mod saving;
 mod saving_editor;
+mod usual_rows;
+mod usual_scene;
 mod write_editor;
 mod write_rows;
 mod write_world;

@@ -10,6 +10,7 @@ ghost use Rattle.scene_file.specs.SeenEditor.{saved_seen};
 
 use crate::loading::{document_of, world_of};
 use crate::read_editor::{SavedParts, saved_in};
+use crate::usual_scene::usual_saved;
 use json::Scratch;
 use scene_journal::FrameRecord;
 use scene_json_forms::FileFault;
@@ -20,12 +21,15 @@ use scene_world::World;
 use std::alloc::Global;
 use std::io::Read;
 
-/// The parts and the records of a text. What is read of the text besides is given back with them, since it takes more
-/// memory than an editor.
+/// The parts and the records of a text, mostly a usual one. What is read of another one besides is given back with them,
+/// since it takes more memory than an editor.
 #[tactic(auto, using(scene_json_forms::proofs::Walking::walking))]
 fn saved_of_text(alloc: Global, text: &[u8]) -> Result<SavedParts, FileFault>
     ensures { ReadsAs saved_seen result (said_in text.now) }
 {
+    if let Some(saved) = usual_saved(alloc, text) {
+        return Ok(saved);
+    }
     let mut scratch = Scratch::new(alloc);
     let document = document_of(alloc, text, &mut scratch)?;
     saved_in(alloc, &document.root())
@@ -82,8 +86,9 @@ fn editor_in(alloc: Global, text: &[u8], depth: u32) -> Result<Editor, FileFault
 /// the first record that doesn't fit at its turn, and its fault, as `Editor::from_parts` names them: all are tried, and
 /// then the depth drops the oldest. `NoMemory` may stand in place of any answer, and does where the text has more than
 /// 4,294,967,040 bytes. It costs what `load_text` costs, and what `Editor::from_parts` does: twice what the records
-/// changed, and one look at all cells, however many frames there are. The text's document is given back before the
-/// world is made.
+/// changed, and one look at all cells, however many frames there are. What is read besides is given back before the
+/// world is made. Of a text with its keys in byte order, as a save writes them, that is a byte for each byte of the text,
+/// and a document of the records alone; of another one it is the document that `load_text` reads.
 #[tactic(auto, using(crate::proofs::TextFaults::loading))]
 pub fn load_editor_text(alloc: Global, text: &[u8], depth: u32) -> Result<Editor, FileFault>
     ensures editor { IfOk result (λ editor. loaded_editor depth text.now ≡ Ok editor) }

@@ -80,9 +80,9 @@ fn with_kinds(alloc: Global, kinds: &[u8], cells: Vec<Cell>) -> Result<Vec<(u8, 
 
 /// Rows of kinds with these shapes.
 #[derive(Drop)]
-struct RowForm<'a> {
-    kinds: &'a [u8],
-    shapes: &'a [Shape],
+pub(crate) struct RowForm<'a> {
+    pub(crate) kinds: &'a [u8],
+    pub(crate) shapes: &'a [Shape],
 }
 
 impl Form for RowForm<'_> {
@@ -115,7 +115,11 @@ impl Form for RowForm<'_> {
 }
 
 /// The shapes of kinds.
-fn shapes_of(alloc: Global, schema: &Schema, kinds: &[u8]) -> Result<Vec<Shape>, AllocError>
+pub(crate) fn shapes_of(
+    alloc: Global,
+    schema: &Schema,
+    kinds: &[u8],
+) -> Result<Vec<Shape>, AllocError>
     ensures { IfOk result (λ shapes. shapes.items ≡ shapes_of schema.now kinds.now) }
 {
     kinds
@@ -125,7 +129,7 @@ fn shapes_of(alloc: Global, schema: &Schema, kinds: &[u8]) -> Result<Vec<Shape>,
 }
 
 /// The kind set of kinds.
-fn set_of(kinds: &[u8]) -> KindSet
+pub(crate) fn set_of(kinds: &[u8]) -> KindSet
     requires { AreRising 64 None kinds.now }
     ensures { result ≡ set_of kinds.now }
 {

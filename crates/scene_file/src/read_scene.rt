@@ -36,7 +36,7 @@ const MOST_SLOTS: u64 = 1_048_576;
 
 /// Slot limits.
 #[derive(Drop)]
-struct LimitForm;
+pub(crate) struct LimitForm;
 
 impl Form for LimitForm {
     ghost use Rattle.std.specs.Prelude.{ℕ, true};
@@ -62,7 +62,7 @@ impl Form for LimitForm {
 
 /// Parents with their lists.
 #[derive(Drop)]
-struct ChildrenForm;
+pub(crate) struct ChildrenForm;
 
 impl Form for ChildrenForm {
     ghost use Rattle.std.specs.Prelude.{List};
@@ -95,7 +95,7 @@ impl Ordered for ChildrenForm {
 
 /// Resources.
 #[derive(Drop)]
-struct ResourceForm;
+pub(crate) struct ResourceForm;
 
 impl Form for ResourceForm {
     ghost use Rattle.std.specs.Prelude.{ℕ, List, string_bytes};

@@ -61,6 +61,10 @@ grows_one old new n d e h s = (n ∷ [], e, say_one n d h s)
 pub grows_within : (old new : List Node) (x : List Data) → Grows old new x → length old + length x ≤ length new
 grows_within old new x g = omega (arith, ap length g.1, length-append old g.0, no_more g.0 x g.2)
 
+-- what one value added to no nodes is the whole of them
+pub grown_whole : (none new : List Node) (d : Data) → none ≡ [] → Grows none new (d ∷ []) → first (seen 0 new) ≡ d
+grown_whole none new d empty g = ap (λ l. first (seen 0 l)) (g.1 ∙ ap (λ o. o ++ g.0) empty) ∙ say_whole g.0 d g.2
+
 -- ---- a list or an object, whose node takes the place that was left for it
 
 -- the nodes with a place left, and what was added behind it

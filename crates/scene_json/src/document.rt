@@ -1,11 +1,12 @@
 //! A text that was read.
-ghost use Rattle.std.specs.Prelude.{◌≡◌, ◌<◌, length, Some, None, Err, IfOk, IsUtf8};
-ghost use Rattle.serde_json.specs.Read.{read};
+ghost use Rattle.std.specs.Prelude.{◌≡◌, ◌≢◌, ◌<◌, length, Some, None, Err, IfOk, IsUtf8};
+ghost use Rattle.json.specs.Json.{value};
+ghost use Rattle.serde_json.specs.Read.{converted, of_json, read};
 
-use crate::filling::nodes_of;
+use crate::filling::{nodes_of, read_value};
 use crate::node::Node;
 use crate::part::Part;
-use json::{MAX_LEN, Scratch};
+use json::{MAX_LEN, Reader, Scratch};
 use std::alloc::Global;
 use thiserror::Error;
 
@@ -54,6 +55,24 @@ impl<'a> Document<'a> {
             return Err(DocumentError::TooLong);
         }
         let nodes = nodes_of(alloc, text, scratch)?;
+        Ok(Document { nodes })
+    }
+
+    /// Takes the next value of a reader, in which arrays and objects may nest so deep: what `serde_json` reads of it.
+    ///
+    /// Refused: `NotJson` where no such value stands there, as by `read`; or `NoMemory`. Then of the reader's tokens some
+    /// were taken. It costs what `read` of the value's text costs.
+    pub fn read_next(
+        alloc: Global,
+        reader: &mut Reader<'a>,
+        depth: usize,
+    ) -> Result<Document<'a>, DocumentError>
+        ensures found { IfOk result (λ document. converted of_json (value depth reader.old) ≡ Some (whole document, reader.new)) }
+        ensures refused { result ≡ Err DocumentError.NotJson → converted of_json (value depth reader.old) ≡ None }
+        ensures long { result ≢ Err DocumentError.TooLong }
+    {
+        let mut nodes = Vec::new(alloc);
+        read_value(reader, &mut nodes, depth)?;
         Ok(Document { nodes })
     }
 

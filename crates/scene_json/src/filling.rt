@@ -102,7 +102,7 @@ fn close_object(nodes: &mut Vec<Node<'_>>, at: usize, count: usize)
 /// members, so that a value with none inside, as most are, costs no call.
 #[cycle(read)]
 #[inline(always)]
-fn read_value<'a>(
+pub(crate) fn read_value<'a>(
     reader: &mut Reader<'a>,
     nodes: &mut Vec<Node<'a>>,
     depth: usize,

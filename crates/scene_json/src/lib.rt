@@ -25,6 +25,7 @@ mod text;
 pub use decimal::{write_count, write_int};
 pub use document::{Document, DocumentError};
 pub use examples::worked_texts;
+pub use number::few_digits;
 pub use part::Part;
 pub use parts::Parts;
 pub use text::write_json_text;

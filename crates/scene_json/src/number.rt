@@ -98,9 +98,9 @@ fn is_in_range(text: &str) -> bool
 /// So many digits are a number of 64 bits, whatever they are.
 const SURE_DIGITS: usize = 18;
 
-/// The number that a few digits are. It is none where they are many, or another byte stands among them.
+/// The number that at most 18 digits are. `None` where there are more or none, or another byte stands among them.
 #[inline(always)]
-fn few_digits(bytes: &[u8]) -> Option<u64>
+pub fn few_digits(bytes: &[u8]) -> Option<u64>
     ensures { IfSome result (λ n. IsNumeral 10 bytes.now × (n ≡ digits_value 10 bytes.now) × (n < 10 ^ 18)) }
 {
     if bytes.len() > SURE_DIGITS {

@@ -1,0 +1,4 @@
+pub mod Grammar
+pub mod ListsTaken
+pub mod FewNumbers
+pub mod CellsTaken
