@@ -1,6 +1,6 @@
 -- The tables of a world by kind set: their rows, and for how many rows each has memory. And the lists of the code that
 -- they are.
-use Rattle.std.specs.Prelude.{◌≡◌, ◌≢◌, ℕ, zero, suc, ◌<◌, ◌≤◌, List, [], ◌∷◌, true, is_some, Option, slice_get, length, map as each}
+use Rattle.std.specs.Prelude.{◌≡◌, ◌≢◌, ℕ, zero, suc, ◌<◌, ◌≤◌, List, [], ◌∷◌, true, is_some, Option, Some, slice_get, length, vec_capacity, map as each}
 use Rattle.std.specs.Option.{option_map, unwrap_or}
 use Rattle.std.specs.Ordering.{nat_cmp}
 use Rattle.std.specs.Cmp.{nat_cmp_total}
@@ -12,6 +12,8 @@ use Rattle.scene_table.specs.Table.{TableState}
 use Rattle.scene_table.specs.declared.home.Home.{Home}
 use Rattle.scene_table.specs.Tables.{Tables, rows_at, with_rows}
 use Rattle.scene_archetypes.specs.declared.places.Moved.{Moved}
+use Rattle.scene_archetypes.specs.declared.places.Room.{Room}
+use Rattle.scene_archetypes.specs.declared.places.Room.TheVariants.{Lone, Many}
 
 -- for how many rows each kind set has memory
 abbrev pub Rooms : Type 0
@@ -58,6 +60,11 @@ pub record AreMoved (target : List Row) (place : ℕ) (left : List Row) (from : 
   pub displaced : moved.displaced ≡ entity_at target place
   pub last : moved.last ≡ length target
   pub came : moved.came ≡ entity_at left from
+
+-- what stands there for the cells of the row at a place, when it is taken out
+abbrev pub IsRoomFor : List Row → ℕ → Room → Type 0
+IsRoomFor rows place (Lone cells) = (row : Row) → slice_get rows place ≡ Some row → cells ≡ row.cells
+IsRoomFor rows place (Many list) = (list.items ≡ []) × ((row : Row) → slice_get rows place ≡ Some row → length row.cells ≤ vec_capacity list)
 
 -- ---- the lists of the code
 

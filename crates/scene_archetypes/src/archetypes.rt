@@ -1,5 +1,5 @@
 //! The rows of all entities, and where each stands.
-ghost use Rattle.std.specs.Prelude.{◌≡◌, ◌<◌, ◌≤◌, ℕ, suc, [], All, length, Some, OnOk, IfOk, IfSome, IfNone, IsOk, IsSome, slice_get, false, true, vec_capacity, map as each};
+ghost use Rattle.std.specs.Prelude.{◌≡◌, ◌<◌, ◌≤◌, ℕ, suc, [], All, length, Some, OnErr, OnOk, IfOk, IfSome, IfNone, IsOk, IsSome, slice_get, false, true, vec_capacity, map as each};
 ghost use Rattle.std.specs.Option.{option_map, option_flatten};
 ghost use Rattle.scene_kinds.specs.Cells.{HasKinds, AreKindsBelow, mask_of, shown};
 ghost use Rattle.scene_kinds.specs.KindSet.{has_kind, set_with, set_without};
@@ -127,6 +127,7 @@ impl Archetypes {
     }
 
     /// Where the row of an entity stands.
+    #[inline(always)]
     pub fn find(&self, entity: Entity) -> Option<Home>
         ensures home { result ≡ home_in entity self.now.tables.entries }
         ensures stands { IfSome result (StandsIn self.now.tables entity) }
@@ -137,6 +138,7 @@ impl Archetypes {
     }
 
     /// Where the row of an entity stands that has one. It costs no look at the row.
+    #[inline(always)]
     pub fn known_home(&self, entity: Entity) -> Home
         requires { lives self.now.tables entity ≡ true }
         ensures home { home_in entity self.now.tables.entries ≡ Some result }
@@ -150,6 +152,7 @@ impl Archetypes {
 
     /// Makes room for the homes of this many indices. It fails only where that room isn't there yet and no memory was
     /// found. The rows stay.
+    #[inline(always)]
     pub fn reserve_homes(&mut self, indices: usize) -> Result<(), AllocError>
         ensures tables { self.new.tables ≡ self.old.tables }
         ensures rooms { self.new.rooms ≡ self.old.rooms }
@@ -162,6 +165,7 @@ impl Archetypes {
 
     /// Makes room for one more row of a kind set, and for the homes of this many indices. It fails only where that room
     /// isn't there yet and no memory was found. The rows stay.
+    #[inline(always)]
     pub fn reserve(&mut self, mask: KindSet, indices: usize) -> Result<(), AllocError>
         ensures tables { self.new.tables ≡ self.old.tables }
         ensures room { OnOk result (HasRoomOf self.new mask indices) }
@@ -175,6 +179,7 @@ impl Archetypes {
 
     /// Puts a row at a place of the table of its kind set, and the row that stood there last; at the place behind the
     /// last it goes there. It takes no memory, since there must be room for the row.
+    #[inline(always)]
     pub fn put_back(&mut self, mask: KindSet, place: usize, entity: Entity, cells: RowCells<'_>)
         requires mask { mask ≡ mask_of cells }
         requires fits { HasKinds mask (row_for entity cells) }
@@ -192,6 +197,7 @@ impl Archetypes {
 
     /// Drops the row of an entity, which stands at a home. The last row of its table takes its place. It takes no
     /// memory.
+    #[inline(always)]
     pub fn drop_row(&mut self, entity: Entity, home: Home)
         requires { StandsIn self.old.tables entity home }
         ensures tables { self.new.tables ≡ without_row self.old.tables home }
@@ -202,7 +208,25 @@ impl Archetypes {
         write_left(&mut self.homes, entity, home, came);
     }
 
+    /// Takes out the row of an entity, which stands at a home, and gives it. The last row of its table takes its place.
+    ///
+    /// It takes memory for the list of the row's cells. Where none was found all stays as it was.
+    #[inline(always)]
+    pub fn take_row(&mut self, entity: Entity, home: Home) -> Result<Row, AllocError>
+        requires { StandsIn self.old.tables entity home }
+        ensures row { IfOk result (λ row. row_at self.old.tables home ≡ Some row) }
+        ensures ok { OnOk result (self.new.tables ≡ without_row self.old.tables home) }
+        ensures err { OnErr result (self.new.tables ≡ self.old.tables) }
+        ensures rooms { self.new.rooms ≡ self.old.rooms }
+        ensures homes { self.new.homes ≡ self.old.homes }
+    {
+        let (row, came) = self.tables.take_row(home)?;
+        write_left(&mut self.homes, entity, home, came);
+        Ok(row)
+    }
+
     /// Puts a cell in place of that of a kind in the row at a home, and gives the old one. It takes no memory.
+    #[inline(always)]
     pub fn set_cell(&mut self, home: Home, kind: u8, cell: Cell) -> Cell
         requires within { IsWithin self.old.tables home }
         requires there { IsSome (cell_at (rows_at self.old.tables home.mask) home.place kind) }
@@ -218,6 +242,7 @@ impl Archetypes {
     /// Moves the row of an entity, which stands at a home, to a place of the table of the kind set with one kind more,
     /// with a cell of that kind. The last row of its table takes its place; the row that stood at its new place goes
     /// last. It takes no memory.
+    #[inline(always)]
     pub fn move_with(&mut self, entity: Entity, home: Home, place: usize, kind: u8, cell: Cell)
         requires stands { StandsIn self.old.tables entity home }
         requires kinds { (row : Row) → row_at self.old.tables home ≡ Some row → HasKinds home.mask row }
@@ -242,6 +267,7 @@ impl Archetypes {
     /// Moves the row of an entity, which stands at a home, to a place of the table of the kind set with one kind less,
     /// and gives the cell of that kind. The last row of its table takes its place; the row that stood at its new place
     /// goes last. It takes no memory.
+    #[inline(always)]
     pub fn move_without(&mut self, entity: Entity, home: Home, place: usize, kind: u8) -> Cell
         requires stands { StandsIn self.old.tables entity home }
         requires kinds { (row : Row) → row_at self.old.tables home ≡ Some row → HasKinds home.mask row × AreKindsBelow 64 row.cells }
@@ -306,6 +332,7 @@ impl Archetypes {
     }
 
     /// How many rows of a kind set there are.
+    #[inline(always)]
     pub fn len(&self, mask: KindSet) -> usize
         ensures { result ≡ length (rows_at self.now.tables mask) }
     {

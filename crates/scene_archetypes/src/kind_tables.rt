@@ -16,7 +16,9 @@ ghost use Rattle.scene_archetypes.specs.KindTables.{TablesState, AreListed, AreM
 use crate::clones::clone_tables;
 use crate::guesses::Guesses;
 use crate::kind_sets::{kind_sets_of, tables_by_kind_set};
-use crate::places::{Moved, drop_row, entity_in, move_with, move_without, put_row};
+use crate::places::{
+    Moved, drop_row, entity_in, move_with, move_without, put_row, room_for, take_row,
+};
 use indexmap::IndexSet;
 use scene_kinds::{Cell, CellRef, Entity, KindSet, Row, set_with, set_without};
 use scene_table::{ChangedTicks, ColumnWriter, Home, RowCells, Run, Table};
@@ -83,6 +85,7 @@ fn find_table(
 }
 
 /// The index of the table of a kind set that has one.
+#[inline(always)]
 fn known_table(
     kind_sets: &IndexSet<KindSet>,
     guesses: &Guesses,
@@ -164,6 +167,7 @@ impl KindTables {
     /// Puts a row at a place of the table of its kind set, and the row that stood there last; at the place behind the
     /// last it goes there. It gives the entity that stood there, and how many rows there were. It takes no memory, since
     /// there must be room for the row.
+    #[inline(always)]
     pub(crate) fn put_back(
         &mut self,
         mask: KindSet,
@@ -185,6 +189,7 @@ impl KindTables {
 
     /// Drops the row at a home. The last row takes its place, and its entity is given, if there is one. It takes no
     /// memory.
+    #[inline(always)]
     pub(crate) fn drop_row(&mut self, home: Home) -> Option<Entity>
         requires { IsWithin self.old.tables home }
         ensures came { result ≡ entity_at (rows_at self.new.tables home.mask) home.place }
@@ -200,7 +205,30 @@ impl KindTables {
         drop_row(&mut self.tables[at], home.place)
     }
 
+    /// Takes out the row at a home, and gives it. The last row takes its place, and its entity is given, if there is one.
+    ///
+    /// It takes memory for the list of the row's cells. Where none was found all stays as it was.
+    #[inline(always)]
+    pub(crate) fn take_row(&mut self, home: Home) -> Result<(Row, Option<Entity>), AllocError>
+        requires { IsWithin self.old.tables home }
+        ensures row { IfOk result (λ taken. row_at self.old.tables home ≡ Some taken.0) }
+        ensures came { IfOk result (λ taken. taken.1 ≡ entity_at (rows_at self.new.tables home.mask) home.place) }
+        ensures ok { OnOk result (self.new.tables ≡ without_row self.old.tables home) }
+        ensures err { OnErr result (self.new.tables ≡ self.old.tables) }
+        ensures rooms { self.new.rooms ≡ self.old.rooms }
+    {
+        let at = known_table(
+            &self.kind_sets,
+            &self.guesses,
+            self.tables.as_slice(),
+            home.mask,
+        );
+        let room = room_for(self.alloc, &self.tables[at], home.place)?;
+        Ok(take_row(&mut self.tables[at], home.place, room))
+    }
+
     /// Puts a cell in place of that of a kind in the row at a home, and gives the old one. It takes no memory.
+    #[inline(always)]
     pub(crate) fn set_cell(&mut self, home: Home, kind: u8, cell: Cell) -> Cell
         requires within { IsWithin self.old.tables home }
         requires there { IsSome (cell_at (rows_at self.old.tables home.mask) home.place kind) }
@@ -220,6 +248,7 @@ impl KindTables {
 
     /// Moves the row at a home to a place of the table of the kind set with one kind more, with a cell of that kind.
     /// The last row of its table takes its place; the row that stood at its new place goes last. It takes no memory.
+    #[inline(always)]
     pub(crate) fn move_with(&mut self, home: Home, place: usize, kind: u8, cell: Cell) -> Moved
         requires within { IsWithin self.old.tables home }
         requires low { kind < 64 }
@@ -260,6 +289,7 @@ impl KindTables {
     /// Moves the row at a home to a place of the table of the kind set with one kind less, and gives the cell of that
     /// kind. The last row of its table takes its place; the row that stood at its new place goes last. It takes no
     /// memory.
+    #[inline(always)]
     pub(crate) fn move_without(&mut self, home: Home, place: usize, kind: u8) -> (Cell, Moved)
         requires within { IsWithin self.old.tables home }
         requires low { kind < 64 }
@@ -329,6 +359,7 @@ impl KindTables {
     }
 
     /// How many rows of a kind set there are.
+    #[inline(always)]
     pub(crate) fn len(&self, mask: KindSet) -> usize
         ensures { result ≡ length (rows_at self.now.tables mask) }
     {
@@ -339,6 +370,7 @@ impl KindTables {
     }
 
     /// The entity whose row stands at a home, or `None` where no row does.
+    #[inline(always)]
     pub(crate) fn entity_at(&self, home: Home) -> Option<Entity>
         ensures { result ≡ option_map (λ row. row.entity) (row_at self.now.tables home) }
     {

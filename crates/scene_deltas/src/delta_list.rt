@@ -253,6 +253,7 @@ impl Deltas {
     }
 
     /// Makes room for so many more deltas. It fails only where no memory was found, and the deltas stay.
+    #[inline(always)]
     pub fn reserve(&mut self, additional: usize) -> Result<(), AllocError>
         ensures items { self.new.items ≡ self.old.items }
         ensures room { OnOk result (additional ≤ self.new.room) }
@@ -316,6 +317,7 @@ impl Deltas {
     }
 
     /// Puts a delta last. Where no memory was found it is dropped, and the others stay.
+    #[inline(always)]
     pub fn push(&mut self, delta: Delta) -> Result<(), AllocError>
         ensures done { OnOk result (self.new.items ≡ self.old.items ++ delta ∷ []) }
         ensures full { OnErr result (self.new.items ≡ self.old.items) }

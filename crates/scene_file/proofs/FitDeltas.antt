@@ -31,7 +31,7 @@ use Rattle.scene_model.proofs.RowOf.{row_there, has_cell}
 use Rattle.scene_deltas.specs.declared.delta.Delta.{Delta}
 use Rattle.scene_deltas.specs.declared.delta.Delta.TheVariants.{Spawned, Despawned, Shifted, CellSet, Linked, ResourceSet}
 use Rattle.scene_deltas.specs.Deltas.{FitsOn}
-use Rattle.scene_journal.proofs.FewChildren.{children_few, last_low}
+use Rattle.scene_world.proofs.FewChildren.{children_few, last_low}
 use Rattle.scene_validate.proofs.Tests.{and_is, all_is, all_with}
 use Rattle.scene_file_records.specs.Writable.{AreCells, IsLink, IsResourceCell, IsWritableDelta}
 use Rattle.scene_file.proofs.WorldBack.{slot_entity}

@@ -80,6 +80,7 @@ pub(crate) fn write_refused(out: &mut String, refusal: Refusal) -> Result<(), Al
 }
 
 /// Adds what a frame made: the entities that it spawned.
+#[inline(always)]
 fn write_made(out: &mut String, entities: &[Entity]) -> Result<(), AllocError>
     ensures { OnOk result (Adds out.old out.new (made_text entities.now)) }
 {
@@ -89,6 +90,7 @@ fn write_made(out: &mut String, entities: &[Entity]) -> Result<(), AllocError>
 }
 
 /// Adds what a call came to.
+#[inline(always)]
 pub(crate) fn write_reply(out: &mut String, reply: &Reply) -> Result<(), AllocError>
     ensures { OnOk result (Adds out.old out.new (answer_text (told reply.now))) }
 {

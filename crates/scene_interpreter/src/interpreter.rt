@@ -20,8 +20,9 @@ use crate::settings::InterpreterSettings;
 use crate::setup::{Base, Setup};
 use crate::setup_line::{SetupAnswer, answer_setup};
 use crate::state_line::answer;
-use crate::usual::tell_usual;
+use crate::usual::{tell_usual, told};
 use scene_kinds::Schema;
+use scene_print::write_show;
 use scene_script::{BadLine, Limit, Line, LineError, read_line, usual_line};
 use scene_session::{LoneOwner, Performer};
 use scene_systems::Phase;
@@ -376,6 +377,9 @@ impl<O: ScriptOwner> Interpreter<O> {
         let Ok(said) = read_said(self.alloc, self.schema(), bytes) else {
             return Err(Halt::Before);
         };
+        if let Some(world) = self.shown_world(&said) {
+            return told(write_show(self.alloc, out, world), None);
+        }
         let answer = self.play_said(performer, said)?;
         match answer.tell(self.alloc, self.schema(), out) {
             Ok(bad) => Ok(bad),

@@ -28,6 +28,7 @@ mod script_owner;
 mod settings;
 mod setup;
 mod setup_line;
+mod show_line;
 mod state_line;
 mod systems_line;
 mod turn;

@@ -39,6 +39,7 @@ impl OpenFrame {
     /// Puts a command last in the last queue.
     ///
     /// Refused, in this order: `QueueFull` where that queue has as many commands as it may; `NoMemory`.
+    #[inline(always)]
     pub(crate) fn push(&mut self, command: Command) -> Result<(), Refusal>
         ensures { Answers result self.old self.new (with_command self.old command) }
     {

@@ -1,6 +1,6 @@
 //! The owners whose sessions a script may have.
-ghost use Rattle.std.specs.Prelude.{◌≡◌, IfOk};
-ghost use Rattle.scene_session.specs.Owner.{opening_owner};
+ghost use Rattle.std.specs.Prelude.{◌≡◌, IfOk, IfSome};
+ghost use Rattle.scene_session.specs.Owner.{opening_owner, whole_at};
 ghost use Rattle.scene_session.specs.Whole.{whole_of};
 
 use scene_script::Limit;
@@ -28,6 +28,10 @@ pub trait ScriptOwner: SessionOwner {
     fn number_of(limit: &Self::CallLimit) -> u64
         ensures { result ≡ most limit.now };
 
+    /// The editor, where no lock is over it: it can be read then without a call. It takes no memory.
+    fn lone_editor(&self) -> Option<&Editor>
+        ensures { IfSome result (λ editor. whole_of editor.now ≡ whole_at (Self.state self.now)) };
+
     /// The owner with which a run begins. `AllocError` where no memory was found: the editor is dropped then.
     fn open(alloc: Global, editor: Editor, limit: &Self::CallLimit) -> Result<Self, AllocError>
         ensures { IfOk result (λ owner. Self.state owner ≡ opening_owner (whole_of editor) (most limit.now)) };
@@ -45,6 +49,10 @@ impl ScriptOwner for SharedOwner {
 
     fn number_of(limit: &Limit) -> u64 {
         u64::from(limit.get())
+    }
+
+    fn lone_editor(&self) -> Option<&Editor> {
+        None
     }
 
     fn open(alloc: Global, editor: Editor, limit: &Limit) -> Result<SharedOwner, AllocError> {
@@ -66,6 +74,10 @@ impl ScriptOwner for LoneOwner {
 
     fn number_of(limit: &u64) -> u64 {
         (*limit).max(1)
+    }
+
+    fn lone_editor(&self) -> Option<&Editor> {
+        Some(self.editor())
     }
 
     fn open(_alloc: Global, editor: Editor, limit: &u64) -> Result<LoneOwner, AllocError> {

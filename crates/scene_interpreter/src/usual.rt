@@ -19,6 +19,7 @@ use scene_session::{Performer, Reply, SessionOwner};
 use std::alloc::{AllocError, Global};
 
 /// Performs what a usual line says.
+#[inline(always)]
 fn perform_usual<O: SessionOwner, P: Performer<O>>(
     performer: &P,
     alloc: Global,
@@ -37,7 +38,11 @@ fn perform_usual<O: SessionOwner, P: Performer<O>>(
 }
 
 /// What becomes of a line that is done, by whether there was memory for its text: why it is bad, if it is.
-fn told(text: Result<(), AllocError>, bad: Option<BadLine>) -> Result<Option<BadLine>, Halt>
+#[inline(always)]
+pub(crate) fn told(
+    text: Result<(), AllocError>,
+    bad: Option<BadLine>,
+) -> Result<Option<BadLine>, Halt>
     ensures told { IfOk result (λ given. (given ≡ bad) × IsOk text) }
     ensures halted { IfErr result (λ h. h ≡ After) }
 {
@@ -48,6 +53,7 @@ fn told(text: Result<(), AllocError>, bad: Option<BadLine>) -> Result<Option<Bad
 }
 
 /// Answers a usual line where no frame is open.
+#[inline(always)]
 fn tell_alone<O: SessionOwner, P: Performer<O>>(
     performer: &P,
     alloc: Global,
@@ -67,6 +73,7 @@ fn tell_alone<O: SessionOwner, P: Performer<O>>(
 }
 
 /// Answers a command in an open frame, which goes into the last queue.
+#[inline(always)]
 fn tell_queued(
     frame: &mut OpenFrame,
     command: Command,
@@ -85,6 +92,7 @@ fn tell_queued(
 }
 
 /// Answers a usual line in an open frame. An undo or a redo is bad there.
+#[inline(always)]
 fn tell_within(
     frame: &mut OpenFrame,
     said: UsualLine,
@@ -105,6 +113,7 @@ fn tell_within(
 /// it is.
 ///
 /// Halted only for want of memory: `Before`, where the line isn't done, and `After`, where it is.
+#[inline(always)]
 pub(crate) fn tell_usual<O: SessionOwner, P: Performer<O>>(
     performer: &P,
     alloc: Global,

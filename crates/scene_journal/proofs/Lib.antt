@@ -1,7 +1,6 @@
 pub mod Covers
 pub mod CutRows
 pub mod FurtherKind
-pub mod FewChildren
 pub mod FirstFinds
 pub mod Folds
 pub mod FoundFaults

@@ -1,11 +1,14 @@
 //! Despawns one after another, with their deltas.
-ghost use Rattle.std.specs.Prelude.{◌≡◌, ◌<◌, ◌+◌, ◌^◌, IfOk, OnOk, OnErr, length};
+ghost use Rattle.std.specs.Prelude.{◌≡◌, ◌<◌, ◌+◌, ◌^◌, ◌∷◌, [], true, IfOk, OnOk, OnErr, length};
+ghost use Rattle.scene_links.specs.Forest.{children_of};
 ghost use Rattle.scene_model.specs.Perform.{Despawn};
+ghost use Rattle.scene_model.specs.Raw.{cut_row};
+ghost use Rattle.scene_model.specs.World.{is_live};
 ghost use Rattle.scene_deltas.specs.Ready.{AreReady};
 ghost use Rattle.scene_deltas.specs.Deltas.{back_all};
-ghost use Rattle.scene_deltas.specs.Notes.{CanCutEach, cut_each, deltas_of, despawned_each, listed_delta};
+ghost use Rattle.scene_deltas.specs.Notes.{CanCutEach, cut_each, deltas_of, despawned_each};
 
-use crate::notes::{despawned, keep};
+use crate::notes::despawned;
 use scene_deltas::{Delta, Deltas, is_sound, take_all_back};
 use scene_kinds::Entity;
 use scene_world::{RawChanges, World};
@@ -29,11 +32,8 @@ pub(crate) fn cut_each(
     let mut deltas = Deltas::new(alloc);
     for entity in order {
         is_sound(world);
-        match room_and_delta(alloc, world, *entity, &mut deltas) {
-            Ok(delta) => {
-                world.cut_row(*entity);
-                keep(&mut deltas, delta);
-            }
+        match cut_with_delta(world, *entity, &mut deltas) {
+            Ok(delta) => deltas.push_reserved(delta),
             Err(error) => {
                 take_all_back(world, deltas);
                 return Err(error);
@@ -43,18 +43,22 @@ pub(crate) fn cut_each(
     Ok(deltas)
 }
 
-/// The delta of a despawn, and room for it.
-fn room_and_delta(
-    alloc: Global,
-    world: &World,
+/// Makes room for the delta of a despawn, cuts the row, and gives the delta, into which the row's cells move.
+fn cut_with_delta(
+    world: &mut World,
     entity: Entity,
     deltas: &mut Deltas,
-) -> Result<Option<Delta>, AllocError>
-    ensures delta { IfOk result (λ delta. listed_delta delta ≡ deltas_of world.now.world (Despawn entity)) }
+) -> Result<Delta, AllocError>
+    requires live { is_live world.old.world entity ≡ true }
+    requires childless { children_of world.old.world.children entity ≡ [] }
+    ensures made { OnOk result (world.new.world ≡ cut_row world.old.world entity) }
+    ensures delta { IfOk result (λ delta. delta ∷ [] ≡ deltas_of world.old.world (Despawn entity)) }
+    ensures back { OnErr result (world.new.world ≡ world.old.world) }
+    ensures same { world.new.room ≡ world.old.room }
     ensures items { deltas.new.items ≡ deltas.old.items }
     ensures room { OnOk result (0 < deltas.new.room) }
     ensures few { OnOk result (length deltas.new.items + 1 < 2 ^ 64) }
 {
     deltas.reserve(1)?;
-    despawned(alloc, world, entity)
+    Ok(despawned(entity, world.cut_row_kept(entity)?))
 }

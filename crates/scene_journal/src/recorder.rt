@@ -14,11 +14,11 @@ ghost use Rattle.scene_journal.specs.Records.{raised, record_of, redone, undone,
 ghost use Rattle.scene_journal.specs.Recorder.{began, opening_of, recording, staged_of};
 
 use crate::cuts::cut_each;
-use crate::inserted::insert;
-use crate::notes::{self, keep, last_link, link_of};
+use crate::inserted::{insert, remove};
+use crate::notes::{self, last_link, link_of};
 use crate::record::FrameRecord;
 use crate::runs::Runs;
-use crate::spawned::spawn;
+use crate::spawned::{spawn, spawn_lent};
 use crate::turns::write_steps;
 use scene_deltas::{Delta, Deltas, is_sound, take_all_back};
 use scene_kinds::{Entity, Fault, KindSet, Refusal, Shape, Value};
@@ -158,6 +158,7 @@ impl Recorder {
 
     /// The record of the frame that is done, with no more memory than its deltas need. They can be taken back in the
     /// world as it is now, which the recorder keeps, with a record that has no deltas. It takes no memory.
+    #[inline(always)]
     pub fn finish(&mut self) -> FrameRecord
         ensures record { result ≡ self.old.frame }
         ensures ready { AreReady self.new.room result.deltas self.new.world }
@@ -251,9 +252,8 @@ impl Stage for Recorder {
         is_sound(&self.world);
         self.runs.end();
         self.deltas.reserve(1)?;
-        let delta = notes::despawned(self.alloc, &self.world, entity)?;
-        self.world.despawn(entity)?;
-        keep(&mut self.deltas, delta);
+        let row = self.world.despawn_row(entity)?;
+        self.deltas.push_reserved(notes::despawned(entity, row));
         Ok(())
     }
 
@@ -262,7 +262,7 @@ impl Stage for Recorder {
         self.runs.end();
         self.deltas.reserve(1)?;
         let delta = insert(&mut self.world, entity, kind, value)?;
-        keep(&mut self.deltas, delta);
+        self.deltas.push_reserved(delta);
         Ok(())
     }
 
@@ -270,9 +270,8 @@ impl Stage for Recorder {
         is_sound(&self.world);
         self.runs.end();
         self.deltas.reserve(1)?;
-        let delta = notes::removed(&self.world, entity, kind)?;
-        self.world.remove(entity, kind)?;
-        keep(&mut self.deltas, delta);
+        let delta = remove(&mut self.world, entity, kind)?;
+        self.deltas.push_reserved(delta);
         Ok(())
     }
 
@@ -328,6 +327,15 @@ impl Stage for Recorder {
         self.runs.end();
         self.deltas.reserve(1)?;
         let (entity, delta) = spawn(&mut self.world, cells)?;
+        self.deltas.push_reserved(delta);
+        Ok(entity)
+    }
+
+    fn spawn_lent(&mut self, cells: &[(u8, Value)]) -> Result<Entity, Refusal> {
+        is_sound(&self.world);
+        self.runs.end();
+        self.deltas.reserve(1)?;
+        let (entity, delta) = spawn_lent(&mut self.world, cells)?;
         self.deltas.push_reserved(delta);
         Ok(entity)
     }

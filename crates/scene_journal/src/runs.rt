@@ -210,6 +210,7 @@ impl Runs {
     }
 
     /// Ends the frame: where it wrote some, only the runs that it wrote are kept.
+    #[inline(always)]
     pub(crate) fn finish(&mut self)
         ensures { (w : World) → AreKept w self.old → AreKept w self.new }
     {

@@ -85,6 +85,7 @@ impl Schema {
 
     /// The number of the kind with a name, or `None` where there is none.
     #[tactic(auto, using(crate::proofs::KindNames::kind_here))]
+    #[inline(always)]
     pub fn number_of(&self, name: &str) -> Option<u8>
         ensures { result ≡ number_of self.now name.now }
     {

@@ -3,6 +3,7 @@ pub mod JsonShown
 pub mod JsonSteps
 pub mod JsonTold
 pub mod JsonAsked
+pub mod KindTexts
 pub mod Listed
 pub mod Printed
 pub mod ShowSteps

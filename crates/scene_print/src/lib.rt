@@ -13,6 +13,7 @@ mod json_page;
 mod json_refused;
 mod json_rows;
 mod json_world;
+mod kind_texts;
 mod listed;
 mod show;
 mod ticks;

@@ -10,6 +10,7 @@ ghost use Rattle.scene_print.specs.Printed.{cells_text, row_text};
 ghost use Rattle.scene_print.specs.Shown.{numbers_text, names_from, more_names, names_text, rows_text, table_text, tables_text, entities_text, link_text, links_text, resource_text, resources_text, head_text, show_text};
 ghost use Rattle.scene_print.specs.ShowSteps.{name_in, one_name, one_resource, named_text};
 
+use crate::kind_texts::KindTexts;
 use crate::ticks::PrintedTicks;
 use crate::values::{write_cell, write_next_cell, write_row_head};
 use scene_json::write_count;
@@ -99,18 +100,18 @@ fn write_names(out: &mut String, names: &[&str]) -> Result<(), AllocError>
 fn write_row_cells(
     alloc: Global,
     out: &mut String,
-    schema: &Schema,
+    kinds: &KindTexts<'_>,
     table: &Table,
     at: usize,
     ticks: &mut PrintedTicks,
 ) -> Result<(), AllocError>
     requires { at < length table.now.rows }
     ensures { OnOk result ((row : Row) → slice_get table.now.rows at ≡ Some row
-        → Adds out.old out.new (cells_text schema.now row.cells)) }
+        → Adds out.old out.new (cells_text kinds.now row.cells)) }
 {
     'cells: for number in 0..table.cell_count(at) {
         let (kind, cell) = table.nth_cell(at, number);
-        write_next_cell(alloc, out, schema, kind, cell, ticks)?;
+        write_next_cell(alloc, out, kinds, kind, cell, ticks)?;
     }
     Ok(())
 }
@@ -119,17 +120,17 @@ fn write_row_cells(
 fn write_next_row(
     alloc: Global,
     out: &mut String,
-    schema: &Schema,
+    kinds: &KindTexts<'_>,
     table: &Table,
     at: usize,
     ticks: &mut PrintedTicks,
 ) -> Result<(), AllocError>
     requires { at < length table.now.rows }
     ensures { OnOk result ((row : Row) → slice_get table.now.rows at ≡ Some row
-        → Adds out.old out.new (row_text schema.now row)) }
+        → Adds out.old out.new (row_text kinds.now row)) }
 {
     write_row_head(out, table.entity_at(at))?;
-    write_row_cells(alloc, out, schema, table, at, ticks)
+    write_row_cells(alloc, out, kinds, table, at, ticks)
 }
 
 /// Adds the row at a place of a table, from 0: `row`, its entity, and its cells by kind, each after a space
@@ -146,22 +147,23 @@ pub fn write_row(
     ensures { OnOk result ((row : Row) → slice_get table.now.rows at ≡ Some row
         → Adds out.old out.new (row_text schema.now row)) }
 {
+    let kinds = KindTexts::none(alloc, schema);
     let mut ticks = PrintedTicks::new(alloc);
-    write_next_row(alloc, out, schema, table, at, &mut ticks)
+    write_next_row(alloc, out, &kinds, table, at, &mut ticks)
 }
 
 /// Adds the rows of a table, a line each.
 fn write_rows(
     alloc: Global,
     out: &mut String,
-    schema: &Schema,
+    kinds: &KindTexts<'_>,
     table: &Table,
     ticks: &mut PrintedTicks,
 ) -> Result<(), AllocError>
-    ensures { OnOk result (Adds out.old out.new (rows_text schema.now table.now.rows)) }
+    ensures { OnOk result (Adds out.old out.new (rows_text kinds.now table.now.rows)) }
 {
     'rows: for at in 0..table.len() {
-        write_next_row(alloc, out, schema, table, at, ticks)?;
+        write_next_row(alloc, out, kinds, table, at, ticks)?;
         out.push('\n')?;
     }
     Ok(())
@@ -171,14 +173,15 @@ fn write_rows(
 fn write_rows_of(
     alloc: Global,
     out: &mut String,
+    kinds: &KindTexts<'_>,
     world: &World,
     mask: KindSet,
     ticks: &mut PrintedTicks,
 ) -> Result<(), AllocError>
-    ensures { OnOk result (Adds out.old out.new (rows_text world.now.world.schema (rows_at world.now.world.tables mask))) }
+    ensures { OnOk result (Adds out.old out.new (rows_text kinds.now (rows_at world.now.world.tables mask))) }
 {
     match world.rows_of(mask) {
-        Some(table) => write_rows(alloc, out, world.schema(), table, ticks),
+        Some(table) => write_rows(alloc, out, kinds, table, ticks),
         None => Ok(()),
     }
 }
@@ -187,37 +190,41 @@ fn write_rows_of(
 fn write_table(
     alloc: Global,
     out: &mut String,
+    kinds: &KindTexts<'_>,
     world: &World,
     mask: KindSet,
     ticks: &mut PrintedTicks,
 ) -> Result<(), AllocError>
-    ensures { OnOk result (Adds out.old out.new (table_text world.now.world.schema mask
+    ensures { OnOk result (Adds out.old out.new (table_text kinds.now mask
         (rows_at world.now.world.tables mask))) }
 {
-    let names = names_of(alloc, world.schema(), mask)?;
+    let names = names_of(alloc, kinds.schema(), mask)?;
     out.push_str("table ")?;
     write_names(out, names.as_slice())?;
     out.push('\n')?;
-    write_rows_of(alloc, out, world, mask, ticks)
+    write_rows_of(alloc, out, kinds, world, mask, ticks)
 }
 
-/// Adds tables.
+/// Adds tables. The texts of the kinds and the ticks that were printed last go from cell to cell.
 fn write_tables(
     alloc: Global,
     out: &mut String,
     world: &World,
     masks: &[KindSet],
-    ticks: &mut PrintedTicks,
 ) -> Result<(), AllocError>
     ensures { OnOk result (Adds out.old out.new (tables_text world.now.world masks.now)) }
 {
+    let entities = world.slots().generations().len();
+    let kinds = KindTexts::for_entities(alloc, world.schema(), entities)?;
+    let mut ticks = PrintedTicks::new(alloc);
     'masks: for mask in masks {
-        write_table(alloc, out, world, *mask, ticks)?;
+        write_table(alloc, out, &kinds, world, *mask, &mut ticks)?;
     }
     Ok(())
 }
 
 /// Adds entities, each after a space. An error only where no memory was found; some may be added then.
+#[inline(always)]
 pub fn write_entities(out: &mut String, entities: &[Entity]) -> Result<(), AllocError>
     ensures { OnOk result (Adds out.old out.new (entities_text entities.now)) }
 {
@@ -264,8 +271,7 @@ fn write_archetypes(alloc: Global, out: &mut String, world: &World) -> Result<()
     ensures { OnOk result (Adds out.old out.new (tables_text world.now.world (kind_sets world.now.world))) }
 {
     let masks = world.tables()?;
-    let mut ticks = PrintedTicks::new(alloc);
-    write_tables(alloc, out, world, masks.as_slice(), &mut ticks)
+    write_tables(alloc, out, world, masks.as_slice())
 }
 
 /// Adds all links, by the indices of the parents.

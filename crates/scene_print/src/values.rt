@@ -4,7 +4,8 @@ ghost use Rattle.scene_json.specs.Texts.{Adds};
 ghost use Rattle.scene_kinds.specs.Cells.{shown};
 ghost use Rattle.scene_print.specs.Printed.{vec3_text, value_text, assigned_text, cell_text, row_head, row_cell_text, refusal_line};
 
-use crate::ticks::PrintedTicks;
+use crate::kind_texts::KindTexts;
+use crate::ticks::{PrintedTicks, write_ticks};
 use scene_json::{write_int, write_json_text};
 use scene_json_forms::{write_entity_text, write_three};
 use scene_kinds::{Cell, CellRef, Entity, Place, Refusal, Schema, Value};
@@ -20,6 +21,7 @@ fn write_vec3(out: &mut String, v: &[i64; 3]) -> Result<(), AllocError>
 
 /// Adds a value (docs/SCRIPTS.md, "Output"): whole numbers in decimal, the three of a `Vec3` with commas
 /// between them, a text as a JSON string, a link as an entity text. A tag has no value, and adds nothing.
+#[inline(always)]
 pub fn write_value(alloc: Global, out: &mut String, value: &Value) -> Result<(), AllocError>
     ensures { OnOk result (Adds out.old out.new (value_text value.now)) }
 {
@@ -43,21 +45,6 @@ fn write_assigned(alloc: Global, out: &mut String, value: &Value) -> Result<(), 
     write_value(alloc, out, value)
 }
 
-/// Adds a cell that is lent, with its name: `NAME=VALUE@ADDED/CHANGED`, or `NAME@ADDED/CHANGED` for a tag.
-fn write_lent_cell(
-    alloc: Global,
-    out: &mut String,
-    name: &str,
-    cell: CellRef<'_>,
-    ticks: &mut PrintedTicks,
-) -> Result<(), AllocError>
-    ensures { OnOk result (Adds out.old out.new (cell_text name.now (shown cell.entry))) }
-{
-    out.push_str(name)?;
-    write_assigned(alloc, out, cell.value)?;
-    ticks.write(out, cell.added, cell.changed)
-}
-
 /// Adds a cell with its name: `NAME=VALUE@ADDED/CHANGED`, or `NAME@ADDED/CHANGED` for a tag (docs/SCRIPTS.md,
 /// "Output").
 pub fn write_cell(
@@ -68,13 +55,9 @@ pub fn write_cell(
 ) -> Result<(), AllocError>
     ensures { OnOk result (Adds out.old out.new (cell_text name.now cell.now)) }
 {
-    let lent = CellRef {
-        value: &cell.value,
-        added: cell.added,
-        changed: cell.changed,
-    };
-    let mut ticks = PrintedTicks::new(alloc);
-    write_lent_cell(alloc, out, name, lent, &mut ticks)
+    out.push_str(name)?;
+    write_assigned(alloc, out, &cell.value)?;
+    write_ticks(out, cell.added, cell.changed)
 }
 
 /// Adds what a row begins with: `row ENTITY` (docs/SCRIPTS.md, "Output"). Its cells follow, each by
@@ -86,20 +69,22 @@ pub fn write_row_head(out: &mut String, entity: Entity) -> Result<(), AllocError
     write_entity_text(out, entity)
 }
 
-/// Adds a cell of a row as `write_row_cell` does, where these ticks were printed last.
+/// Adds a cell of a row as `write_row_cell` does, where these ticks were printed last. It stays a function of its own:
+/// inlined into the walk over the rows it would spill registers at each cell.
+#[inline(never)]
 pub(crate) fn write_next_cell(
     alloc: Global,
     out: &mut String,
-    schema: &Schema,
+    kinds: &KindTexts<'_>,
     kind: u8,
     cell: CellRef<'_>,
     ticks: &mut PrintedTicks,
 ) -> Result<(), AllocError>
-    ensures { OnOk result (Adds out.old out.new (row_cell_text schema.now kind (shown cell.entry))) }
+    ensures { OnOk result (Adds out.old out.new (row_cell_text kinds.now kind (shown cell.entry))) }
 {
-    out.push(' ')?;
-    let name = schema.name_of(kind).unwrap_or("");
-    write_lent_cell(alloc, out, name, cell, ticks)
+    kinds.write_start(out, kind, cell.value)?;
+    write_value(alloc, out, cell.value)?;
+    ticks.write(out, cell.added, cell.changed)
 }
 
 /// Adds a cell of a row: a space, and the cell with the name that the schema has for its kind (docs/SCRIPTS.md,
@@ -113,8 +98,9 @@ pub fn write_row_cell(
 ) -> Result<(), AllocError>
     ensures { OnOk result (Adds out.old out.new (row_cell_text schema.now kind (shown cell.entry))) }
 {
+    let kinds = KindTexts::none(alloc, schema);
     let mut ticks = PrintedTicks::new(alloc);
-    write_next_cell(alloc, out, schema, kind, cell, &mut ticks)
+    write_next_cell(alloc, out, &kinds, kind, cell, &mut ticks)
 }
 
 /// Adds a refusal: the fault by number and name with its fields, and ` at PHASE.QUEUE.COMMAND` where it has a place

@@ -181,6 +181,7 @@ impl Queue {
     ///
     /// Refused, in this order, and then the command is handed back and the queue is as it was: `QueueFull` where it has
     /// as many commands as it may; `NoMemory`.
+    #[inline(always)]
     pub fn push(&mut self, command: Command) -> Result<(), Returned<Command>>
         ensures answer { Answers (refusal_in result) self.old self.new (push_of self.old command tt) }
         ensures back { IfErr result (λ r. r.value ≡ command) }
@@ -255,6 +256,7 @@ fn no_entity(done: Result<(), Refusal>) -> Result<Option<Entity>, Refusal>
 }
 
 /// Spawns an entity with these components.
+#[inline(always)]
 fn spawn_owned<S: Stage>(components: Components, stage: &mut S) -> Result<Option<Entity>, Refusal>
     ensures answer { Answers result (S.seen stage.old) (S.seen stage.new)
         (act S.note (S.seen stage.old) (SpawnCells components)) }
@@ -267,14 +269,17 @@ fn spawn_owned<S: Stage>(components: Components, stage: &mut S) -> Result<Option
     }
 }
 
-/// Spawns an entity with a copy of these components.
+/// Spawns an entity with copies of these components.
 fn spawn<S: Stage>(components: &Components, stage: &mut S) -> Result<Option<Entity>, Refusal>
     ensures answer { Answers result (S.seen stage.old) (S.seen stage.new)
         (act S.note (S.seen stage.old) (SpawnCells components.now)) }
     ensures opening { S.opening stage.new ≡ S.opening stage.old }
     ensures wide { IsWider (S.room stage.old) (S.room stage.new) }
 {
-    spawn_owned(components.try_clone()?, stage)
+    match stage.spawn_lent(components.as_slice()) {
+        Ok(entity) => Ok(Some(entity)),
+        Err(refusal) => Err(refusal),
+    }
 }
 
 /// Despawns an entity and all below it, where it is alive.
@@ -376,6 +381,7 @@ fn do_command<S: Stage>(
 }
 
 /// Does one command of a queue that is used up. The components and values that it gives aren't copied.
+#[inline(always)]
 fn do_owned<S: Stage>(
     command: Command,
     spawned: &[Entity],
@@ -653,6 +659,7 @@ pub fn apply_owned<S: Stage>(
 ///
 /// Refused: what `apply_owned` refuses, with the queue 0 and the command 0; `NoMemory`. What is seen of the stage is then
 /// as before. The world to which it can be taken back, if it keeps a way back, stays, and no room is lost.
+#[inline(always)]
 pub fn apply_lone<S: Stage>(
     alloc: Global,
     command: Command,

@@ -11,6 +11,7 @@ use std::alloc::Global;
 
 /// The target that a word is (docs/SCRIPTS.md, "Words"): an entity text, or `+K` for the K-th entity, from 0, that the
 /// same queue has spawned. `None` only where it is neither an entity text nor `+` with a number of 32 bits.
+#[inline(always)]
 pub fn read_target(word: &str) -> Option<Target>
     ensures { result ≡ target_in word.now }
 {

@@ -75,6 +75,7 @@ fn tag(schema: &Schema, word: &str) -> Option<(u8, Value)>
 }
 
 /// The kind and the value that a word names.
+#[inline(always)]
 fn cell(alloc: Global, schema: &Schema, word: &str) -> Option<(u8, Value)>
     ensures { IfSome result (λ c. cell_said schema.now word.now ≡ Ok c) }
 {
@@ -87,6 +88,7 @@ fn cell(alloc: Global, schema: &Schema, word: &str) -> Option<(u8, Value)>
 }
 
 /// The components that words name.
+#[inline(always)]
 fn cells(alloc: Global, schema: &Schema, words: Words) -> Option<Components>
     ensures { IfSome result (λ cells. cells_said schema.now words.entry ≡ Ok cells) }
 {
@@ -111,7 +113,7 @@ fn only<'a>(words: Words<'a>) -> Option<&'a str>
 }
 
 /// `spawn CELL..`.
-#[inline(never)]
+#[inline(always)]
 fn spawn(alloc: Global, schema: &Schema, words: Words) -> Option<Command>
     ensures { IfSome result (λ command. spawn_line schema.now words.entry ≡ Ok (Do command)) }
 {
@@ -119,7 +121,7 @@ fn spawn(alloc: Global, schema: &Schema, words: Words) -> Option<Command>
 }
 
 /// `insert T CELL`.
-#[inline(never)]
+#[inline(always)]
 fn insert(alloc: Global, schema: &Schema, words: Words) -> Option<Command>
     ensures { IfSome result (λ command. insert_line schema.now words.entry ≡ Ok (Do command)) }
 {
@@ -130,7 +132,7 @@ fn insert(alloc: Global, schema: &Schema, words: Words) -> Option<Command>
 }
 
 /// `remove T NAME`.
-#[inline(never)]
+#[inline(always)]
 fn remove(schema: &Schema, words: Words) -> Option<Command>
     ensures { IfSome result (λ command. remove_line schema.now words.entry ≡ Ok (Do command)) }
 {
@@ -141,7 +143,7 @@ fn remove(schema: &Schema, words: Words) -> Option<Command>
 }
 
 /// `parent T T`, the child and then its parent.
-#[inline(never)]
+#[inline(always)]
 fn parent(words: Words) -> Option<Command>
     ensures { IfSome result (λ command. parent_line words.entry ≡ Ok (Do command)) }
 {
@@ -152,7 +154,7 @@ fn parent(words: Words) -> Option<Command>
 }
 
 /// `despawn T`.
-#[inline(never)]
+#[inline(always)]
 fn despawn(words: Words) -> Option<Command>
     ensures { IfSome result (λ command. despawn_line words.entry ≡ Ok (Do command)) }
 {
@@ -161,7 +163,7 @@ fn despawn(words: Words) -> Option<Command>
 }
 
 /// `unparent T`.
-#[inline(never)]
+#[inline(always)]
 fn unparent(words: Words) -> Option<Command>
     ensures { IfSome result (λ command. unparent_line words.entry ≡ Ok (Do command)) }
 {

@@ -42,6 +42,7 @@ impl<'a> Words<'a> {
 
     /// The first word, and those behind it; or `None` where there is none. It costs a walk over that word and the
     /// spaces before it.
+    #[inline(always)]
     pub(crate) fn split_first(&self) -> Option<(&'a str, Words<'a>)>
         ensures { MatchOption result (self.now ≡ []) (λ p. self.now ≡ p.0.now ∷ p.1) }
     {

@@ -73,6 +73,7 @@ impl Model for LoneOwner {
 }
 
 /// Enters a call that was done, and gives its reply.
+#[inline(always)]
 fn enter(log: &mut Log, room: &mut u64, done: Logged) -> Reply
     requires { 1 ≤ room.old }
     ensures entered { log.new.calls ≡ log.old.calls ++ logged done ∷ [] }
@@ -118,6 +119,7 @@ fn enter_call(
 }
 
 /// Enters a call that is told by its snapshot, with its reply, which it gives. Where there is none, no memory was found.
+#[inline(always)]
 fn enter_lone(
     log: &mut Log,
     room: &mut u64,
@@ -236,6 +238,7 @@ impl LoneOwner {
 
     /// Performs a frame of one command, of the session whose turn it is. Where the history is full the command is
     /// dropped, and so it is where no memory was found.
+    #[inline(always)]
     pub(crate) fn perform_one(&mut self, command: Command) -> Result<Reply, AllocError>
         ensures done { IfOk result (λ reply. performed self.old (Submit (lone_frame command)) ≡ (self.new, told reply)) }
         ensures same { OnErr result (self.new ≡ self.old) }
@@ -250,6 +253,7 @@ impl LoneOwner {
     }
 
     /// Takes the newest frame back for the session whose turn it is.
+    #[inline(always)]
     pub(crate) fn undo(&mut self) -> Result<Reply, AllocError>
         ensures done { IfOk result (λ reply. performed self.old Undo ≡ (self.new, told reply)) }
         ensures same { OnErr result (self.new ≡ self.old) }
@@ -263,6 +267,7 @@ impl LoneOwner {
     }
 
     /// Does the newest undone frame again for the session whose turn it is.
+    #[inline(always)]
     pub(crate) fn redo(&mut self) -> Result<Reply, AllocError>
         ensures done { IfOk result (λ reply. performed self.old Redo ≡ (self.new, told reply)) }
         ensures same { OnErr result (self.new ≡ self.old) }

@@ -174,6 +174,7 @@ impl<R: Threads + Sync> Performer<LoneOwner> for OnThreads<R> {
         entered(owner.perform_with(&self.rt, call, self.workers))
     }
 
+    #[inline(always)]
     fn perform_one(
         &self,
         _alloc: Global,
@@ -183,10 +184,12 @@ impl<R: Threads + Sync> Performer<LoneOwner> for OnThreads<R> {
         owner.perform_one(command)
     }
 
+    #[inline(always)]
     fn undo(&self, _alloc: Global, owner: &mut LoneOwner) -> Result<Reply, AllocError> {
         owner.undo()
     }
 
+    #[inline(always)]
     fn redo(&self, _alloc: Global, owner: &mut LoneOwner) -> Result<Reply, AllocError> {
         owner.redo()
     }

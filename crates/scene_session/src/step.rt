@@ -18,6 +18,7 @@ use scene_undo::{Editor, Made};
 use std::thread::Threads;
 
 /// A refusal as a reply, twice; `None` where it is want of memory, which no history enters.
+#[inline(always)]
 fn refused(refusal: Refusal) -> Option<(Reply, Reply)>
     ensures told { IfSome result (λ p. (refusal ≢ refusal_of NoMemory) × (p.0 ≡ Refused refusal) × (p.1 ≡ Refused refusal)) }
     ensures none { IfNone result (refusal.fault ≡ NoMemory) }
@@ -80,6 +81,7 @@ fn advance<R: Threads + Sync>(
 }
 
 /// The newest frame is taken back. `None` where no memory was found: then nothing was done.
+#[inline(always)]
 fn undo(editor: &mut Editor) -> Option<(Reply, Reply)>
     ensures done { IfSome result (λ p. step (whole_of editor.old) Undo ≡ (whole_of editor.new, told p.0)) }
     ensures twice { IfSome result (λ p. told p.1 ≡ told p.0) }
@@ -92,6 +94,7 @@ fn undo(editor: &mut Editor) -> Option<(Reply, Reply)>
 }
 
 /// The newest undone frame is done again. `None` where no memory was found: then nothing was done.
+#[inline(always)]
 fn redo(editor: &mut Editor) -> Option<(Reply, Reply)>
     ensures done { IfSome result (λ p. step (whole_of editor.old) Redo ≡ (whole_of editor.new, told p.0)) }
     ensures twice { IfSome result (λ p. told p.1 ≡ told p.0) }
@@ -137,6 +140,7 @@ pub(crate) fn do_call_with<R: Threads + Sync>(
 }
 
 /// The first of the two.
+#[inline(always)]
 fn one(replies: Option<(Reply, Reply)>) -> Option<Reply>
     ensures { result ≡ option_map (λ p. p.0) replies }
 {
@@ -178,6 +182,7 @@ pub fn call_editor_with<R: Threads + Sync>(
 
 /// Takes the newest frame back on an editor as `call_editor` does. `None` where no memory was found: then the editor is
 /// as it was.
+#[inline(always)]
 pub(crate) fn undo_editor(editor: &mut Editor) -> Option<Reply>
     ensures done { IfSome result (λ r. step (whole_of editor.old) Undo ≡ (whole_of editor.new, told r)) }
     ensures none { IfNone result (editor.new ≡ editor.old) }
@@ -187,6 +192,7 @@ pub(crate) fn undo_editor(editor: &mut Editor) -> Option<Reply>
 
 /// Does the newest undone frame again on an editor as `call_editor` does. `None` where no memory was found: then the
 /// editor is as it was.
+#[inline(always)]
 pub(crate) fn redo_editor(editor: &mut Editor) -> Option<Reply>
     ensures done { IfSome result (λ r. step (whole_of editor.old) Redo ≡ (whole_of editor.new, told r)) }
     ensures none { IfNone result (editor.new ≡ editor.old) }
@@ -197,6 +203,7 @@ pub(crate) fn redo_editor(editor: &mut Editor) -> Option<Reply>
 /// Performs a frame of one command on an editor as `call_editor` does one of a queue with it, but without the queue.
 ///
 /// `None` where no memory was found: then the editor is as it was, and the command is dropped.
+#[inline(always)]
 pub(crate) fn call_editor_one(editor: &mut Editor, command: Command) -> Option<Reply>
     ensures done { IfSome result (λ r. step (whole_of editor.old) (Submit (lone_frame command)) ≡ (whole_of editor.new, told r)) }
     ensures none { IfNone result (editor.new ≡ editor.old) }

@@ -35,13 +35,18 @@ module _ (values : List Value) (added changed : List ℕ) (is : IsColumn values 
       ∙ ap (zip_with stamped (swap_out values i)) (zip-swap_out ticks added changed i (is.ticks_added ∙ sym is.ticks_changed))
       ∙ zip-swap_out stamped values _ i (sym length-ticks)
 
+  -- a value was put at a place, and its ticks with it
+  pub cells_of-with_back : (i : ℕ) (v : Value) (a c : ℕ) →
+      cells_of (put_back values i v) (put_back added i a) (put_back changed i c) ≡ put_back (cells_of values added changed) i (record { value = v; added = a; changed = c })
+  cells_of-with_back i v a c =
+      ap (zip_with stamped (put_back values i v)) (zip-put_back ticks added changed i a c (is.ticks_added ∙ sym is.ticks_changed))
+      ∙ zip-put_back stamped values _ i v (a, c) (sym length-ticks)
+
   -- a value was pushed, and swapped with the one at a place, and its ticks with it
   pub cells_of-put_back : (i j : ℕ) (v : Value) (a c : ℕ) → i ≤ length values → j ≡ length values →
       cells_of (swap (values ++ v ∷ []) i j) (put_back added i a) (put_back changed i c) ≡ put_back (cells_of values added changed) i (record { value = v; added = a; changed = c })
   cells_of-put_back i j v a c within last =
-      ap (λ vs. cells_of vs (put_back added i a) (put_back changed i c)) (swap_is values i j v within last)
-      ∙ ap (zip_with stamped (put_back values i v)) (zip-put_back ticks added changed i a c (is.ticks_added ∙ sym is.ticks_changed))
-      ∙ zip-put_back stamped values _ i v (a, c) (sym length-ticks)
+      ap (λ vs. cells_of vs (put_back added i a) (put_back changed i c)) (swap_is values i j v within last) ∙ cells_of-with_back i v a c
 
   -- each list was written at a place
   pub cells_of-set : (i : ℕ) (v : Value) (a c : ℕ) →

@@ -1,9 +1,11 @@
 //! A column of a table: the cells of one kind, as lists of values, of added ticks and of changed ticks.
-ghost use Rattle.std.specs.Prelude.{◌≡◌, ◌+◌, ◌<◌, ◌≤◌, ℕ, [], length, map, slice_get, slice_range, slice_set, Some, IsOk, OnOk, IfOk, false};
+ghost use Rattle.std.specs.Prelude.{◌≡◌, ◌+◌, ◌<◌, ◌≤◌, ℕ, [], length, map, slice_get, slice_range, slice_set, vec_capacity, Some, IsOk, OnOk, IfOk, false};
 ghost use Rattle.std.specs.List.{list_any};
 ghost use Rattle.scene_kinds.specs.Cells.{shown};
+ghost use Rattle.scene_kinds.specs.declared.cell.Cell.{Cell};
 ghost use Rattle.scene_table.specs.Columns.{out_of_column, back_in_column, cells_of};
 ghost use Rattle.scene_table.specs.Runs.{AreInRange, changed_of, grown};
+ghost use Rattle.scene_table.specs.Rows.{put_back};
 ghost use Rattle.scene_table.specs.Since.{is_since};
 
 use crate::changed::ChangedTicks;
@@ -35,6 +37,21 @@ impl Model for Column {
     ghost view = { λ c. record { kind = c.kind; cells = cells_of c.values.items c.added.items c.changed.items; capacity = min (vec_capacity c.values) (min c.added.capacity c.changed.capacity) } };
 
     ghost invariant = { λ c. IsColumn c.values.items c.added.items c.changed.items };
+}
+
+/// Puts a value at a place, and the one that stood there last. It takes no memory.
+#[inline(always)]
+fn put_value(values: &mut Vec<Value>, at: usize, value: Value)
+    requires within { at ≤ length values.old.items }
+    requires room { length values.old.items < vec_capacity values.old }
+    ensures items { values.new.items ≡ put_back values.old.items at value }
+    ensures capacity { vec_capacity values.new ≡ vec_capacity values.old }
+{
+    let last = values.len();
+    values.push_reserved(value);
+    if at < last {
+        values.swap(at, last);
+    }
 }
 
 impl Column {
@@ -100,6 +117,21 @@ impl Column {
             added: self.added.take(at),
             changed: self.changed.take(at),
         }
+    }
+
+    /// Moves the cell at a place to a place of another column, where the one that stood there goes last. The last of
+    /// this column takes its place. It takes no memory. The value goes from list to list, with no cell made between.
+    #[inline(always)]
+    pub(crate) fn move_to(&mut self, at: usize, target: &mut Column, to: usize)
+        requires from { at < length self.old.cells }
+        requires within { to ≤ length target.old.cells }
+        requires room { length target.old.cells < target.old.capacity }
+        ensures left { self.new ≡ out_of_column at self.old }
+        ensures put { (cell : Cell) → slice_get self.old.cells at ≡ Some cell → target.new ≡ back_in_column to target.old cell }
+    {
+        put_value(&mut target.values, to, self.values.swap_remove(at));
+        target.added.put_back(to, self.added.take(at));
+        target.changed.put_back(to, self.changed.take(at));
     }
 
     /// Puts a cell in place of the one at a place, and gives that one.

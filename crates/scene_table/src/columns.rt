@@ -67,6 +67,7 @@ pub(crate) fn reserve_each(columns: &mut [Column], additional: usize) -> Result<
 }
 
 /// Puts the cells of a row back at a place, one in each column. It takes no memory.
+#[inline(always)]
 pub(crate) fn put_cells(columns: &mut [Column], at: usize, cells: Cells)
     requires count { length cells ≡ length columns.old }
     requires room { All (HasRoomAt at) columns.old }
@@ -79,6 +80,7 @@ pub(crate) fn put_cells(columns: &mut [Column], at: usize, cells: Cells)
 }
 
 /// Puts copies of the cells of a row back at a place, one in each column. It takes no memory, since no cell has a text.
+#[inline(always)]
 pub(crate) fn put_copies(columns: &mut [Column], at: usize, cells: &[(u8, Cell)])
     requires plain { has_text cells.now ≡ false }
     requires count { length cells.now ≡ length columns.old }
@@ -93,6 +95,7 @@ pub(crate) fn put_copies(columns: &mut [Column], at: usize, cells: &[(u8, Cell)]
 }
 
 /// Puts the cells of a row back at a place, one in each column, those of its own or copies. It takes no memory.
+#[inline(always)]
 pub(crate) fn put_row(columns: &mut [Column], at: usize, cells: RowCells<'_>)
     requires count { length cells ≡ length columns.old }
     requires room { All (HasRoomAt at) columns.old }
@@ -145,6 +148,7 @@ pub(crate) fn put_columns<W: ColumnWriter>(
 
 /// Takes out the cells at a place, one of each column, and gives them with their kinds, in a list that has room for
 /// them. It takes no memory.
+#[inline(always)]
 pub(crate) fn take_cells(
     columns: &mut [Column],
     at: usize,
@@ -164,6 +168,7 @@ pub(crate) fn take_cells(
 }
 
 /// Drops the cells at a place, one of each column.
+#[inline(always)]
 pub(crate) fn drop_cells(columns: &mut [Column], at: usize)
     requires within { All (λ column. at < length column.cells) columns.old }
     ensures left { columns.new ≡ map (out_of_column at) columns.old }
@@ -175,6 +180,7 @@ pub(crate) fn drop_cells(columns: &mut [Column], at: usize)
 
 /// Moves the cells at a place to a place of other columns, as many, each cell to the column of the same number. It
 /// takes no memory.
+#[inline(always)]
 pub(crate) fn move_cells(source: &mut [Column], at: usize, target: &mut [Column], to: usize)
     requires count { length target.old ≡ length source.old }
     requires within { All (λ column. at < length column.cells) source.old }
@@ -183,8 +189,7 @@ pub(crate) fn move_cells(source: &mut [Column], at: usize, target: &mut [Column]
     ensures put { (cells : List (ℕ × Cell)) → AreCellsAt source.old at cells → target.new ≡ put_each to cells target.old }
 {
     for i in 0..source.len() {
-        let cell = source[i].take(at);
-        target[i].put_back(to, cell);
+        source[i].move_to(at, &mut target[i], to);
     }
 }
 

@@ -82,6 +82,7 @@ pub const MOST_FRAMES: u32 = 1_048_576;
 
 /// Does a frame in a recorder between two frames, all or nothing: it raises the tick and runs the frame, whose record
 /// the recorder has then. After a refusal the world is as it was.
+#[inline(always)]
 fn frame<F: FrameOnce>(alloc: Global, recorder: &mut Recorder, asked: F) -> Result<Made, Refusal>
     requires can { F.can asked }
     requires empty { recorder.old.frame.deltas ≡ [] }
@@ -307,6 +308,7 @@ impl Editor {
     /// refused or not, and the records that are forgotten.
     ///
     /// Refused as by `submit`, and then the editor is as it was; the command is dropped.
+    #[inline(always)]
     pub fn submit_one(&mut self, command: Command) -> Result<Vec<Entity>, Refusal>
         ensures machine { Answers (items_of result) (machine_of self.old) (machine_of self.new)
             (call (machine_of self.old) (Submit (frame_of (lone_frame command)))) }
@@ -343,6 +345,7 @@ impl Editor {
     }
 
     /// The same of a frame that is used up.
+    #[inline(always)]
     fn run_once<F: FrameOnce>(&mut self, asked: F) -> Result<Made, Refusal>
         requires { F.can asked }
         ensures machine { Answers (entities_of result) (machine_of self.old) (machine_of self.new)

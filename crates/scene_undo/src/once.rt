@@ -93,6 +93,7 @@ impl FrameOnce for LoneCommand {
 
     ghost lists = { λ c m. Unit {0} };
 
+    #[inline(always)]
     fn apply(self, alloc: Global, recorder: &mut Recorder) -> Result<Made, Refusal> {
         let LoneCommand(command) = self;
         let entities = apply_lone(alloc, command, recorder)?;

@@ -201,6 +201,7 @@ impl Stacks {
     }
 
     /// Drops the oldest records, until there are no more than the depth keeps.
+    #[inline(always)]
     fn cut(&mut self)
         ensures past { self.new.past ≡ take self.old.depth self.old.past }
         ensures future { self.new.future ≡ self.old.future }

@@ -1,7 +1,9 @@
+pub mod FewChildren
 pub mod FurtherKind
 pub mod Homes
 pub mod LastFree
 pub mod MadeRoom
+pub mod NewRow
 pub mod Onto
 pub mod Room
 pub mod Shifts
@@ -15,3 +17,4 @@ pub mod StepInserts
 pub mod StepRuns
 pub mod RunPut
 pub mod StepNotes
+pub mod Usual

@@ -1,11 +1,14 @@
 pub mod Built
 pub mod Codes
+pub mod Despawned
 pub mod FurtherKind
 pub mod Homes
 pub mod Moves
 pub mod Onto
+pub mod PlacedCell
 pub mod Room
 pub mod Spawned
 pub mod Stage
 pub mod Stored
+pub mod Usual
 pub mod Written

@@ -23,4 +23,4 @@ pub use raw_changes::RawChanges;
 pub use scene_table::Home;
 pub use scene_validate::WorldParts;
 pub use stage::Stage;
-pub use world::{SpawnedRow, World};
+pub use world::{DespawnedRow, InsertedCell, RemovedCell, SpawnedRow, World};

@@ -1,6 +1,7 @@
 //! Rows that move to the table of another kind set. All growth comes before the first change that is seen.
-ghost use Rattle.std.specs.Prelude.{◌≡◌, ◌<◌, ◌≤◌, Some, OnOk, OnErr, IsSome};
+ghost use Rattle.std.specs.Prelude.{◌≡◌, ◌<◌, ◌≤◌, Some, OnOk, OnErr, IfOk, true};
 ghost use Rattle.scene_kinds.specs.Cells.{HasKinds, AreKindsBelow, cell_of, without_cell};
+ghost use Rattle.scene_kinds.specs.KindSet.{has_kind};
 ghost use Rattle.scene_kinds.specs.declared.cells.Row.{Row};
 ghost use Rattle.scene_table.specs.Table.{cell_at};
 ghost use Rattle.scene_table.specs.Tables.{rows_at, row_at};
@@ -26,8 +27,8 @@ fn added_at(tables: &Archetypes, home: Home, kind: u8) -> Option<u64>
     Some(cell.added)
 }
 
-/// Inserts a component into the row of an entity, which stands at a home: in its place where the kind is there, else by
-/// a move.
+/// Inserts a component into the row of an entity, which stands at a home: in its place where the kind is there, whose
+/// old cell it gives, else by a move.
 pub(crate) fn insert_at(
     tables: &mut Archetypes,
     entity: Entity,
@@ -35,12 +36,13 @@ pub(crate) fn insert_at(
     tick: u64,
     kind: u8,
     value: Value,
-) -> Result<(), AllocError>
+) -> Result<Option<Cell>, AllocError>
     requires stands { StandsIn tables.old.tables entity home }
     requires kinds { (row : Row) → row_at tables.old.tables home ≡ Some row → HasKinds home.mask row }
     requires low { kind < 64 }
     ensures ok { OnOk result ((row : Row) → row_at tables.old.tables home ≡ Some row
         → tables.new.tables ≡ after_insert tick tables.old.tables home row kind value (cell_of row.cells kind)) }
+    ensures before { IfOk result (λ before. before ≡ cell_at (rows_at tables.old.tables home.mask) home.place kind) }
     ensures err { OnErr result (tables.new.tables ≡ tables.old.tables) }
     ensures wide { IsWider tables.old.rooms tables.new.rooms }
     ensures homes { tables.old.homes ≤ tables.new.homes }
@@ -53,32 +55,33 @@ pub(crate) fn insert_at(
                 added,
                 changed,
             };
-            let _old = tables.set_cell(home, kind, cell);
-            Ok(())
+            Ok(Some(tables.set_cell(home, kind, cell)))
         }
         None => {
             let target = set_with(home.mask, kind);
             tables.reserve(target, 0)?;
             let last = tables.len(target);
             tables.move_with(entity, home, last, kind, Cell::new(value, tick));
-            Ok(())
+            Ok(None)
         }
     }
 }
 
-/// Removes the component of a kind that is there from the row of an entity, which stands at a home, by a move.
+/// Removes the component of a kind that is there from the row of an entity, which stands at a home, by a move, and gives
+/// its cell.
 pub(crate) fn remove_at(
     tables: &mut Archetypes,
     entity: Entity,
     home: Home,
     kind: u8,
-) -> Result<(), AllocError>
+) -> Result<Cell, AllocError>
     requires stands { StandsIn tables.old.tables entity home }
     requires kinds { (row : Row) → row_at tables.old.tables home ≡ Some row → HasKinds home.mask row × AreKindsBelow 64 row.cells }
-    requires there { IsSome (cell_at (rows_at tables.old.tables home.mask) home.place kind) }
+    requires there { has_kind home.mask kind ≡ true }
     requires low { kind < 64 }
     ensures ok { OnOk result ((row : Row) → row_at tables.old.tables home ≡ Some row
         → tables.new.tables ≡ after_move tables.old.tables home row (without_cell row.cells kind)) }
+    ensures cell { IfOk result (λ cell. cell_at (rows_at tables.old.tables home.mask) home.place kind ≡ Some cell) }
     ensures err { OnErr result (tables.new.tables ≡ tables.old.tables) }
     ensures wide { IsWider tables.old.rooms tables.new.rooms }
     ensures homes { tables.old.homes ≤ tables.new.homes }
@@ -87,8 +90,7 @@ pub(crate) fn remove_at(
     let target = set_without(home.mask, kind);
     tables.reserve(target, 0)?;
     let last = tables.len(target);
-    let _cell = tables.move_without(entity, home, last, kind);
-    Ok(())
+    Ok(tables.move_without(entity, home, last, kind))
 }
 
 /// The kind set with one kind more, or, not `inward`, without it.

@@ -9,8 +9,10 @@ ghost use Rattle.scene_model.specs.World.{is_live};
 ghost use Rattle.scene_model.specs.Raw.{cells_of, put_row, drop_last, cut_row, uncut_row, shift_row, unshift_row, set_cell, set_link, set_resource, set_tick};
 ghost use Rattle.scene_model.specs.Can.{can_put, can_drop, can_uncut, can_move, can_unshift, is_good_cell, can_set_link, can_set_resource, can_set_tick};
 ghost use Rattle.scene_model.specs.RunRaw.{CanPutRun, with_run};
+ghost use Rattle.scene_world.specs.Despawned.{IsDespawnOf};
 ghost use Rattle.scene_world.specs.Room.{Housed, Holds, IsWider};
 
+use crate::world::DespawnedRow;
 use scene_kinds::{Cell, Entity};
 use scene_table::{ChangedTicks, ColumnWriter, RowCells, Run};
 use std::alloc::AllocError;
@@ -62,6 +64,18 @@ pub trait RawChanges {
         requires live { is_live (whole self.old).world entity ≡ true }
         requires childless { children_of (whole self.old).world.children entity ≡ [] }
         ensures world { (whole self.new).world ≡ cut_row (whole self.old).world entity }
+        ensures room { (whole self.new).room ≡ (whole self.old).room };
+
+    /// Takes a live entity without children out of the world, as `cut_row` does, and gives what a record has of a
+    /// despawn: the cells move out of the table (docs/MODEL.md, "Raw changes").
+    ///
+    /// It fails only where no memory was found for the list of the cells: then the world is as it was.
+    fn cut_row_kept(&mut self, entity: Entity) -> Result<DespawnedRow, AllocError>
+        requires live { is_live (whole self.old).world entity ≡ true }
+        requires childless { children_of (whole self.old).world.children entity ≡ [] }
+        ensures done { OnOk result ((whole self.new).world ≡ cut_row (whole self.old).world entity) }
+        ensures row { IfOk result (λ d. IsDespawnOf (whole self.old).world entity d.place d.cells d.link d.retired) }
+        ensures full { OnErr result ((whole self.new).world ≡ (whole self.old).world) }
         ensures room { (whole self.new).room ≡ (whole self.old).room };
 
     /// Brings an entity back: its slot, its row with these cells to its place, and its link (docs/MODEL.md, "Raw

@@ -48,6 +48,12 @@ pub trait Stage {
         ensures opening { opening self.new ≡ opening self.old }
         ensures wide { IsWider (room self.old) (room self.new) };
 
+    /// Spawns an entity with components that are lent, as `spawn` does: their list needs no copy first.
+    fn spawn_lent(&mut self, cells: &[(u8, Value)]) -> Result<Entity, Refusal>
+        ensures answer { AnswersNoted result (seen self.old) (seen self.new) note (Spawn cells.now) (λ w. spawn w cells.now) }
+        ensures opening { opening self.new ≡ opening self.old }
+        ensures wide { IsWider (room self.old) (room self.new) };
+
     /// Despawns an entity without children, as `World::despawn` does.
     fn despawn(&mut self, entity: Entity) -> Result<(), Refusal>
         ensures answer { AnswersNoted result (seen self.old) (seen self.new) note (Despawn entity) (λ w. despawn w entity) }
@@ -143,6 +149,11 @@ impl Stage for World {
 
     fn spawn(&mut self, cells: Vec<(u8, Value)>) -> Result<Entity, Refusal> {
         World::spawn(self, cells)
+    }
+
+    fn spawn_lent(&mut self, cells: &[(u8, Value)]) -> Result<Entity, Refusal> {
+        let spawned = self.spawn_row_lent(cells)?;
+        Ok(spawned.entity)
     }
 
     fn despawn(&mut self, entity: Entity) -> Result<(), Refusal> {

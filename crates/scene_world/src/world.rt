@@ -14,6 +14,7 @@ ghost use Rattle.std.specs.Option.{option_flatten};
 mod declare;
 mod despawn;
 mod despawn_recursive;
+mod despawn_row;
 mod from_parts;
 mod insert;
 mod put_resource;
@@ -25,6 +26,9 @@ mod set_parent;
 mod spawn;
 
 use crate::given::is_unknown;
+pub use despawn_row::DespawnedRow;
+pub use insert::InsertedCell;
+pub use remove::RemovedCell;
 use scene_alloc::Slots;
 use scene_archetypes::Archetypes;
 use scene_kinds::{CellRef, Entity, Fault, KindSet, Refusal, Schema};
@@ -173,6 +177,7 @@ impl World {
     }
 
     /// Where the row of an entity stands. Each call that looks for an entity asks here.
+    #[inline(always)]
     fn home_of(&self, entity: Entity) -> Option<Home>
         ensures home { result ≡ home_of self.now.world entity }
         ensures row { IfSome result (IsHomeOf self.now.world entity) }
@@ -182,6 +187,7 @@ impl World {
     }
 
     /// Where the row of a live entity stands.
+    #[inline(always)]
     fn home_of_live(&self, entity: Entity) -> Home
         requires { is_live self.now.world entity ≡ true }
         ensures row { IsHomeOf self.now.world entity result }
@@ -236,6 +242,7 @@ impl World {
 
     /// The table in which the row of a live entity stands, and the row's place there, from 0; else `None`. It has the
     /// entity's cells with their kinds, ascending (`Table::cell_count`, `Table::nth_cell`).
+    #[inline(always)]
     pub fn row_of(&self, entity: Entity) -> Option<(&Table, usize)>
         ensures row { option_map (λ at. slice_get at.0.now.rows at.1) result ≡ option_map (λ found. Some found.1) (row_of self.now.world entity) }
         ensures home { option_map (λ at. home_at at.0.now.mask at.1) result ≡ home_of self.now.world entity }

@@ -3,7 +3,7 @@ mod reserve;
 
 use crate::moves::{move_row, moved_mask};
 use crate::raw_changes::RawChanges;
-use crate::world::World;
+use crate::world::{DespawnedRow, World};
 use scene_kinds::{Cell, Entity};
 use scene_table::{ChangedTicks, ColumnWriter, RowCells, Run};
 use std::alloc::AllocError;
@@ -24,6 +24,7 @@ impl RawChanges for World {
         self.slots.untake(entity, fresh);
     }
 
+    #[inline(always)]
     fn put_row(
         &mut self,
         entity: Entity,
@@ -40,6 +41,11 @@ impl RawChanges for World {
         self.tables.drop_row(entity, home);
         let _retired = self.slots.release(entity);
         let _link = self.links.leave(entity);
+    }
+
+    fn cut_row_kept(&mut self, entity: Entity) -> Result<DespawnedRow, AllocError> {
+        let home = self.home_of_live(entity);
+        self.cut_row_at(entity, home)
     }
 
     fn uncut_row_reserved(
@@ -170,6 +176,7 @@ impl RawChanges for World {
         self.resources.room_holds();
     }
 
+    #[inline(always)]
     fn reserve_put_row(
         &mut self,
         entity: Entity,

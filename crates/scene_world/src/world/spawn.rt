@@ -1,14 +1,15 @@
 //! Spawning an entity.
-ghost use Rattle.std.specs.Prelude.{◌≡◌, ◌≢◌, Ok, Err, IfOk, IfErr, OnErr};
+ghost use Rattle.std.specs.Prelude.{◌≡◌, ◌≢◌, true, Some, Ok, Err, IfOk, IfErr, OnErr};
 ghost use Rattle.scene_kinds.specs.Answers.{Answers, refusal_of};
 ghost use Rattle.scene_kinds.specs.declared.fault.Fault.TheVariants.{NoMemory};
-ghost use Rattle.scene_alloc.specs.Slots.{take_of};
-ghost use Rattle.scene_model.specs.Commands.{spawn};
+ghost use Rattle.scene_alloc.specs.Slots.{take_of, takes_new_slot};
+ghost use Rattle.scene_model.specs.Can.{are_good_cells};
+ghost use Rattle.scene_model.specs.Commands.{spawn, after_take};
 ghost use Rattle.scene_model.specs.Raw.{taken_entity};
 ghost use Rattle.scene_world.specs.Room.{IsWider};
 ghost use Rattle.scene_world.specs.Spawned.{IsSpawnOf};
 
-use crate::given::{new_cells, spawn_fault};
+use crate::given::{copied_cells, new_cells, spawn_fault};
 use crate::raw_changes::RawChanges;
 use crate::world::World;
 use scene_alloc::Slots;
@@ -79,6 +80,37 @@ impl World {
             return Err(Refusal::from(fault));
         }
         let cells = new_cells(self.alloc, self.tick, cells)?;
+        self.put_spawned(cells)
+    }
+
+    /// Spawns an entity as `spawn_row` does, with components that are lent: the cells that it gives have copies of their
+    /// values, and no list of them is copied first. It refuses what `spawn` refuses, and then the world is as it was
+    /// (docs/MODEL.md, "The rule of rows").
+    pub fn spawn_row_lent(&mut self, cells: &[(u8, Value)]) -> Result<SpawnedRow, Refusal>
+        ensures made { IfOk result (λ s. spawn self.old.world cells.now ≡ Ok (s.entity, self.new.world)) }
+        ensures row { IfOk result (λ s. IsSpawnOf self.old.world cells.now s.entity s.cells s.fresh) }
+        ensures refused { IfErr result (λ r. r ≢ refusal_of NoMemory → spawn self.old.world cells.now ≡ Err r) }
+        ensures back { OnErr result (self.new.world ≡ self.old.world) }
+        ensures wide { IsWider self.old.room self.new.room }
+    {
+        if let Some(fault) = spawn_fault(&self.schema, cells) {
+            return Err(Refusal::from(fault));
+        }
+        let cells = copied_cells(self.alloc, self.tick, cells)?;
+        self.put_spawned(cells)
+    }
+
+    /// Spawns an entity with cells that a row may have: the row's own are copies of these.
+    fn put_spawned(&mut self, cells: Cells) -> Result<SpawnedRow, Refusal>
+        requires { are_good_cells self.old.world cells ≡ true }
+        ensures made { IfOk result (λ s. after_take self.old.world cells (take_of self.old.world.slots) ≡ Ok (s.entity, self.new.world)) }
+        ensures row { IfOk result (λ s. s.cells ≡ cells) }
+        ensures next { IfOk result (λ s. taken_entity (take_of self.old.world.slots) ≡ Some s.entity) }
+        ensures slot { IfOk result (λ s. s.fresh ≡ takes_new_slot self.old.world.slots) }
+        ensures refused { IfErr result (λ r. r ≢ refusal_of NoMemory → after_take self.old.world cells (take_of self.old.world.slots) ≡ Err r) }
+        ensures back { OnErr result (self.new.world ≡ self.old.world) }
+        ensures wide { IsWider self.old.room self.new.room }
+    {
         let Some(entity) = self.next_entity() else {
             return Err(Refusal::from(Fault::EntitiesFull));
         };

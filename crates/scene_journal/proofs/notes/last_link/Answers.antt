@@ -1,6 +1,6 @@
 use Rattle.std.proofs.Common.{ap, ◌∙◌, arith, length}
 use Rattle.scene_links.specs.Forest.{children_of, cut}
-use Rattle.scene_journal.proofs.FewChildren.{last_low}
+use Rattle.scene_world.proofs.FewChildren.{last_low}
 use Rattle.scene_journal.proofs.notes.last_link.Goals as goal
 
 pub overflow_cast-result : goal.overflow_cast-result

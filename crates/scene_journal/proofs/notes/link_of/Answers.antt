@@ -1,6 +1,6 @@
 use Rattle.std.proofs.Common.{ap, sym, ◌∙◌, arith}
 use Rattle.scene_links.specs.Forest.{place_of}
-use Rattle.scene_journal.proofs.FewChildren.{place_low}
+use Rattle.scene_world.proofs.FewChildren.{place_low}
 use Rattle.scene_journal.proofs.notes.link_of.Goals as goal
 
 pub overflow_cast-result : goal.overflow_cast-result

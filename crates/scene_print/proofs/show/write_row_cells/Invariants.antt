@@ -6,4 +6,4 @@ use Rattle.scene_print.proofs.show.write_row_cells.Given as goal
 
 abbrev pub invariant-cells : goal.invariant-cells
 invariant-cells l =
-    (row : Row) → slice_get l.table.rows l.at ≡ Some row → string_bytes l.out ++ cells_text l.schema (drop l.number row.cells) ≡ string_bytes l.initial.out ++ cells_text l.schema row.cells
+    (row : Row) → slice_get l.table.rows l.at ≡ Some row → string_bytes l.out ++ cells_text l.kinds (drop l.number row.cells) ≡ string_bytes l.initial.out ++ cells_text l.kinds row.cells

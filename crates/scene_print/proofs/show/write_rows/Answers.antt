@@ -7,7 +7,7 @@ use Rattle.scene_print.proofs.show.write_rows.Goals as goal
 
 pub rows-preserved : goal.rows-preserved
 rows-preserved c =
-    let kinds = c.args.schema.now in
+    let kinds = c.args.kinds.now in
     let rows = c.args.table.now.rows in
     let r = row_at rows c.rows.at (omega (arith, c.rows-test.true, c.len-at-end.ensures.count)) in
     let text = row_text kinds r.0 in
